@@ -1,0 +1,55 @@
+//! The rules on values that reading and writing share: ranges and slots.
+
+use crate::fields::{fields, slot_layout, Field, PAGE_NUMBER_FIRST, PAGE_TOTAL_FIRST};
+use crate::record::{Category, Refusal};
+
+pub const OUT_OF_RANGE: u8 = 8;
+pub const SPARE_USED: u8 = 9;
+pub const SLOT_AFTER_EMPTY: u8 = 10;
+
+/// Every fault of a category's values, in no particular order. The values
+/// may come from a frame or from a record; `value_of` hides which.
+pub fn faults(category: Category, value_of: &dyn Fn(&Field) -> u32) -> Vec<Refusal> {
+    let fields = fields(category);
+    let mut found = out_of_range(&fields, value_of);
+    if category == Category::Nankai {
+        let at_bit =
+            |first: usize| fields.iter().find(|field| field.first == first).map_or(0, value_of);
+        if at_bit(PAGE_TOTAL_FIRST) < at_bit(PAGE_NUMBER_FIRST) {
+            found.push(Refusal::at(OUT_OF_RANGE, PAGE_TOTAL_FIRST));
+        }
+    }
+    found.extend(slot_faults(category, value_of));
+    found
+}
+
+/// The fault that is reported. Where a slot out of turn also has a bad first
+/// field, both stand at the same bit, and the gap is the one that is told.
+pub fn reported(faults: &[Refusal]) -> Option<Refusal> {
+    faults.iter().copied().min_by_key(|fault| (fault.place, fault.number != SLOT_AFTER_EMPTY))
+}
+
+fn out_of_range(fields: &[Field], value_of: &dyn Fn(&Field) -> u32) -> Vec<Refusal> {
+    let bad = fields.iter().filter(|field| !field.allows(value_of(field)));
+    bad.map(|field| Refusal::at(OUT_OF_RANGE, field.first)).collect()
+}
+
+fn slot_faults(category: Category, value_of: &dyn Fn(&Field) -> u32) -> Vec<Refusal> {
+    let layout = slot_layout(category);
+    let mut found = Vec::new();
+    let mut used = Vec::new();
+    for slot in 0..layout.count {
+        let parts = layout.parts(slot);
+        // The first slot counts as used whatever it holds, so that its zeros
+        // are values out of range and not an empty slot.
+        used.push(slot == 0 || parts.iter().any(|part| value_of(part) != 0));
+        if !used[slot] {
+            continue;
+        }
+        if used.contains(&false) {
+            found.push(Refusal::at(SLOT_AFTER_EMPTY, layout.slot_first(slot)));
+        }
+        found.extend(out_of_range(&parts, value_of));
+    }
+    found
+}

@@ -1,0 +1,159 @@
+//! The tables of document 001 as rows: each field with its first bit, its
+//! width and the values it may take.
+
+use crate::record::Category;
+
+/// Pairs of lowest and highest value, both allowed.
+pub type Allowed = &'static [(u32, u32)];
+
+#[derive(Clone, Copy, Debug)]
+pub struct Field {
+    pub first: usize,
+    pub width: usize,
+    pub allowed: Allowed,
+}
+
+impl Field {
+    pub fn allows(&self, value: u32) -> bool {
+        self.allowed.iter().any(|&(lowest, highest)| lowest <= value && value <= highest)
+    }
+}
+
+const fn field(first: usize, width: usize, allowed: Allowed) -> Field {
+    Field { first, width, allowed }
+}
+
+const DAY: Allowed = &[(1, 31)];
+const HOUR: Allowed = &[(0, 23)];
+const MINUTE: Allowed = &[(0, 59)];
+const SIDE: Allowed = &[(0, 1)];
+const SIXTIETH: Allowed = &[(0, 59)];
+const NOTIFICATION: Allowed = &[(0, 0), (101, 500)];
+
+/// The bit of Reserved: any six bits in a frame, at most 63 in a record.
+pub const RESERVED: Field = field(220, 6, &[(0, 63)]);
+
+/// Where the page number and the page total begin: the total is bounded by
+/// the number, which no single row can say.
+pub const PAGE_NUMBER_FIRST: usize = 201;
+pub const PAGE_TOTAL_FIRST: usize = 207;
+
+/// Rc and the time of issue, the same in every category.
+const COMMON: [Field; 5] = [
+    field(14, 3, &[(2, 2), (7, 7)]),
+    field(21, 4, &[(1, 12)]),
+    field(25, 5, DAY),
+    field(30, 5, HOUR),
+    field(35, 6, MINUTE),
+];
+
+/// Only ash fall knows a correction, which is 1.
+const IT: Field = field(41, 2, &[(0, 0), (2, 2)]);
+const IT_OF_ASH_FALL: Field = field(41, 2, &[(0, 2)]);
+
+/// Table 4.1.2-12.
+const HYPOCENTER: [Field; 17] = [
+    field(53, 9, NOTIFICATION),
+    field(62, 9, NOTIFICATION),
+    field(71, 9, NOTIFICATION),
+    field(80, 5, DAY),
+    field(85, 5, HOUR),
+    field(90, 6, MINUTE),
+    field(96, 9, &[(0, 501), (511, 511)]),
+    field(105, 7, &[(1, 101), (126, 127)]),
+    field(112, 10, &[(11, 1000)]),
+    field(122, 1, SIDE),
+    field(123, 7, &[(0, 89)]),
+    field(130, 6, SIXTIETH),
+    field(136, 6, SIXTIETH),
+    field(142, 1, SIDE),
+    field(143, 8, &[(0, 179)]),
+    field(151, 6, SIXTIETH),
+    field(157, 6, SIXTIETH),
+];
+
+/// Table 4.1.2-14, without its slots.
+const INTENSITY: [Field; 3] = [field(53, 5, DAY), field(58, 5, HOUR), field(63, 6, MINUTE)];
+
+/// Table 4.1.2-14, one slot: intensity and prefecture.
+const INTENSITY_PARTS: [Field; 2] = [field(0, 3, &[(1, 7)]), field(3, 6, &[(1, 47)])];
+
+/// Table 4.1.2-18, without its text, which may be any bytes.
+const NANKAI: [Field; 3] = [
+    field(53, 4, &[(1, 15)]),
+    field(PAGE_NUMBER_FIRST, 6, &[(1, 63)]),
+    field(PAGE_TOTAL_FIRST, 6, &[(1, 63)]),
+];
+
+/// Table 4.1.2-35, without its slots.
+const ASH_FALL: [Field; 5] = [
+    field(53, 5, DAY),
+    field(58, 5, HOUR),
+    field(63, 6, MINUTE),
+    field(69, 2, &[(1, 2)]),
+    field(71, 12, &[(101, 4000)]),
+];
+
+/// Table 4.1.2-35, one slot: hour, strength and place.
+const ASH_FALL_PARTS: [Field; 3] =
+    [field(0, 3, &[(1, 6)]), field(3, 3, &[(1, 7)]), field(6, 23, &[(110_000, 4_799_999)])];
+
+/// Every field of a category outside its slots, by rising first bit.
+pub fn fields(category: Category) -> Vec<Field> {
+    let (it, own): (Field, &[Field]) = match category {
+        Category::Hypocenter => (IT, &HYPOCENTER),
+        Category::Intensity => (IT, &INTENSITY),
+        Category::Nankai => (IT, &NANKAI),
+        Category::AshFall => (IT_OF_ASH_FALL, &ASH_FALL),
+    };
+    let mut all = COMMON.to_vec();
+    all.push(it);
+    all.extend_from_slice(own);
+    all
+}
+
+/// How the slots of a category lie; the bits of the parts are counted from
+/// the first bit of their slot.
+#[derive(Clone, Copy, Debug)]
+pub struct SlotLayout {
+    pub first: usize,
+    pub width: usize,
+    pub count: usize,
+    parts: &'static [Field],
+}
+
+impl SlotLayout {
+    /// The first bit of a slot, slots counted from 0.
+    pub fn slot_first(&self, slot: usize) -> usize {
+        self.first + slot * self.width
+    }
+
+    /// The parts of a slot as fields of the frame.
+    pub fn parts(&self, slot: usize) -> Vec<Field> {
+        let start = self.slot_first(slot);
+        self.parts.iter().map(|part| field(start + part.first, part.width, part.allowed)).collect()
+    }
+}
+
+/// The slots of a category; categories 2 and 4 have none.
+pub fn slot_layout(category: Category) -> SlotLayout {
+    match category {
+        Category::Hypocenter | Category::Nankai => {
+            SlotLayout { first: 0, width: 0, count: 0, parts: &[] }
+        }
+        Category::Intensity => {
+            SlotLayout { first: 69, width: 9, count: 16, parts: &INTENSITY_PARTS }
+        }
+        Category::AshFall => SlotLayout { first: 83, width: 29, count: 4, parts: &ASH_FALL_PARTS },
+    }
+}
+
+/// First bit and width of Spare1 and of the category's own spare.
+pub fn spares(category: Category) -> [(usize, usize); 2] {
+    let own = match category {
+        Category::Hypocenter => (163, 51),
+        Category::Intensity | Category::Nankai => (213, 1),
+        Category::AshFall => (199, 15),
+    };
+    [(43, 10), own]
+}

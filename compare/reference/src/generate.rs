@@ -1,0 +1,137 @@
+//! Test inputs: frames for reading and records for writing, right ones and
+//! wrong ones. Everything is drawn from the generator that is handed in, so
+//! a seed names an input.
+
+mod frames;
+mod malformed_records;
+mod records;
+
+pub use frames::*;
+pub use malformed_records::*;
+pub use records::*;
+
+use crate::bits::{set, Frame};
+use crate::fields::{fields, slot_layout, Field};
+use crate::parity::parity;
+use crate::random::Random;
+use crate::record::{Category, Record};
+
+/// A number to be written at some bits of a frame, in range or not.
+#[derive(Clone, Copy, Debug)]
+pub struct RawValue {
+    pub first: usize,
+    pub width: usize,
+    pub value: u32,
+}
+
+/// One stretch of allowed values of a field. A field that allows several
+/// stretches has several rows.
+#[derive(Clone, Copy, Debug)]
+pub struct Bounds {
+    pub first: usize,
+    pub width: usize,
+    pub lowest: u32,
+    pub highest: u32,
+}
+
+impl Bounds {
+    /// The values at both ends and just outside, where the width holds them.
+    pub fn edges(&self) -> Vec<u32> {
+        let mut values = vec![self.lowest, self.highest];
+        values.extend(self.lowest.checked_sub(1));
+        values.extend(Some(self.highest + 1).filter(|above| above >> self.width == 0));
+        values
+    }
+
+    /// Values that no field of this width holds: a record may have them all
+    /// the same. The first one looks allowed if only its low bits are seen.
+    pub fn far_outside(&self) -> [u32; 3] {
+        [self.lowest + (1 << self.width), 1 << self.width, u32::MAX]
+    }
+}
+
+/// The rows of a category, slots included.
+pub fn bounds(category: Category) -> Vec<Bounds> {
+    let layout = slot_layout(category);
+    let mut all = fields(category);
+    all.extend((0..layout.count).flat_map(|slot| layout.parts(slot)));
+    all.iter().flat_map(field_bounds).collect()
+}
+
+fn field_bounds(field: &Field) -> Vec<Bounds> {
+    let (first, width) = (field.first, field.width);
+    let row = |&(lowest, highest): &(u32, u32)| Bounds { first, width, lowest, highest };
+    field.allowed.iter().map(row).collect()
+}
+
+/// Gives a frame the parity of its first 226 bits.
+pub fn seal(frame: &mut Frame) {
+    let sum = parity(frame, 226);
+    set(frame, 226, 24, sum);
+}
+
+/// A frame with some values overwritten, in range or not, and right parity.
+pub fn raw_frame(base: &Frame, values: &[RawValue]) -> Frame {
+    let mut frame = *base;
+    for raw in values {
+        set(&mut frame, raw.first, raw.width, raw.value);
+    }
+    seal(&mut frame);
+    frame
+}
+
+/// An allowed value, with the ends of the stretches favoured.
+pub fn allowed_value(random: &mut Random, allowed: &[(u32, u32)]) -> u32 {
+    let (lowest, highest) = random.pick(allowed);
+    match random.below(4) {
+        0 => lowest,
+        1 => highest,
+        _ => random.between(lowest, highest),
+    }
+}
+
+pub fn any_category(random: &mut Random) -> Category {
+    random.pick(&Category::ALL)
+}
+
+/// Bytes of any kind this module knows, for the reader.
+pub fn any_frame(random: &mut Random) -> Vec<u8> {
+    let category = any_category(random);
+    let frame = match random.below(14) {
+        0 => valid_frame(random, category),
+        1 => boundary_frame(random, category),
+        2 => gap_frame(random),
+        3 => half_filled_frame(random),
+        4 => spare_frame(random, category),
+        5 => many_faults_frame(random, category),
+        6 => random_sealed_frame(random),
+        7 => random_stretch_frame(random, category),
+        8 => random_slots_frame(random),
+        9 => envelope_fault_frame(random, category),
+        10 => flipped_frame(random, category),
+        11 => page_frame(random),
+        12 => return random_bytes(random, 32),
+        _ => {
+            let length = random.below(41);
+            return slice_of_length(random, length);
+        }
+    };
+    frame.to_vec()
+}
+
+/// A record of any kind this module knows, for the writer.
+pub fn any_record(random: &mut Random) -> Record {
+    let category = any_category(random);
+    match random.below(10) {
+        0 => valid_record(random, category),
+        1 => boundary_record(random, category),
+        2 => unused_filled_record(random, category),
+        3 => gap_record(random),
+        4 => half_filled_record(random),
+        5 => bad_preamble_record(random, category),
+        6 => no_category_record(random),
+        7 => many_faults_record(random, category),
+        8 => page_record(random),
+        _ => random_record(random, category),
+    }
+}

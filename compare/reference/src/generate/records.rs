@@ -1,0 +1,128 @@
+//! Valid records. The ranges are written out here a second time, from the
+//! papers and not from the field tables, so that a slip in either shows.
+
+use super::allowed_value;
+use crate::random::Random;
+use crate::record::{Angle, Body, Category, Hypocenter, Record, Slot, Time, PREAMBLES};
+
+/// A record that must be written, with a random number of used slots.
+pub fn valid_record(random: &mut Random, category: Category) -> Record {
+    Record {
+        preamble: random.pick(&PREAMBLES),
+        reserved: byte(random, &[(0, 63)]),
+        rc: random.pick(&[2, 7]),
+        month: byte(random, &[(1, 12)]),
+        day: byte(random, &[(1, 31)]),
+        hour: byte(random, &[(0, 23)]),
+        minute: byte(random, &[(0, 59)]),
+        it: valid_it(random, category),
+        body: valid_body(random, category),
+        slots: valid_slots(random, category),
+        text: valid_text(random, category),
+    }
+}
+
+/// One used slot of a category, in range.
+pub fn valid_slot(random: &mut Random, category: Category) -> Slot {
+    match category {
+        Category::AshFall => Slot {
+            hour: byte(random, &[(1, 6)]),
+            strength: byte(random, &[(1, 7)]),
+            place: allowed_value(random, &[(110_000, 4_799_999)]),
+        },
+        _ => Slot {
+            hour: 0,
+            strength: byte(random, &[(1, 7)]),
+            place: allowed_value(random, &[(1, 47)]),
+        },
+    }
+}
+
+/// How many slots a category has.
+pub fn slot_count(category: Category) -> usize {
+    match category {
+        Category::Hypocenter | Category::Nankai => 0,
+        Category::Intensity => 16,
+        Category::AshFall => 4,
+    }
+}
+
+fn valid_it(random: &mut Random, category: Category) -> u8 {
+    if category == Category::AshFall {
+        random.pick(&[0, 1, 2])
+    } else {
+        random.pick(&[0, 2])
+    }
+}
+
+fn valid_body(random: &mut Random, category: Category) -> Body {
+    match category {
+        Category::Hypocenter => Body::Hypocenter(valid_hypocenter(random)),
+        Category::Intensity => Body::Intensity(valid_time(random)),
+        Category::Nankai => {
+            let page = byte(random, &[(1, 63)]);
+            let total = byte(random, &[(u32::from(page), 63)]);
+            Body::Nankai { serial: byte(random, &[(1, 15)]), page, total }
+        }
+        Category::AshFall => Body::AshFall {
+            time: valid_time(random),
+            warning: random.pick(&[1, 2]),
+            volcano: short(random, &[(101, 4000)]),
+        },
+    }
+}
+
+fn valid_hypocenter(random: &mut Random) -> Hypocenter {
+    Hypocenter {
+        notifications: [0; 3].map(|_: u16| short(random, &[(0, 0), (101, 500)])),
+        time: valid_time(random),
+        depth: short(random, &[(0, 501), (511, 511)]),
+        magnitude: byte(random, &[(1, 101), (126, 126), (127, 127)]),
+        epicenter: short(random, &[(11, 1000)]),
+        latitude: valid_angle(random, 89),
+        longitude: valid_angle(random, 179),
+    }
+}
+
+fn valid_angle(random: &mut Random, most_degrees: u32) -> Angle {
+    Angle {
+        side: random.pick(&[0, 1]),
+        degrees: byte(random, &[(0, most_degrees)]),
+        minutes: byte(random, &[(0, 59)]),
+        seconds: byte(random, &[(0, 59)]),
+    }
+}
+
+fn valid_time(random: &mut Random) -> Time {
+    Time {
+        day: byte(random, &[(1, 31)]),
+        hour: byte(random, &[(0, 23)]),
+        minute: byte(random, &[(0, 59)]),
+    }
+}
+
+fn valid_slots(random: &mut Random, category: Category) -> [Slot; 16] {
+    let mut slots = [Slot::default(); 16];
+    let count = slot_count(category);
+    let used = if count == 0 { 0 } else { 1 + random.below(count) };
+    for slot in slots.iter_mut().take(used) {
+        *slot = valid_slot(random, category);
+    }
+    slots
+}
+
+/// Any bytes are text, and a page of zeros is a page.
+fn valid_text(random: &mut Random, category: Category) -> [u8; 18] {
+    if category != Category::Nankai || random.one_in(8) {
+        return [0; 18];
+    }
+    [0; 18].map(|_: u8| random.byte())
+}
+
+fn byte(random: &mut Random, allowed: &[(u32, u32)]) -> u8 {
+    allowed_value(random, allowed) as u8
+}
+
+fn short(random: &mut Random, allowed: &[(u32, u32)]) -> u16 {
+    allowed_value(random, allowed) as u16
+}

@@ -1,0 +1,18 @@
+//! A reference reader and writer for DC Report frames of message type 43 in
+//! categories 2, 3, 4 and 9. It is written from the papers alone, with
+//! plainness before speed, so that another implementation can be compared
+//! with it on as many inputs as one likes.
+//!
+//! `read` and `write` are the two functions under comparison. `generate`
+//! builds inputs for both, `samples` holds the values of document 004.
+
+pub mod bits;
+pub mod check;
+pub mod fields;
+pub mod generate;
+pub mod parity;
+pub mod random;
+pub mod read;
+pub mod record;
+pub mod samples;
+pub mod write;

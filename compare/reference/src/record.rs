@@ -1,0 +1,139 @@
+//! What a frame says, as plain numbers. A record may hold numbers that no
+//! frame can carry; only writing it tells whether it is valid.
+
+/// The three preambles of a frame.
+pub const PREAMBLES: [u8; 3] = [0x53, 0x9A, 0xC6];
+
+/// The four categories that are read and written.
+#[derive(Clone, Copy, PartialEq, Eq, Debug)]
+pub enum Category {
+    Hypocenter,
+    Intensity,
+    Nankai,
+    AshFall,
+}
+
+impl Category {
+    pub const ALL: [Category; 4] =
+        [Category::Hypocenter, Category::Intensity, Category::Nankai, Category::AshFall];
+
+    /// The number that stands in Dc.
+    pub fn code(self) -> u32 {
+        match self {
+            Category::Hypocenter => 2,
+            Category::Intensity => 3,
+            Category::Nankai => 4,
+            Category::AshFall => 9,
+        }
+    }
+
+    /// The category of a Dc, if it is one of the four.
+    pub fn of_code(code: u32) -> Option<Category> {
+        Category::ALL.into_iter().find(|category| category.code() == code)
+    }
+}
+
+/// Day, hour and minute of an earthquake or of volcanic activity.
+#[derive(Clone, Copy, PartialEq, Eq, Debug, Default)]
+pub struct Time {
+    pub day: u8,
+    pub hour: u8,
+    pub minute: u8,
+}
+
+/// A latitude or a longitude. Side 0 is north or east, 1 is south or west.
+#[derive(Clone, Copy, PartialEq, Eq, Debug, Default)]
+pub struct Angle {
+    pub side: u8,
+    pub degrees: u8,
+    pub minutes: u8,
+    pub seconds: u8,
+}
+
+/// The fields of category 2.
+#[derive(Clone, Copy, PartialEq, Eq, Debug, Default)]
+pub struct Hypocenter {
+    pub notifications: [u16; 3],
+    pub time: Time,
+    pub depth: u16,
+    pub magnitude: u8,
+    pub epicenter: u16,
+    pub latitude: Angle,
+    pub longitude: Angle,
+}
+
+/// The fields of the record's category, slots and text apart.
+#[derive(Clone, Copy, PartialEq, Eq, Debug, Default)]
+pub enum Body {
+    #[default]
+    Nothing,
+    Hypocenter(Hypocenter),
+    Intensity(Time),
+    Nankai {
+        serial: u8,
+        page: u8,
+        total: u8,
+    },
+    AshFall {
+        time: Time,
+        warning: u8,
+        volcano: u16,
+    },
+}
+
+impl Body {
+    pub fn category(&self) -> Option<Category> {
+        match self {
+            Body::Nothing => None,
+            Body::Hypocenter(_) => Some(Category::Hypocenter),
+            Body::Intensity(_) => Some(Category::Intensity),
+            Body::Nankai { .. } => Some(Category::Nankai),
+            Body::AshFall { .. } => Some(Category::AshFall),
+        }
+    }
+}
+
+/// One place with its strength. In category 3 the strength is the intensity,
+/// the place is the prefecture, and the hour stays zero.
+#[derive(Clone, Copy, PartialEq, Eq, Debug, Default)]
+pub struct Slot {
+    pub hour: u8,
+    pub strength: u8,
+    pub place: u32,
+}
+
+#[derive(Clone, Copy, PartialEq, Eq, Debug, Default)]
+pub struct Record {
+    pub preamble: u8,
+    pub reserved: u8,
+    pub rc: u8,
+    pub month: u8,
+    pub day: u8,
+    pub hour: u8,
+    pub minute: u8,
+    pub it: u8,
+    pub body: Body,
+    pub slots: [Slot; 16],
+    pub text: [u8; 18],
+}
+
+/// Why a frame or a record was refused: the number from document 01 and the
+/// bit it names, 0 where that number names none.
+#[derive(Clone, Copy, PartialEq, Eq, Debug)]
+pub struct Refusal {
+    pub number: u8,
+    pub place: u8,
+}
+
+impl Refusal {
+    /// A refusal whose row names no bit.
+    pub fn plain(number: u8) -> Refusal {
+        Refusal { number, place: 0 }
+    }
+
+    /// A refusal at a bit of the frame. Every field, spare and slot begins
+    /// below bit 226, so its bit fits a byte.
+    pub fn at(number: u8, bit: usize) -> Refusal {
+        Refusal { number, place: bit as u8 }
+    }
+}

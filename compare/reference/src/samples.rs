@@ -1,0 +1,166 @@
+//! The values of document 004 (training messages of March 2025) in the four
+//! categories, as records.
+//!
+//! What document 004 leaves open is filled plainly: the preamble is 53
+//! hexadecimal and Reserved is 0 throughout. Message type and version are not
+//! in a record. Rc is 7 and It is 0 in every table. The year is not sent.
+
+use crate::record::{Angle, Body, Hypocenter, Record, Slot, Time};
+
+const PREAMBLE: u8 = 0x53;
+const RESERVED: u8 = 0;
+
+/// Rc "training/test" and It "issue", the same in tables 2-1-2 to 2-5-1.
+const RC: u8 = 7;
+const IT: u8 = 0;
+
+/// Section 1.1: both deliveries fall in March.
+const MONTH: u8 = 3;
+
+/// Section 1.1: the two deliveries by day, and the hour (UTC) at which the
+/// first scenario of each begins: 13:00 and 10:00 Japanese time.
+const DELIVERIES: [(u8, u8); 2] = [(11, 4), (27, 1)];
+
+/// Table 2-3-1, row Te: the whole text of the Nankai bulletin.
+pub const NANKAI_TEXT: &str = "南海トラフ沿いのプレート境界で通常とは異なるゆっくりすべりが発生していることが推定されます。この通常とは異なるゆっくりすべりの発生により、南海トラフ地震の想定震源域では、大規模地震の発生可能性が平常時に比べて相対的に高まっていると考えられます。今後の政府や自治体などからの呼びかけ等に応じた防災対応をとってください。";
+
+/// Tables 2-4-2 and 2-5-1, rows Pl: Aso city, Takamori town and Minamiaso
+/// village in Kumamoto.
+const ASO: u32 = 4_321_400;
+const TAKAMORI: u32 = 4_342_800;
+const MINAMIASO: u32 = 4_343_300;
+
+/// Tables 2-4-2 and 2-5-1, row Vo: Mount Aso.
+const MOUNT_ASO: u16 = 503;
+
+/// Every sample, in the order of document 004.
+pub fn all() -> Vec<Record> {
+    [hypocenter(), intensity(), nankai(), ash_fall_preliminary(), ash_fall_detailed()].concat()
+}
+
+/// Section 2.1.2, table 2-1-2: one record for each delivery.
+pub fn hypocenter() -> Vec<Record> {
+    let issues = [issue(0, 0, 5), issue(1, 0, 5)];
+    issues.map(|issue| Record { body: Body::Hypocenter(hyuganada(&issue)), ..issue }).to_vec()
+}
+
+/// Section 2.1.3, table 2-1-3: nine prefectures, for each delivery.
+pub fn intensity() -> Vec<Record> {
+    const PREFECTURES: [(u8, u32); 9] =
+        [(4, 44), (4, 45), (3, 39), (3, 43), (2, 35), (2, 38), (2, 40), (2, 41), (2, 46)];
+    let mut slots = [Slot::default(); 16];
+    for (slot, (strength, place)) in slots.iter_mut().zip(PREFECTURES) {
+        *slot = Slot { hour: 0, strength, place };
+    }
+    let issues = [issue(0, 0, 5), issue(1, 0, 5)];
+    let filled = |issue| Record { body: Body::Intensity(same_time(&issue)), slots, ..issue };
+    issues.map(filled).to_vec()
+}
+
+/// Section 2.3.1, table 2-3-1: the pages of the bulletin, for each delivery.
+/// Page number and total are not printed there; they follow from the text,
+/// which goes out in pages of 18 bytes, the last one filled up with zeros.
+pub fn nankai() -> Vec<Record> {
+    let pages = pages(NANKAI_TEXT);
+    let total = pages.len() as u8;
+    let mut records = Vec::new();
+    for issue in [issue(0, 0, 35), issue(1, 0, 35)] {
+        for (page, text) in (1..).zip(pages.iter().copied()) {
+            let body = Body::Nankai { serial: 5, page, total };
+            records.push(Record { body, text, ..issue });
+        }
+    }
+    records
+}
+
+/// Section 2.4.2, table 2-4-2: three places, for each delivery.
+pub fn ash_fall_preliminary() -> Vec<Record> {
+    let places = [(1, 1, ASO), (1, 1, TAKAMORI), (1, 1, MINAMIASO)];
+    let issues = [issue(0, 1, 10), issue(1, 1, 10)];
+    issues.map(|issue| ash_fall(&issue, 1, &places)).to_vec()
+}
+
+/// Section 2.5.1, table 2-5-1: eighteen places in five messages, for each
+/// delivery. The same place stands twice in a message, at different hours.
+pub fn ash_fall_detailed() -> Vec<Record> {
+    const PLACES: [(u8, u8, u32); 18] = [
+        (1, 2, ASO),
+        (1, 2, TAKAMORI),
+        (1, 1, MINAMIASO),
+        (2, 1, ASO),
+        (2, 1, TAKAMORI),
+        (2, 1, MINAMIASO),
+        (3, 1, ASO),
+        (3, 1, TAKAMORI),
+        (3, 1, MINAMIASO),
+        (4, 1, ASO),
+        (4, 1, TAKAMORI),
+        (4, 1, MINAMIASO),
+        (5, 1, ASO),
+        (5, 1, TAKAMORI),
+        (5, 1, MINAMIASO),
+        (6, 1, ASO),
+        (6, 1, TAKAMORI),
+        (6, 1, MINAMIASO),
+    ];
+    let mut records = Vec::new();
+    for issue in [issue(0, 1, 20), issue(1, 1, 20)] {
+        records.extend(PLACES.chunks(4).map(|places| ash_fall(&issue, 2, places)));
+    }
+    records
+}
+
+/// A text cut into pages of 18 bytes, the last one filled up with zeros.
+pub fn pages(text: &str) -> Vec<[u8; 18]> {
+    let filled = |part: &[u8]| {
+        let mut page = [0; 18];
+        page[..part.len()].copy_from_slice(part);
+        page
+    };
+    text.as_bytes().chunks(18).map(filled).collect()
+}
+
+/// The common fields of a message: the delivery, and hours and minutes after
+/// the hour at which that delivery begins.
+fn issue(delivery: usize, hours: u8, minute: u8) -> Record {
+    let (day, first_hour) = DELIVERIES[delivery];
+    Record {
+        preamble: PREAMBLE,
+        reserved: RESERVED,
+        rc: RC,
+        month: MONTH,
+        day,
+        hour: first_hour + hours,
+        minute,
+        it: IT,
+        ..Record::default()
+    }
+}
+
+/// Every table gives the time of the event as the time of issue.
+fn same_time(issue: &Record) -> Time {
+    Time { day: issue.day, hour: issue.hour, minute: issue.minute }
+}
+
+/// Table 2-1-2 from row Co_1 on.
+fn hyuganada(issue: &Record) -> Hypocenter {
+    Hypocenter {
+        notifications: [226, 0, 0],
+        time: same_time(issue),
+        depth: 40,
+        magnitude: 64,
+        epicenter: 791,
+        latitude: Angle { side: 0, degrees: 32, minutes: 42, seconds: 0 },
+        longitude: Angle { side: 0, degrees: 132, minutes: 6, seconds: 0 },
+    }
+}
+
+/// An ash fall message with its places as hour, strength and place.
+fn ash_fall(issue: &Record, warning: u8, places: &[(u8, u8, u32)]) -> Record {
+    let mut slots = [Slot::default(); 16];
+    for (slot, &(hour, strength, place)) in slots.iter_mut().zip(places) {
+        *slot = Slot { hour, strength, place };
+    }
+    let body = Body::AshFall { time: same_time(issue), warning, volcano: MOUNT_ASO };
+    Record { body, slots, ..*issue }
+}

@@ -1,0 +1,47 @@
+//! Short words for tests.
+
+use reference::bits::Frame;
+use reference::generate::{raw_frame, RawValue};
+use reference::read::read;
+use reference::record::{Category, Record, Refusal};
+use reference::samples;
+use reference::write::write;
+
+/// A frame that is read, of each category: the first sample of document 004.
+pub fn base_frame(category: Category) -> Frame {
+    written(&base_record(category))
+}
+
+pub fn base_record(category: Category) -> Record {
+    let samples = match category {
+        Category::Hypocenter => samples::hypocenter(),
+        Category::Intensity => samples::intensity(),
+        Category::Nankai => samples::nankai(),
+        Category::AshFall => samples::ash_fall_detailed(),
+    };
+    samples[0]
+}
+
+/// The frame of a record that must be valid.
+pub fn written(record: &Record) -> Frame {
+    let mut frame = [0xEE; 32];
+    write(record, &mut frame).expect("the record is valid");
+    frame
+}
+
+/// A frame with values overwritten, each as first bit, width and value, and
+/// the parity made right again.
+pub fn changed(base: &Frame, values: &[(usize, usize, u32)]) -> Frame {
+    let raw = |&(first, width, value): &(usize, usize, u32)| RawValue { first, width, value };
+    raw_frame(base, &values.iter().map(raw).collect::<Vec<_>>())
+}
+
+/// Number and place of an answer, zeros where nothing was refused.
+pub fn outcome<T>(answer: Result<T, Refusal>) -> (u8, u8) {
+    answer.map_or_else(|refusal| (refusal.number, refusal.place), |_| (0, 0))
+}
+
+/// What reading says of a changed sample frame.
+pub fn reading(category: Category, values: &[(usize, usize, u32)]) -> (u8, u8) {
+    outcome(read(&changed(&base_frame(category), values)))
+}

@@ -1,0 +1,6 @@
+//! The rules of reading and writing, one by one.
+
+mod common;
+mod ranges;
+mod reading;
+mod writing;

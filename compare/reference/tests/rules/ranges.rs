@@ -1,0 +1,165 @@
+//! Every value of every field, against ranges written out here once more.
+
+use crate::common::{base_frame, changed, outcome};
+use reference::bits::get;
+use reference::fields::{fields, slot_layout};
+use reference::read::read;
+use reference::record::Category::{self, AshFall, Hypocenter, Intensity, Nankai};
+
+type Row = (usize, usize, fn(u32) -> bool);
+
+const COMMON: [Row; 5] = [
+    (14, 3, |value| value == 2 || value == 7),
+    (21, 4, |value| (1..13).contains(&value)),
+    (25, 5, |value| value != 0),
+    (30, 5, |value| value < 24),
+    (35, 6, |value| value < 60),
+];
+
+const HYPOCENTER: [Row; 18] = [
+    (41, 2, |value| value == 0 || value == 2),
+    (53, 9, |value| value == 0 || (101..501).contains(&value)),
+    (62, 9, |value| value == 0 || (101..501).contains(&value)),
+    (71, 9, |value| value == 0 || (101..501).contains(&value)),
+    (80, 5, |value| value != 0),
+    (85, 5, |value| value < 24),
+    (90, 6, |value| value < 60),
+    (96, 9, |value| value < 502 || value == 511),
+    (105, 7, |value| (1..102).contains(&value) || value > 125),
+    (112, 10, |value| (11..1001).contains(&value)),
+    (122, 1, |_| true),
+    (123, 7, |value| value < 90),
+    (130, 6, |value| value < 60),
+    (136, 6, |value| value < 60),
+    (142, 1, |_| true),
+    (143, 8, |value| value < 180),
+    (151, 6, |value| value < 60),
+    (157, 6, |value| value < 60),
+];
+
+const INTENSITY: [Row; 4] = [
+    (41, 2, |value| value == 0 || value == 2),
+    (53, 5, |value| value != 0),
+    (58, 5, |value| value < 24),
+    (63, 6, |value| value < 60),
+];
+
+const NANKAI: [Row; 4] = [
+    (41, 2, |value| value == 0 || value == 2),
+    (53, 4, |value| value != 0),
+    // The base frame is page 1 of 27.
+    (201, 6, |value| value != 0),
+    (207, 6, |value| value != 0),
+];
+
+const ASH_FALL: [Row; 6] = [
+    (41, 2, |value| value < 3),
+    (53, 5, |value| value != 0),
+    (58, 5, |value| value < 24),
+    (63, 6, |value| value < 60),
+    (69, 2, |value| value == 1 || value == 2),
+    (71, 12, |value| (101..4001).contains(&value)),
+];
+
+fn rows(category: Category) -> Vec<Row> {
+    let own: &[Row] = match category {
+        Hypocenter => &HYPOCENTER,
+        Intensity => &INTENSITY,
+        Nankai => &NANKAI,
+        AshFall => &ASH_FALL,
+    };
+    [&COMMON, own].concat()
+}
+
+#[test]
+fn every_value_of_every_field_outside_the_slots() {
+    for category in Category::ALL {
+        let base = base_frame(category);
+        for (first, width, allowed) in rows(category) {
+            for value in 0..1 << width {
+                let frame = changed(&base, &[(first, width, value)]);
+                let mut expected = if allowed(value) { (0, 0) } else { (8, first as u8) };
+                if (category, first) == (Nankai, 201) && value > 27 {
+                    expected = (8, 207);
+                }
+                assert_eq!(outcome(read(&frame)), expected, "{category:?} {first} {value}");
+            }
+        }
+    }
+}
+
+#[test]
+fn the_table_has_these_rows_and_no_others() {
+    for category in Category::ALL {
+        let mut here: Vec<_> = rows(category).iter().map(|row| (row.0, row.1)).collect();
+        here.sort();
+        let there: Vec<_> = fields(category).iter().map(|row| (row.first, row.width)).collect();
+        assert_eq!(here, there);
+    }
+}
+
+#[test]
+fn every_value_of_every_intensity_slot() {
+    let full: Vec<_> = (0..16).map(|slot| (69 + 9 * slot, 9, 1 << 6 | 1)).collect();
+    let base = changed(&base_frame(Intensity), &full);
+    for slot in 0..16 {
+        let first = 69 + 9 * slot;
+        for value in 0..512 {
+            let frame = changed(&base, &[(first, 9, value)]);
+            let expected = match (value >> 6, value & 63) {
+                (0, 0) if slot == 15 => (0, 0),
+                (0, 0) if slot > 0 => (10, first as u8 + 9),
+                (0, _) => (8, first as u8),
+                (_, 1..=47) => (0, 0),
+                _ => (8, first as u8 + 3),
+            };
+            assert_eq!(outcome(read(&frame)), expected, "slot {slot} value {value}");
+        }
+    }
+}
+
+#[test]
+fn every_hour_and_strength_of_every_ash_fall_slot() {
+    let base = base_frame(AshFall);
+    for slot in 0..4 {
+        let first = 83 + 29 * slot;
+        for value in 0..64 {
+            let frame = changed(&base, &[(first, 6, value)]);
+            let expected = match (value >> 3, value & 7) {
+                (0 | 7, _) => (8, first as u8),
+                (_, 0) => (8, first as u8 + 3),
+                _ => (0, 0),
+            };
+            assert_eq!(outcome(read(&frame)), expected, "slot {slot} value {value}");
+        }
+        for (place, right) in [(0, false), (109_999, false), (110_000, true), (4_800_000, false)] {
+            let frame = changed(&base, &[(first + 6, 23, place)]);
+            let expected = if right { (0, 0) } else { (8, first as u8 + 6) };
+            assert_eq!(outcome(read(&frame)), expected, "slot {slot} place {place}");
+        }
+    }
+}
+
+/// Fields, slots, text and spares fill bits 14 to 213 without a hole and
+/// without overlap, Dc apart.
+#[test]
+fn the_tables_cover_the_frame() {
+    for category in Category::ALL {
+        let layout = slot_layout(category);
+        let mut stretches: Vec<_> =
+            fields(category).iter().map(|field| (field.first, field.width)).collect();
+        stretches.extend((0..layout.count).map(|slot| (layout.slot_first(slot), layout.width)));
+        stretches.extend(reference::fields::spares(category));
+        stretches.push((17, 4));
+        if category == Nankai {
+            stretches.push((57, 144));
+        }
+        stretches.sort();
+        let end = stretches.iter().fold(14, |next, &(first, width)| {
+            assert_eq!(first, next, "{category:?}");
+            first + width
+        });
+        assert_eq!(end, 214);
+        assert_eq!(get(&base_frame(category), 214, 6), 1);
+    }
+}

@@ -1,0 +1,19 @@
+//! The proved functions, made safe to call: the only place where a pointer is
+//! handed over. Each takes any slice, since none of them has a precondition.
+
+mod raw {
+    extern "C" {
+        pub fn lz_parity(frame: *const u8, length: usize) -> u32;
+    }
+}
+
+/// The parity of a frame, or nothing where the slice is not 32 bytes long.
+pub fn parity(frame: &[u8]) -> Option<u32> {
+    // The pointer and the length are those of one slice, which is only read.
+    let answer = unsafe { raw::lz_parity(frame.as_ptr(), frame.len()) };
+    match answer >> 24 {
+        0 => Some(answer),
+        1 if answer << 8 == 0 => None,
+        _ => panic!("no such answer: {answer:08X} on {} bytes", frame.len()),
+    }
+}

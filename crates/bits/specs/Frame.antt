@@ -1,0 +1,41 @@
+-- A frame in memory is 32 bytes (document 01, "The frame on the wire"). Its bits are numbered from 0, the most
+-- significant bit of the first byte first; so a frame is a number of 256 bits, and a field is a part of that number.
+use Prim.Native.Nat.{ℕ, _+_, _-_, _*_, _/_, _%_, _^_, _<_}
+use mathlib.Core.List.{List, [], _∷_}
+use lib.ListN.{getD, replicate}
+use Rattle.bits.specs.Layout.{encode, decode}
+
+-- what stands in the list are bytes
+abbrev pub Bytes : List ℕ → Type 0
+Bytes s = (i : ℕ) → getD s i 0 < 256
+
+-- bytes are a layout: 8 bits for each
+abbrev pub eights : List ℕ → List ℕ
+eights [] = []
+eights (b ∷ bs) = 8 ∷ eights bs
+
+-- the bytes as one number, the first byte the most significant
+abbrev pub number : List ℕ → ℕ
+number s = encode (eights s) s
+
+-- and back: the 32 bytes of a number of 256 bits
+abbrev pub bytesOf : ℕ → List ℕ
+bytesOf n = decode (replicate 32 8) n
+
+-- the field of w bits whose first bit is a
+abbrev pub fieldOf : List ℕ → ℕ → ℕ → ℕ
+fieldOf s a w = number s / 2 ^ (256 - (a + w)) % 2 ^ w
+
+-- n with the last w bits of v where w bits of n have `behind` bits behind them: the bits before, v, the bits behind
+abbrev pub replaced : ℕ → ℕ → ℕ → ℕ → ℕ
+replaced n behind w v = (n / 2 ^ behind / 2 ^ w * 2 ^ w + v % 2 ^ w) * 2 ^ behind + n % 2 ^ behind
+
+-- the frame s with v in the field of w bits whose first bit is a
+unfoldable pub placed : List ℕ → ℕ → ℕ → ℕ → List ℕ
+placed s a w v = bytesOf (replaced (number s) (256 - (a + w)) w v)
+
+-- the frame s with the values vs in the widths ws, one field behind the other from the bit a on: how a frame is written
+abbrev pub laid : List ℕ → ℕ → List ℕ → List ℕ → List ℕ
+laid s a [] vs = s
+laid s a (w ∷ ws) [] = s
+laid s a (w ∷ ws) (v ∷ vs) = laid (placed s a w v) (a + w) ws vs

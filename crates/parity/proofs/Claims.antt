@@ -1,0 +1,33 @@
+-- What this crate claims of its definitions. Assumes nothing.
+use mathlib.Core.Path.{_≡_, sym, ap, _∙_}
+use mathlib.Core.Bool.{true}
+use Prim.Native.Nat.{ℕ, _/_, _^_, _<_}
+use native.Mathlib.Omega.{arith}
+use mathlib.Core.List.{List}
+use lib.Bits.{bitXor}
+use borrow.Author.Tests.{eq-eqb, eqb-true}
+use Rattle.bits.specs.Frame.{number, fieldOf}
+use Rattle.parity.specs.Parity.{after, parityOf, parityOfFront, parityRight}
+use Rattle.parity.proofs.Step.{after-lt}
+use Rattle.parity.proofs.Linear.{sum, after-sum}
+use Rattle.parity.proofs.Front.{parity-of-front}
+
+-- A parity is a number of 24 bits.
+pub parity-fits-its-field : (s : List ℕ) → parityOf s < 2 ^ 24
+unfolding parityOf
+parity-fits-its-field s = after-lt 0 (λ i. fieldOf s i 1) 226 (omega arith)
+
+-- "CRC-24Q of bits 0 to 225": frames that agree in those have the same parity, whatever follows.
+pub parity-rests-on-226-bits : (s t : List ℕ) → number s / 2 ^ 30 ≡ number t / 2 ^ 30 → parityOf s ≡ parityOf t
+parity-rests-on-226-bits s t e = parity-of-front s ∙ ap parityOfFront e ∙ sym (parity-of-front t)
+
+-- The register is linear: of the sum of two runs of bits, without carries, it is the sum of the registers.
+pub register-is-linear : (c d : ℕ) (f g : ℕ → ℕ) (n : ℕ) → after (bitXor c d) (sum f g) n ≡ bitXor (after c f n) (after d g n)
+register-is-linear = after-sum
+
+-- The test says just that bits 226 to 249 hold the parity.
+pub right-means-equal : (s : List ℕ) → parityRight s ≡ true → parityOf s ≡ fieldOf s 226 24
+right-means-equal s = eqb-true (parityOf s) (fieldOf s 226 24)
+
+pub equal-means-right : (s : List ℕ) → parityOf s ≡ fieldOf s 226 24 → parityRight s ≡ true
+equal-means-right s = eq-eqb (parityOf s) (fieldOf s 226 24)

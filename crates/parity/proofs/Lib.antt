@@ -1,0 +1,5 @@
+pub mod Claims
+pub mod Step
+pub mod Xor
+pub mod Linear
+pub mod Front

@@ -1,0 +1,39 @@
+// The parity of a frame: CRC-24Q over bits 0 to 225, a bit at a time. What a wrong parity leads to
+// is for the crates above.
+ghost use mathlib.Core.Path.{_≡_};
+ghost use Prim.Native.Nat.{_^_, _<_};
+ghost use Rattle.parity.specs.Parity.{step, parityOf, parityRight};
+
+// The register after one bit more.
+fn push(register: u32, bit: u32) -> u32
+    requires { ⌜ (register < 2 ^ 24) × (bit < 2) ⌝ }
+    ensures { λ r. ⌜ (r ≡ step register bit) × (r < 2 ^ 24) ⌝ }
+{
+    let up = (register << 1) & 0xFF_FFFF;
+    if (register >> 23) == bit {
+        up
+    } else {
+        up ^ 0x86_4CFB
+    }
+}
+
+// The parity that bits 0 to 225 ask for.
+pub fn parity(frame: [u8; 32]) -> u32
+    ensures { λ r. ⌜ r ≡ parityOf frame ⌝ }
+{
+    let mut register: u32 = 0;
+    let mut at: usize = 0;
+    while at < 226 {
+        let bit = bits::bit(frame, at);
+        register = push(register, bit as u32);
+        at += 1;
+    }
+    register
+}
+
+// Whether bits 226 to 249 hold that parity.
+pub fn parity_right(frame: [u8; 32]) -> bool
+    ensures { λ r. ⌜ r ≡ parityRight frame ⌝ }
+{
+    parity(frame) == bits::field32(frame, 226, 24)
+}
