@@ -1,0 +1,96 @@
+-- What is proved of the definitions of this crate, each claim with the sentence of document 01 that it settles.
+-- Assumes nothing.
+use mathlib.Core.Path.{_≡_, ap}
+use mathlib.Core.Bool.{true}
+use mathlib.Core.List.{List, map}
+use Prim.Native.Nat.{ℕ, _≤_}
+use lib.ListN.{length}
+use Rattle.report.specs.declared.refusal.Verdict.{Verdict}
+use Rattle.report.specs.declared.refusal.Verdict.the-variants.{Fine, Refused}
+use Rattle.report.specs.declared.refusal.Refusal.{Refusal}
+use Rattle.report.specs.declared.refusal.Refusal.the-variants.{Range, Gap}
+use Rattle.report.specs.declared.record.Body.{Body}
+use Rattle.report.specs.declared.record.Record.{Record}
+use Rattle.report.specs.Refusals.{says, answers}
+use Rattle.report.specs.Layout.{layout, allRows, tiles, allFit}
+use Rattle.report.specs.Records.{recordOf, zeros, valuesOf, values}
+use Rattle.report.specs.Reading.{readAnswer, reading, readOf}
+use Rattle.report.specs.Conforms.{Conforms}
+use Rattle.report.specs.Reasons.{Fault, Lowest, readQuestions, WhyNotRead}
+use Rattle.report.proofs.Tables.{layouts, all, tables-tile as tiled, rules-fit as fit}
+use Rattle.report.proofs.Ordered.{Met}
+use Rattle.report.proofs.Frames.{layoutOf, frameValues, conforming-fine, fine-conforming, reason, faulty, faultless, no-gap}
+use Rattle.report.proofs.Lengths.{Filled, frame-filled, record-filled}
+use Rattle.report.proofs.Numbers.{says-apart, read-ten, refused-zeros}
+use Rattle.report.proofs.PaperValues.{found, expected, paperValues, every-row}
+
+-- ---- the tables
+
+-- "A frame is 250 bits, .. numbered from 0": the rows of each category tile bits 8 to 225, without gap or overlap. Bits 0 to
+-- 7 are the preamble, bits 226 to 249 the parity.
+pub tables-tile : all (λ l. tiles 8 226 (allRows l)) layouts ≡ true
+tables-tile = tiled
+
+-- "9 bits each: 0 or 101-500", and so in every row: the greatest value that a rule lets through fits the width.
+pub rules-fit : all (λ l. allFit (allRows l)) layouts ≡ true
+rules-fit = fit
+
+-- "The frame on the wire" has a rule for each field, and each is asked for: a frame has a value for every row ..
+pub values-never-run-short : (s : List ℕ) (b : Body) → Filled (layout b) (valuesOf s (layout b))
+values-never-run-short s b = frame-filled s (layout b)
+
+-- .. and so has a record with "sixteen slots (hour, strength or intensity, place) and 18 text bytes".
+pub record-values-never-run-short : (r : Record) (x y : ℕ) → length (r .slots) ≡ 16 → length (r .text) ≡ 18
+    → Filled (layout (r .body)) (values r x y)
+record-values-never-run-short r x y n m = record-filled r x y n m
+
+-- ---- reading
+
+-- "a conforming frame is read" ..
+pub conforming-is-read : (s : List ℕ) → Conforms s → readAnswer s ≡ Fine
+conforming-is-read s c = conforming-fine s c
+
+-- .. and gives the record of its own fields: "one that gives a fixed record fails it too".
+pub conforming-gives-its-record : (s : List ℕ) → Conforms s → readOf s ≡ record { answer = Fine; «record» = recordOf s }
+conforming-gives-its-record s c = ap (λ (v : Verdict). reading v (recordOf s)) (conforming-fine s c)
+
+-- "given when", of the numbers 1 to 10: a frame that breaks a rule is refused, so what is read keeps every one.
+pub read-conforms : (s : List ℕ) → readAnswer s ≡ Fine → Conforms s
+read-conforms s e = fine-conforming s e
+
+-- "A refusal is given only when its row's reason is there." "Reading a frame: 1 to 7 in that order, then 8, 9, 10 by lowest
+-- bit": the condition of the number fails, every earlier one holds, and no fault has a lower bit than that of an 8, 9 or 10.
+pub refused-for-a-reason : (s : List ℕ) (x : Refusal) → readAnswer s ≡ Refused x → WhyNotRead s x
+refused-for-a-reason s x e = reason s x e
+
+-- "8, 9, 10 by lowest bit", from the fault: a frame that passes 1 to 7 and has a fault is refused, for one with the lowest bit.
+pub faulty-is-refused : (s : List ℕ) (y : Refusal) → Met (readQuestions s) → Fault (layoutOf s) (frameValues s) y
+    → (x : Refusal) × (readAnswer s ≡ Refused x) × Lowest (layoutOf s) (frameValues s) x
+faulty-is-refused s y m f = faulty s y m f
+
+-- "where no row tested by a call applies, the call succeeds"
+pub faultless-is-read : (s : List ℕ) → Met (readQuestions s)
+    → ((x : Refusal) → Fault (layoutOf s) (frameValues s) x → ⊥) → readAnswer s ≡ Fine
+faultless-is-read s m h = faultless s m h
+
+-- "For a slot the gap is tested before its fields."
+pub gap-before-fields : (s : List ℕ) (p : ℕ) → readAnswer s ≡ Refused (Range p) → Fault (layoutOf s) (frameValues s) (Gap p) → ⊥
+gap-before-fields s p e f = no-gap s p e f
+
+-- ---- numbers
+
+-- "What each number says": no two refusals have the same number, place, page and mark.
+pub answers-tell-refusals-apart : (x y : Refusal) → says x ≡ says y → x ≡ y
+answers-tell-refusals-apart x y e = says-apart x y e
+
+-- "Reading a frame: 1 to 7 in that order, then 8, 9, 10 by lowest bit": no other number is answered.
+pub answers-are-0-to-10 : (s : List ℕ) → answers (readAnswer s) .number ≤ 10
+answers-are-0-to-10 s = read-ten s
+
+-- "A refused reading gives a record of zeros."
+pub a-refused-reading-gives-zeros : (s : List ℕ) (x : Refusal) → readOf s .answer ≡ Refused x → readOf s .«record» ≡ zeros
+a-refused-reading-gives-zeros s x e = refused-zeros (readAnswer s) (recordOf s) x e
+
+-- "All of these stand in one table over the definitions, with a single proved claim": P1 to P12.
+pub paper-values-hold : map found paperValues ≡ map expected paperValues
+paper-values-hold = every-row

@@ -1,0 +1,17 @@
+pub mod Claims
+pub mod Tables
+pub mod Questions
+pub mod Spans
+pub mod Codes
+pub mod Walks
+pub mod SlotTurns
+pub mod Outcomes
+pub mod Judged
+pub mod JudgedRows
+pub mod JudgedSlots
+pub mod JudgedFrames
+pub mod Ordered
+pub mod Frames
+pub mod Numbers
+pub mod Lengths
+pub mod PaperValues

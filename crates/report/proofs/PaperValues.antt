@@ -1,0 +1,137 @@
+-- "Values to prove" of document 01 in one table: sample records with one field changed, and what the paper says of each.
+-- Assumes nothing.
+use mathlib.Core.Path.{_≡_, refl}
+use mathlib.Core.List.{List, [], _∷_, _++_, map}
+use Prim.Native.Nat.{ℕ, _/_}
+use lib.ListN.{replicate}
+use Rattle.bits.specs.Layout.{encode}
+use Rattle.report.specs.declared.record.Time.{Time}
+use Rattle.report.specs.declared.record.Angle.{Angle}
+use Rattle.report.specs.declared.record.Body.{Body}
+use Rattle.report.specs.declared.record.Body.the-variants.{Hypocenter, Intensity, Nankai}
+use Rattle.report.specs.declared.record.Slot.{Slot}
+use Rattle.report.specs.declared.record.SlotKind.the-variants.{Prefectures}
+use Rattle.report.specs.Refusals.{Said, plain, at, answers, _then_, unless}
+use Rattle.report.specs.Layout.{Row, layout, slotFirst, slotRows}
+use Rattle.report.specs.Verdict.{allowed, judge, walk, empty, later, slotsVerdict, verdict}
+use Rattle.report.specs.Records.{noSlot, slotValues, bodyValues, values}
+
+-- ---- samples
+
+-- the first day of a month, midnight
+abbrev pub sampleTime : Time
+sampleTime = record { day = 1; hour = 0; minute = 0 }
+
+abbrev pub angle : ℕ → Angle
+angle degrees = record { side = 0; degrees = degrees; minutes = 0; seconds = 0 }
+
+-- what is found in a record: its number, and its place
+abbrev pub judged : Body → List Slot → Said
+judged body slots = answers (verdict (layout body) (values (record {
+  preamble = 0x53;
+  reserved = 0;
+  common = record { rc = 2; month = 1; day = 1; hour = 0; minute = 0; it = 0 };
+  body = body;
+  slots = slots ++ replicate 14 noSlot;
+  text = replicate 18 0;
+}) 0 0))
+
+-- what a value is compared with
+pub data Outcome : Type 0 where
+  said : Said → Outcome
+  number : ℕ → Outcome
+
+-- an earthquake of category 2
+abbrev pub quake : ℕ → ℕ → ℕ → ℕ → ℕ → Outcome
+quake notification depth magnitude epicenter degrees = said (judged (Hypocenter (record {
+  notification1 = notification;
+  notification2 = 0;
+  notification3 = 0;
+  time = sampleTime;
+  depth = depth;
+  magnitude = magnitude;
+  epicenter = epicenter;
+  latitude = angle 0;
+  longitude = angle degrees;
+})) (noSlot ∷ noSlot ∷ []))
+
+abbrev pub notification : ℕ → Outcome
+notification n = quake n 10 50 100 140
+
+abbrev pub depth : ℕ → Outcome
+depth n = quake 101 n 50 100 140
+
+abbrev pub magnitude : ℕ → Outcome
+magnitude n = quake 101 10 n 100 140
+
+abbrev pub epicenter : ℕ → Outcome
+epicenter n = quake 101 10 50 n 140
+
+abbrev pub longitudeDegrees : ℕ → Outcome
+longitudeDegrees n = quake 101 10 50 100 n
+
+-- a slot of category 3
+abbrev pub slot : ℕ → ℕ → Slot
+slot intensity prefecture = record { hour = 0; strength = intensity; place = prefecture }
+
+abbrev pub secondSlot : Slot → Outcome
+secondSlot s = said (judged (Intensity sampleTime) (slot 4 44 ∷ s ∷ []))
+
+-- the nine bits of a slot of category 3 as one number, in the widths of the table
+abbrev pub slotValue : Slot → Outcome
+slotValue s = number (encode (map (λ (r : Row). r .width) (slotRows Prefectures (slotFirst Prefectures))) (slotValues Prefectures s))
+
+-- "A place divided by 100000, remainder dropped, is its prefecture"
+abbrev pub prefecture : ℕ → Outcome
+prefecture place = number (place / 100000)
+
+-- a page of category 4
+abbrev pub page : ℕ → ℕ → Outcome
+page n total = said (judged (Nankai (record { serial = 1; number = n; total = total })) (noSlot ∷ noSlot ∷ []))
+
+-- ---- the table
+
+abbrev pub passes : Outcome
+passes = said (plain 0)
+
+abbrev pub eightAt : ℕ → Outcome
+eightAt p = said (at 8 p)
+
+infixl 71 _gives_
+pub data Value : Type 0 where
+  _gives_ : Outcome → Outcome → Value
+
+abbrev pub paperValues : List Value
+paperValues =
+    depth 501 gives passes  -- P1
+    ∷ depth 502 gives eightAt 96
+    ∷ depth 510 gives eightAt 96  -- P2
+    ∷ depth 511 gives passes
+    ∷ magnitude 0 gives eightAt 105  -- P3
+    ∷ magnitude 101 gives passes
+    ∷ magnitude 102 gives eightAt 105  -- P4
+    ∷ magnitude 125 gives eightAt 105
+    ∷ magnitude 126 gives passes
+    ∷ notification 100 gives eightAt 53  -- P5
+    ∷ notification 101 gives passes
+    ∷ notification 500 gives passes  -- P6
+    ∷ notification 501 gives eightAt 53
+    ∷ epicenter 10 gives eightAt 112  -- P7
+    ∷ epicenter 1000 gives passes
+    ∷ longitudeDegrees 179 gives passes  -- P8
+    ∷ longitudeDegrees 180 gives eightAt 143
+    ∷ slotValue (slot 4 44) gives number 300  -- P9
+    ∷ prefecture 4321400 gives number 43  -- P10
+    ∷ page 1 0 gives eightAt 207  -- P11
+    ∷ secondSlot (slot 3 0) gives eightAt 81 ∷ []  -- P12
+
+-- the two sides of the table
+abbrev pub found : Value → Outcome
+found (a gives b) = a
+
+abbrev pub expected : Value → Outcome
+expected (a gives b) = b
+
+pub every-row : map found paperValues ≡ map expected paperValues
+unfolding _then_ unless allowed judge walk empty later slotsVerdict verdict layout bodyValues values
+every-row = refl

@@ -1,0 +1,22 @@
+-- What is computed over all tables. Assumes nothing.
+use mathlib.Core.Path.{_≡_, refl}
+use mathlib.Core.Bool.{Bool, true, _&&_}
+use mathlib.Core.List.{List, [], _∷_}
+use Rattle.report.specs.declared.record.Body.{Body}
+use Rattle.report.specs.declared.record.Body.the-variants.{Nothing, Hypocenter, Intensity, Nankai, AshFall}
+use Rattle.report.specs.Layout.{Layout, hypocenter, intensity, nankai, ashFall, nothing, layout, allRows, tiles, allFit}
+
+abbrev pub layouts : List Layout
+layouts = hypocenter ∷ intensity ∷ nankai ∷ ashFall ∷ nothing ∷ []
+
+abbrev pub all : (Layout → Bool) → List Layout → Bool
+all test [] = true
+all test (l ∷ ls) = test l && all test ls
+
+-- the rows of each category tile bits 8 to 225, without gap or overlap
+pub tables-tile : all (λ l. tiles 8 226 (allRows l)) layouts ≡ true
+tables-tile = refl
+
+-- the greatest value that a rule lets through fits the width of its row
+pub rules-fit : all (λ l. allFit (allRows l)) layouts ≡ true
+rules-fit = refl

@@ -1,0 +1,27 @@
+-- `report::check::Run::later` meets its contract. Assumes nothing.
+use Rattle.report.proofs.Questions.{then-assoc}
+use Rattle.report.specs.Slots.{laterRun}
+use borrow.Author.Needs.{needs}
+use mathlib.Core.Path.{sym, _∙_}
+use Rattle.report.proofs.check.Run.later.Statement.{statement}
+use Rattle.report.proofs.check.Run.later.Tie as tie
+
+empty-requires : tie.Need-empty-requires
+empty-requires c κs = search needs
+
+returns : tie.Need-returns
+unfolding laterRun
+returns c = simp (sym (c .before .empty .ensures) ∙ c .if1 .taken)
+
+unless-requires : tie.Need-unless-requires
+unless-requires c κs = search needs
+
+slot-requires : tie.Need-slot-requires
+slot-requires c κs = search needs
+
+returns-2 : tie.Need-returns-2
+unfolding laterRun
+returns-2 c = simp (c .slot .ensures, c .before .unless .ensures, sym (c .before .before .before .empty .ensures) ∙ c .before .before .if1 .left, then-assoc)
+
+pub later-spec : {M : Type 1} → statement M
+later-spec = tie.close (tie.spec empty-requires returns unless-requires slot-requires returns-2)

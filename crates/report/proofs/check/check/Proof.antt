@@ -1,0 +1,57 @@
+-- `report::check::check` meets its contract. Assumes nothing.
+use Prim.Native.Nat.{ℕ}
+use Rattle.bits.specs.Frame.{Bytes}
+use Rattle.report.proofs.Questions.{then-assoc, fine-then}
+use Rattle.report.specs.Records.{values}
+use Rattle.report.specs.Verdict.{verdict}
+use borrow.Author.Needs.{elem-fits-field, length-unmapped}
+use borrow.Author.Needs.{needs}
+use lib.ListN.{length}
+use mathlib.Core.Path.{_≡_}
+use mir.Syntax.{w8}
+use Rattle.report.proofs.check.check.Statement.{statement}
+use Rattle.report.proofs.check.check.Tie as tie
+
+common-requires : tie.Need-common-requires
+common-requires c κs = search needs
+
+body-requires : tie.Need-body-requires
+body-requires c κs = search needs
+
+slot-kind-requires : tie.Need-slot-kind-requires
+slot-kind-requires c κs = search needs
+
+slots-requires : tie.Need-slots-requires
+slots-requires c κs = search needs
+
+last-requires : tie.Need-last-requires
+last-requires c κs = search needs
+
+returns : tie.Need-returns
+unfolding verdict values
+returns c =
+    let s = c .before .before .before .before .before .before .before in
+    let text = s .args .r .text in
+    let good = s .good .0 .1 .1 .1 .1 .1 .1 .1 .0 in
+    let l : length text ≡ 18 = length-unmapped _ text 18 (good .1 .0 .1) in
+    let b : Bytes text = λ i. elem-fits-field w8 w8 text _ i (good .1 .1) tt .fits in
+    simp (
+      c .last .ensures,
+      c .before .slots2 .ensures,
+      c .before .before .slot-kind .ensures,
+      c .before .before .before .body .ensures text b l,
+      c .before .before .before .before .common2 .ensures,
+      then-assoc,
+      fine-then,
+    )
+
+pub check-spec : {M : Type 1} → statement M
+check-spec =
+    tie.close
+    (tie.spec
+    common-requires
+    body-requires
+    slot-kind-requires
+    slots-requires
+    last-requires
+    returns)

@@ -1,0 +1,9 @@
+pub mod Refusals
+pub mod Layout
+pub mod Verdict
+pub mod Records
+pub mod Reading
+pub mod Meaning
+pub mod Slots
+pub mod Conforms
+pub mod Reasons

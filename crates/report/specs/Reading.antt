@@ -1,0 +1,52 @@
+-- What reading a lent frame answers (document 01): "1 to 7 in that order, then 8, 9, 10 by lowest bit".
+use Prim.Native.Nat.{ℕ}
+use mathlib.Core.Bool.{Bool, true, false}
+use mathlib.Core.List.{List, [], _∷_}
+use lib.ListN.{length}
+use lib.Dec.{eqb}
+use Rattle.bits.specs.Frame.{fieldOf}
+use Rattle.parity.specs.Parity.{parityRight}
+use Rattle.report.specs.declared.refusal.Verdict.{Verdict}
+use Rattle.report.specs.declared.refusal.Verdict.the-variants.{Fine, Refused}
+use Rattle.report.specs.declared.refusal.Refusal.the-variants.{Length, Padding, Preamble, Parity, Message, Version, Category}
+use Rattle.report.specs.declared.record.Body.{Body}
+use Rattle.report.specs.declared.record.Body.the-variants.{Nothing, Hypocenter, Intensity, Nankai, AshFall}
+use Rattle.report.specs.declared.record.Record.{Record}
+use Rattle.report.specs.declared.read.Reading.{Reading}
+use Rattle.report.specs.Refusals.{_then_, unless}
+use Rattle.report.specs.Layout.{Span, _to_, layout}
+use Rattle.report.specs.Verdict.{allowed, verdict}
+use Rattle.report.specs.Records.{bodyOf, recordOf, zeros, valuesOf}
+
+-- "53, 9A or C6 hexadecimal"
+abbrev pub preambles : List Span
+preambles = 0x53 to 0x53 ∷ 0x9A to 0x9A ∷ 0xC6 to 0xC6 ∷ []
+
+-- "category not 2, 3, 4, 9"
+abbrev pub categories : List Span
+categories = 2 to 2 ∷ 3 to 3 ∷ 4 to 4 ∷ 9 to 9 ∷ []
+
+-- 2 to 7
+unfoldable pub outerOf : List ℕ → Verdict
+outerOf s =
+    unless (eqb (fieldOf s 250 6) 0) Padding
+    then unless (allowed preambles (fieldOf s 0 8)) Preamble
+    then unless (parityRight s) Parity
+    then unless (eqb (fieldOf s 8 6) 43) Message
+    then unless (eqb (fieldOf s 214 6) 1) Version
+    then unless (allowed categories (fieldOf s 17 4)) Category
+
+-- 8, 9, 10
+abbrev pub innerOf : List ℕ → Verdict
+innerOf s = verdict (layout (bodyOf s)) (valuesOf s (layout (bodyOf s)))
+
+abbrev pub readAnswer : List ℕ → Verdict
+readAnswer s = unless (eqb (length s) 32) Length then outerOf s then innerOf s
+
+-- the answer, with the record where nothing is refused
+abbrev pub reading : Verdict → Record → Reading
+reading Fine r = record { answer = Fine; «record» = r }
+reading (Refused x) r = record { answer = Refused x; «record» = zeros }
+
+abbrev pub readOf : List ℕ → Reading
+readOf s = reading (readAnswer s) (recordOf s)

@@ -1,0 +1,174 @@
+// What a frame says, as numbers in the narrowest type that holds them. Any value may stand in a
+// record; which of them can be written is for the check.
+ghost use mathlib.Core.Path.{_≡_};
+ghost use Rattle.report.specs.Layout.{layout, slotCount, slotFirst, slotBits};
+ghost use Rattle.report.specs.Verdict.{empty};
+ghost use Rattle.report.specs.Records.{slotValues};
+
+// The fields that every category has.
+pub struct Common {
+    pub rc: u8,
+    pub month: u8,
+    pub day: u8,
+    pub hour: u8,
+    pub minute: u8,
+    pub it: u8,
+}
+
+// When an earthquake or an eruption was.
+pub struct Time {
+    pub day: u8,
+    pub hour: u8,
+    pub minute: u8,
+}
+
+// A latitude or a longitude: side 0 is north or east, 1 is south or west.
+pub struct Angle {
+    pub side: u8,
+    pub degrees: u8,
+    pub minutes: u8,
+    pub seconds: u8,
+}
+
+// Category 2. What its depth and its magnitude say is told by `Depth::of` and `Magnitude::of`.
+pub struct Quake {
+    pub notification1: u16,
+    pub notification2: u16,
+    pub notification3: u16,
+    pub time: Time,
+    pub depth: u16,
+    pub magnitude: u8,
+    pub epicenter: u16,
+    pub latitude: Angle,
+    pub longitude: Angle,
+}
+
+// Category 4: the kind of information (Is), and which page of how many this is.
+pub struct Page {
+    pub serial: u8,
+    pub number: u8,
+    pub total: u8,
+}
+
+// Category 9. Its places are slots.
+pub struct Eruption {
+    pub time: Time,
+    pub warning: u8,
+    pub volcano: u16,
+}
+
+// What the category of a record has beside slots and text. `Nothing` is no category: the record of
+// zeros has it.
+pub enum Body {
+    Nothing,
+    Hypocenter(Quake),
+    Intensity(Time),
+    Nankai(Page),
+    AshFall(Eruption),
+}
+
+// A place that shakes (category 3: no hour, `strength` is the intensity, `place` the prefecture) or
+// on which ash falls (category 9).
+pub struct Slot {
+    pub hour: u8,
+    pub strength: u8,
+    pub place: u32,
+}
+
+// What the slots of a category list.
+pub enum SlotKind {
+    Nothing,
+    Prefectures,
+    Places,
+}
+
+// A report. What its category does not use is zero.
+pub struct Record {
+    pub preamble: u8,
+    pub reserved: u8,
+    pub common: Common,
+    pub body: Body,
+    pub slots: [Slot; 16],
+    pub text: [u8; 18],
+}
+
+impl SlotKind {
+    // How many slots there are.
+    pub fn count(self) -> usize
+        ensures { λ r. ⌜ r ≡ slotCount self ⌝ }
+    {
+        match self {
+            SlotKind::Nothing => 0,
+            SlotKind::Prefectures => 16,
+            SlotKind::Places => 4,
+        }
+    }
+
+    // The first bit of the first one.
+    pub fn first(self) -> u8
+        ensures { λ r. ⌜ r ≡ slotFirst self ⌝ }
+    {
+        match self {
+            SlotKind::Nothing => 0,
+            SlotKind::Prefectures => 69,
+            SlotKind::Places => 83,
+        }
+    }
+
+    // How wide each is.
+    pub fn bits(self) -> u8
+        ensures { λ r. ⌜ r ≡ slotBits self ⌝ }
+    {
+        match self {
+            SlotKind::Nothing => 0,
+            SlotKind::Prefectures => 9,
+            SlotKind::Places => 29,
+        }
+    }
+}
+
+impl Body {
+    // What the slots of its category list.
+    pub fn slot_kind(self) -> SlotKind
+        ensures { λ r. ⌜ r ≡ layout self .slots ⌝ }
+    {
+        match self {
+            Body::Nothing => SlotKind::Nothing,
+            Body::Hypocenter(_) => SlotKind::Nothing,
+            Body::Intensity(_) => SlotKind::Prefectures,
+            Body::Nankai(_) => SlotKind::Nothing,
+            Body::AshFall(_) => SlotKind::Places,
+        }
+    }
+
+    // The first bit of its category's spare, which ends before bit 214.
+    pub fn spare_first(self) -> u8
+        ensures { λ r. ⌜ r ≡ layout self .spareFirst ⌝ }
+    {
+        match self {
+            Body::Nothing => 53,
+            Body::Hypocenter(_) => 163,
+            Body::Intensity(_) => 213,
+            Body::Nankai(_) => 213,
+            Body::AshFall(_) => 199,
+        }
+    }
+}
+
+impl Slot {
+    // All its bits are zero: "an empty slot is never named".
+    pub fn empty(self, kind: SlotKind) -> bool
+        ensures { λ r. ⌜ r ≡ empty (slotValues kind self) ⌝ }
+    {
+        match kind {
+            SlotKind::Nothing => true,
+            SlotKind::Prefectures => self.strength == 0 && self.place == 0,
+            SlotKind::Places => {
+                if self.hour != 0 {
+                    return false;
+                }
+                self.strength == 0 && self.place == 0
+            }
+        }
+    }
+}
