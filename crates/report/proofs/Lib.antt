@@ -3,6 +3,7 @@ pub mod Tables
 pub mod Questions
 pub mod Spans
 pub mod Codes
+pub mod Filling
 pub mod Walks
 pub mod SlotTurns
 pub mod Outcomes

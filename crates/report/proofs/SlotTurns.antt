@@ -47,6 +47,11 @@ next-place Nothing i at h e = omega arith
 next-place Prefectures i at h e = omega arith
 next-place Places i at h e = omega arith
 
+pub more-place : (k : SlotKind) (i at : ℕ) → at ≡ slotFirst k + slotBits k * i → at + slotBits k ≡ slotFirst k + slotBits k * (i + 1)
+more-place Nothing i at e = omega arith
+more-place Prefectures i at e = omega arith
+more-place Places i at e = omega arith
+
 pub same-place : (k : SlotKind) (i at : ℕ) → at ≡ slotFirst k + slotBits k * i → at ≡ slotFirst k + slotBits k * (i + 1 - 1)
 same-place k i at e = let q : i + 1 - 1 ≡ i = omega arith in rw q e
 

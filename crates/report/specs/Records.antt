@@ -40,11 +40,9 @@ commonOf s = record {
 abbrev pub timeOf : List ℕ → ℕ → Time
 timeOf s a = record { day = fieldOf s a 5; hour = fieldOf s (a + 5) 5; minute = fieldOf s (a + 10) 6 }
 
-abbrev pub latitudeOf : List ℕ → Angle
-latitudeOf s = record { side = fieldOf s 122 1; degrees = fieldOf s 123 7; minutes = fieldOf s 130 6; seconds = fieldOf s 136 6 }
-
-abbrev pub longitudeOf : List ℕ → Angle
-longitudeOf s = record { side = fieldOf s 142 1; degrees = fieldOf s 143 8; minutes = fieldOf s 151 6; seconds = fieldOf s 157 6 }
+-- an angle whose degrees have w bits
+abbrev pub angleOf : List ℕ → ℕ → ℕ → Angle
+angleOf s a w = record { side = fieldOf s a 1; degrees = fieldOf s (a + 1) w; minutes = fieldOf s (a + 1 + w) 6; seconds = fieldOf s (a + 7 + w) 6 }
 
 abbrev pub quakeOf : List ℕ → Quake
 quakeOf s = record {
@@ -55,8 +53,8 @@ quakeOf s = record {
   depth = fieldOf s 96 9;
   magnitude = fieldOf s 105 7;
   epicenter = fieldOf s 112 10;
-  latitude = latitudeOf s;
-  longitude = longitudeOf s;
+  latitude = angleOf s 122 7;
+  longitude = angleOf s 142 8;
 }
 
 abbrev pub pageOf : List ℕ → Page
@@ -87,8 +85,12 @@ slotOf Places s a = record { hour = fieldOf s a 3; strength = fieldOf s (a + 3) 
 unfoldable pub slotsOf : List ℕ → SlotKind → List Slot
 slotsOf s k = each (slotCount k) (λ i. slotOf k s (slotFirst k + slotBits k * i)) ++ replicate (16 - slotCount k) noSlot
 
+-- "Text at 57: 18 bytes, any"
+abbrev pub pageText : List ℕ → List ℕ
+pageText s = each 18 (λ i. fieldOf s (57 + 8 * i) 8)
+
 unfoldable pub textOf : List ℕ → Body → List ℕ
-textOf s (Nankai p) = each 18 (λ i. fieldOf s (57 + 8 * i) 8)
+textOf s (Nankai p) = pageText s
 textOf s Nothing = replicate 18 0
 textOf s (Hypocenter q) = replicate 18 0
 textOf s (Intensity t) = replicate 18 0

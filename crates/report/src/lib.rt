@@ -4,5 +4,6 @@
 pub mod refusal; // why a call is refused
 pub mod record; // what a frame says
 pub mod meaning; // what the numbers in it say
+pub mod decode; // bits as a record
 pub mod check; // the rules, on values
 pub mod read; // from a lent frame to a record

@@ -1,0 +1,212 @@
+// A frame's bits as a record. Nothing is refused here: any bits give a record, and the rules are
+// asked of it afterwards.
+ghost use mathlib.Core.Path.{_≡_};
+ghost use Prim.Native.Nat.{_≤_};
+ghost use Rattle.report.specs.Records.{commonOf, timeOf, angleOf, quakeOf, pageOf, eruptionOf, bodyOf, slotOf, slotsOf, pageText, textOf, recordOf, zeros};
+use crate::record::Angle;
+use crate::record::Body;
+use crate::record::Common;
+use crate::record::Eruption;
+use crate::record::Page;
+use crate::record::Quake;
+use crate::record::Record;
+use crate::record::Slot;
+use crate::record::SlotKind;
+use crate::record::Time;
+
+fn common_of(f: [u8; 32]) -> Common
+    ensures { λ r. ⌜ r ≡ commonOf f ⌝ }
+{
+    Common {
+        rc: bits::field8(f, 14, 3),
+        month: bits::field8(f, 21, 4),
+        day: bits::field8(f, 25, 5),
+        hour: bits::field8(f, 30, 5),
+        minute: bits::field8(f, 35, 6),
+        it: bits::field8(f, 41, 2),
+    }
+}
+
+fn time_at(f: [u8; 32], at: usize) -> Time
+    requires { ⌜ at ≤ 200 ⌝ }
+    ensures { λ r. ⌜ r ≡ timeOf f at ⌝ }
+{
+    Time {
+        day: bits::field8(f, at, 5),
+        hour: bits::field8(f, at + 5, 5),
+        minute: bits::field8(f, at + 10, 6),
+    }
+}
+
+// An angle whose degrees have `width` bits.
+fn angle_at(f: [u8; 32], at: usize, width: usize) -> Angle
+    requires { ⌜ (at ≤ 200) × (width ≤ 8) ⌝ }
+    ensures { λ r. ⌜ r ≡ angleOf f at width ⌝ }
+{
+    Angle {
+        side: bits::field8(f, at, 1),
+        degrees: bits::field8(f, at + 1, width),
+        minutes: bits::field8(f, at + 1 + width, 6),
+        seconds: bits::field8(f, at + 7 + width, 6),
+    }
+}
+
+fn quake_of(f: [u8; 32]) -> Quake
+    ensures { λ r. ⌜ r ≡ quakeOf f ⌝ }
+{
+    Quake {
+        notification1: bits::field16(f, 53, 9),
+        notification2: bits::field16(f, 62, 9),
+        notification3: bits::field16(f, 71, 9),
+        time: time_at(f, 80),
+        depth: bits::field16(f, 96, 9),
+        magnitude: bits::field8(f, 105, 7),
+        epicenter: bits::field16(f, 112, 10),
+        latitude: angle_at(f, 122, 7),
+        longitude: angle_at(f, 142, 8),
+    }
+}
+
+fn page_of(f: [u8; 32]) -> Page
+    ensures { λ r. ⌜ r ≡ pageOf f ⌝ }
+{
+    Page {
+        serial: bits::field8(f, 53, 4),
+        number: bits::field8(f, 201, 6),
+        total: bits::field8(f, 207, 6),
+    }
+}
+
+fn eruption_of(f: [u8; 32]) -> Eruption
+    ensures { λ r. ⌜ r ≡ eruptionOf f ⌝ }
+{
+    Eruption {
+        time: time_at(f, 53),
+        warning: bits::field8(f, 69, 2),
+        volcano: bits::field16(f, 71, 12),
+    }
+}
+
+fn body_of(f: [u8; 32]) -> Body
+    ensures { λ r. ⌜ r ≡ bodyOf f ⌝ }
+{
+    match bits::field8(f, 17, 4) {
+        2 => Body::Hypocenter(quake_of(f)),
+        3 => Body::Intensity(time_at(f, 53)),
+        4 => Body::Nankai(page_of(f)),
+        9 => Body::AshFall(eruption_of(f)),
+        _ => Body::Nothing,
+    }
+}
+
+fn slot_at(f: [u8; 32], kind: SlotKind, at: usize) -> Slot
+    requires { ⌜ at ≤ 220 ⌝ }
+    ensures { λ r. ⌜ r ≡ slotOf kind f at ⌝ }
+{
+    match kind {
+        SlotKind::Nothing => Slot {
+            hour: 0,
+            strength: 0,
+            place: 0,
+        },
+        SlotKind::Prefectures => Slot {
+            hour: 0,
+            strength: bits::field8(f, at, 3),
+            place: bits::field32(f, at + 3, 6),
+        },
+        SlotKind::Places => Slot {
+            hour: bits::field8(f, at, 3),
+            strength: bits::field8(f, at + 3, 3),
+            place: bits::field32(f, at + 6, 23),
+        },
+    }
+}
+
+fn slots_of(f: [u8; 32], kind: SlotKind) -> [Slot; 16]
+    ensures { λ r. ⌜ r ≡ slotsOf f kind ⌝ }
+{
+    let none = Slot {
+        hour: 0,
+        strength: 0,
+        place: 0,
+    };
+    let mut slots = [none; 16];
+    let count = kind.count();
+    let bits = kind.bits() as usize;
+    let mut at = kind.first() as usize;
+    let mut k = 0;
+    while k < count {
+        let s = slot_at(f, kind, at);
+        slots[k] = s;
+        at += bits;
+        k += 1;
+    }
+    slots
+}
+
+fn page_text(f: [u8; 32]) -> [u8; 18]
+    ensures { λ r. ⌜ r ≡ pageText f ⌝ }
+{
+    let mut text = [0u8; 18];
+    let mut k = 0;
+    while k < 18 {
+        text[k] = bits::field8(f, 57 + 8 * k, 8);
+        k += 1;
+    }
+    text
+}
+
+fn text_of(f: [u8; 32], body: Body) -> [u8; 18]
+    ensures { λ r. ⌜ r ≡ textOf f body ⌝ }
+{
+    match body {
+        Body::Nothing => [0u8; 18],
+        Body::Hypocenter(_) => [0u8; 18],
+        Body::Intensity(_) => [0u8; 18],
+        Body::Nankai(_) => page_text(f),
+        Body::AshFall(_) => [0u8; 18],
+    }
+}
+
+pub fn decode(f: [u8; 32]) -> Record
+    ensures { λ r. ⌜ r ≡ recordOf f ⌝ }
+{
+    let body = body_of(f);
+    let slots = slots_of(f, body.slot_kind());
+    let text = text_of(f, body);
+    Record {
+        preamble: bits::field8(f, 0, 8),
+        reserved: bits::field8(f, 220, 6),
+        common: common_of(f),
+        body: body,
+        slots: slots,
+        text: text,
+    }
+}
+
+// The record of a refused reading.
+pub fn record_of_zeros() -> Record
+    ensures { λ r. ⌜ r ≡ zeros ⌝ }
+{
+    let none = Slot {
+        hour: 0,
+        strength: 0,
+        place: 0,
+    };
+    let common = Common {
+        rc: 0,
+        month: 0,
+        day: 0,
+        hour: 0,
+        minute: 0,
+        it: 0,
+    };
+    Record {
+        preamble: 0,
+        reserved: 0,
+        common: common,
+        body: Body::Nothing,
+        slots: [none; 16],
+        text: [0u8; 18],
+    }
+}
