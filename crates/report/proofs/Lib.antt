@@ -13,6 +13,8 @@ pub mod JudgedSlots
 pub mod JudgedFrames
 pub mod Ordered
 pub mod Frames
+pub mod Agree
+pub mod Ways
 pub mod Numbers
 pub mod Lengths
 pub mod PaperValues

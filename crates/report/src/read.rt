@@ -1,9 +1,78 @@
-// Reading a lent frame.
+// Reading a lent frame: the bits first, then the rules.
+ghost use mathlib.Core.Path.{_≡_};
+ghost use Rattle.report.specs.Records.{recordOf};
+ghost use Rattle.report.specs.Reading.{outerOf, innerOf, reading, readOf};
+use crate::check::check;
+use crate::check::is_category;
+use crate::check::is_preamble;
+use crate::decode::decode;
+use crate::decode::record_of_zeros;
 use crate::record::Record;
+use crate::refusal::Refusal;
 use crate::refusal::Verdict;
 
 // The record of a frame, or why there is none: then the record is that of zeros.
 pub struct Reading {
     pub answer: Verdict,
     pub record: Record,
+}
+
+// 2 to 7, which are asked before any range.
+fn outer(f: [u8; 32]) -> Verdict
+    ensures { λ r. ⌜ r ≡ outerOf f ⌝ }
+{
+    Verdict::Fine
+        .unless(bits::field8(f, 250, 6) == 0, Refusal::Padding)
+        .unless(is_preamble(bits::field8(f, 0, 8)), Refusal::Preamble)
+        .unless(parity::parity_right(f), Refusal::Parity)
+        .unless(bits::field8(f, 8, 6) == 43, Refusal::Message)
+        .unless(bits::field8(f, 214, 6) == 1, Refusal::Version)
+        .unless(is_category(bits::field8(f, 17, 4)), Refusal::Category)
+}
+
+// No record leaves with a refusal.
+fn conclude(found: Verdict, read: Record) -> Reading
+    ensures { λ r. ⌜ r ≡ reading found read ⌝ }
+{
+    match found {
+        Verdict::Fine => Reading {
+            answer: found,
+            record: read,
+        },
+        Verdict::Refused(_) => Reading {
+            answer: found,
+            record: record_of_zeros(),
+        },
+    }
+}
+
+// 8, 9, 10, and the record.
+fn inner(f: [u8; 32]) -> Reading
+    requires { ⌜ outerOf f ≡ Verdict.Fine ⌝ }
+    ensures { λ r. ⌜ r ≡ reading (innerOf f) (recordOf f) ⌝ }
+{
+    let record = decode(f);
+    let body = record.body;
+    let first = body.spare_first() as usize;
+    let found = check(
+        record,
+        bits::field64(f, 43, 10),
+        bits::field64(f, first, 214 - first),
+    );
+    conclude(found, record)
+}
+
+// Reads a lent frame, of whatever length and content.
+pub fn read(frame: &[u8]) -> Reading
+    ensures { λ r. ⌜ r ≡ readOf (now (frame .entry)) ⌝ }
+{
+    if frame.len() != 32 {
+        return conclude(Verdict::Refused(Refusal::Length), record_of_zeros());
+    }
+    let f = bits::frame_of(frame);
+    let found = outer(f);
+    match found {
+        Verdict::Fine => inner(f),
+        Verdict::Refused(_) => conclude(found, record_of_zeros()),
+    }
 }

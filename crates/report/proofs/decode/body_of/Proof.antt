@@ -40,7 +40,7 @@ returns-4 c = ap AshFall (c .eruption-of .ensures) ∙ sym (ap (bodyBy (c .befor
 
 returns-5 : tie.Need-returns-5
 unfolding bodyBy
-returns-5 c = 
+returns-5 c =
     let e = c .before .field8 .ensures .0 in
     let other = c .match .rest in
     simp (

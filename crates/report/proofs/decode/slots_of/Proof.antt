@@ -19,7 +19,7 @@ abbrev nth : List ℕ → SlotKind → ℕ → Slot
 nth f k i = slotOf k f (slotFirst k + slotBits k * i)
 
 abbrev Inv-loop : tie.InvT-loop
-Inv-loop f kind slots₀ count bits at₀ k₀ slots at k = 
+Inv-loop f kind slots₀ count bits at₀ k₀ slots at k =
     (k ≤ count)
     × ((at ≡ slotFirst kind + slotBits kind * k) × ((length slots ≡ 16) × (slots ≡ each k (nth f kind) ++ replicate (16 - k) noSlot)))
 
@@ -75,7 +75,7 @@ loop-less : tie.Need-loop-less Inv-loop μ-loop
 loop-less c = omega arith
 
 loop-again : tie.Need-loop-again Inv-loop μ-loop
-loop-again c = 
+loop-again c =
     let i = c .before in
     let l = i .before .loop in
     let a = i .before .before .before .before .before .args in

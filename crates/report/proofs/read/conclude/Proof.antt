@@ -1,0 +1,23 @@
+-- `report::read::conclude` meets its contract. Assumes nothing.
+use borrow.Author.Needs.{needs}
+use Rattle.report.proofs.read.conclude.Statement.{statement}
+use Rattle.report.proofs.read.conclude.Tie as tie
+
+enum-told : tie.Need-enum-told
+enum-told c = search needs
+
+enum-told-2 : tie.Need-enum-told-2
+enum-told-2 c = search needs
+
+record-of-zeros-requires : tie.Need-record-of-zeros-requires
+record-of-zeros-requires c κs = search needs
+
+returns : tie.Need-returns
+returns c = simp (c .enum-told .given .1)
+
+returns-2 : tie.Need-returns-2
+returns-2 c = simp (c .before .enum-told2 .given .1, c .record-of-zeros .ensures)
+
+pub conclude-spec : {M : Type 1} → statement M
+conclude-spec =
+    tie.close (tie.spec enum-told enum-told-2 record-of-zeros-requires returns returns-2)

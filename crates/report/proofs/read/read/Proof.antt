@@ -1,0 +1,66 @@
+-- `report::read::read` meets its contract. Assumes nothing.
+use Rattle.report.proofs.Ways.{not-a-frame, refused-early, read-on}
+use borrow.Author.Needs.{needs}
+use mathlib.Core.Path.{sym, _∙_}
+use Rattle.report.proofs.read.read.Statement.{statement}
+use Rattle.report.proofs.read.read.Tie as tie
+
+record-of-zeros-requires : tie.Need-record-of-zeros-requires
+record-of-zeros-requires c κs = search needs
+
+conclude-requires : tie.Need-conclude-requires
+conclude-requires c κs = search needs
+
+returns : tie.Need-returns
+returns c =
+    let i = c .before .before in
+    not-a-frame (i .before .before .args .frame .now) (c .before .record-of-zeros .result) (c .conclude .result) (i .if1 .taken) (c .conclude .ensures)
+
+frame-of-requires : tie.Need-frame-of-requires
+frame-of-requires c κs = search needs
+
+outer-requires : tie.Need-outer-requires
+outer-requires c κs = search needs
+
+enum-told : tie.Need-enum-told
+enum-told c = search needs
+
+inner-requires : tie.Need-inner-requires
+inner-requires c κs = sym (c .before .before .outer .ensures) ∙ c .enum-told .given .1
+
+enum-told-2 : tie.Need-enum-told-2
+enum-told-2 c = search needs
+
+record-of-zeros-requires-2 : tie.Need-record-of-zeros-requires-2
+record-of-zeros-requires-2 c κs = search needs
+
+conclude-requires-2 : tie.Need-conclude-requires-2
+conclude-requires-2 c κs = search needs
+
+returns-2 : tie.Need-returns-2
+returns-2 c =
+    let o = c .before .before .before in
+    read-on _ _ (o .outer .result) _ (o .before .before .if1 .left) (o .before .frame-of .ensures) (o .outer .ensures) (c .before .enum-told .given .1) (c .inner .ensures)
+
+returns-3 : tie.Need-returns-3
+returns-3 c =
+    let e = c .before .before in
+    let o = e .before .before in
+    refused-early _ _ (o .outer .result) _ _ _ (o .before .before .if1 .left) (o .before .frame-of .ensures) (o .outer .ensures) (e .enum-told2 .given .1) (c .conclude2 .ensures)
+
+pub read-spec : {M : Type 1} → statement M
+read-spec =
+    tie.close
+    (tie.spec
+    record-of-zeros-requires
+    conclude-requires
+    returns
+    frame-of-requires
+    outer-requires
+    enum-told
+    inner-requires
+    enum-told-2
+    record-of-zeros-requires-2
+    conclude-requires-2
+    returns-2
+    returns-3)
