@@ -67,7 +67,7 @@ head-agrees : (s : List ℕ) (l : Layout) → fieldOf s 8 6 ≡ 43 → l .code �
     → headValues (commonOf s) (l .code) (fieldOf s 43 10) ≡ map (cut s) (common l)
 head-agrees s l m e = rw (e, ← m)
 
-slots-agree : (s : List ℕ) (k : SlotKind)
+pub slots-agree : (s : List ℕ) (k : SlotKind)
     → map (slotValues k) (take (slotCount k) (slotsOf s k)) ≡ each (slotCount k) (λ i. map (cut s) (slotRows k (slotFirst k + slotBits k * i)))
 unfolding slotsOf
 slots-agree s Nothing = refl

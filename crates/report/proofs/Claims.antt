@@ -1,10 +1,10 @@
 -- What is proved of the definitions of this crate, each claim with the sentence of document 01 that it settles.
 -- Assumes nothing.
 use mathlib.Core.Path.{_≡_, ap}
-use mathlib.Core.Bool.{true}
-use mathlib.Core.List.{List, map}
-use Prim.Native.Nat.{ℕ, _≤_}
-use lib.ListN.{length}
+use mathlib.Core.Bool.{true, false}
+use mathlib.Core.List.{List, [], map}
+use Prim.Native.Nat.{ℕ, _≤_, _<_}
+use lib.ListN.{length, getD}
 use Rattle.report.specs.declared.refusal.Verdict.{Verdict}
 use Rattle.report.specs.declared.refusal.Verdict.the-variants.{Fine, Refused}
 use Rattle.report.specs.declared.refusal.Refusal.{Refusal}
@@ -12,8 +12,10 @@ use Rattle.report.specs.declared.refusal.Refusal.the-variants.{Range, Ga
 use Rattle.report.specs.declared.record.Body.{Body}
 use Rattle.report.specs.declared.record.Record.{Record}
 use Rattle.report.specs.Refusals.{says, answers}
-use Rattle.report.specs.Layout.{layout, allRows, tiles, allFit}
+use Rattle.report.specs.Layout.{layout, slotCount, allRows, tiles, allFit}
 use Rattle.report.specs.Records.{recordOf, zeros, valuesOf, values}
+use Rattle.report.specs.Verdict.{empty}
+use Rattle.report.specs.Meaning.{slotsOfCategory, usedOf}
 use Rattle.report.specs.Reading.{readAnswer, reading, readOf}
 use Rattle.report.specs.Conforms.{Conforms}
 use Rattle.report.specs.Reasons.{Fault, Lowest, readQuestions, WhyNotRead}
@@ -21,6 +23,7 @@ use Rattle.report.proofs.Tables.{layouts, all, tables-tile as tiled, ru
 use Rattle.report.proofs.Ordered.{Met}
 use Rattle.report.proofs.Frames.{layoutOf, frameValues, conforming-fine, fine-conforming, reason, faulty, faultless, no-gap}
 use Rattle.report.proofs.Lengths.{Filled, frame-filled, record-filled}
+use Rattle.report.proofs.Used.{counted-used, others-empty}
 use Rattle.report.proofs.Numbers.{says-apart, read-ten, refused-zeros}
 use Rattle.report.proofs.PaperValues.{found, expected, paperValues, every-row}
 
@@ -76,6 +79,18 @@ faultless-is-read s m h = faultless s m h
 -- "For a slot the gap is tested before its fields."
 pub gap-before-fields : (s : List ℕ) (p : ℕ) → readAnswer s ≡ Refused (Range p) → Fault (layoutOf s) (frameValues s) (Gap p) → ⊥
 gap-before-fields s p e f = no-gap s p e f
+
+-- ---- slots
+
+-- Not "an empty slot named by the first row of a table": each slot that is counted has something in it, in any record.
+pub counted-slots-are-used : (r : Record) (i : ℕ) → i < usedOf r → empty (getD (slotsOfCategory r) i []) ≡ false
+unfolding usedOf
+counted-slots-are-used r i h = counted-used (slotsOfCategory r) i h
+
+-- "After an empty slot every slot is empty": in a frame that is read, none behind the counted ones has.
+pub other-slots-are-empty : (s : List ℕ) → Conforms s → (i : ℕ) → usedOf (recordOf s) ≤ i → i < slotCount (layoutOf s .slots)
+    → empty (getD (slotsOfCategory (recordOf s)) i []) ≡ true
+other-slots-are-empty s c i u l = others-empty s c i u l
 
 -- ---- numbers
 

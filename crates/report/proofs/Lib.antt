@@ -15,6 +15,7 @@ pub mod Ordered
 pub mod Frames
 pub mod Agree
 pub mod Ways
+pub mod Used
 pub mod Numbers
 pub mod Lengths
 pub mod PaperValues

@@ -68,10 +68,10 @@ step k run at s ss true e = simp e
 step k run at s ss false e = simp (e, then-assoc)
 
 module _ (k : SlotKind) (ss : List Slot) (sixteen : length ss ≡ 16) where
-  taken : length (take (slotCount k) ss) ≡ slotCount k
+  pub taken : length (take (slotCount k) ss) ≡ slotCount k
   taken = simp length-take (omega (arith, at-most-sixteen k))
 
-  split : (i : ℕ) → i < slotCount k → drop i (take (slotCount k) ss) ≡ getD ss i noSlot ∷ drop (suc i) (take (slotCount k) ss)
+  pub split : (i : ℕ) → i < slotCount k → drop i (take (slotCount k) ss) ≡ getD ss i noSlot ∷ drop (suc i) (take (slotCount k) ss)
   split i h =
       let l : i < length (take (slotCount k) ss) = rw taken h in
       drop-cons (take (slotCount k) ss) i noSlot l ∙ ap (λ (s : Slot). s ∷ drop (suc i) (take (slotCount k) ss)) (getD-take (slotCount k) ss i noSlot h)

@@ -1,7 +1,8 @@
 // What the numbers of a record say, for whoever names them: codes that are no measure have names of
 // their own, and a number that says nothing is told as such.
 ghost use mathlib.Core.Path.{_≡_};
-ghost use Rattle.report.specs.Meaning.{depthOf, magnitudeOf, prefectureOf};
+ghost use Rattle.report.specs.Meaning.{depthOf, magnitudeOf, prefectureOf, usedOf};
+use crate::record::Record;
 
 pub enum Depth {
     // Kilometres, 0 to 500.
@@ -64,5 +65,26 @@ impl Prefecture {
             110000..=4799999 => Prefecture::Number((place / 100000) as u8),
             _ => Prefecture::Nowhere,
         }
+    }
+}
+
+impl Record {
+    // How many slots are used, 0 in a category without slots: whoever names places names this many.
+    pub fn slots_used(self) -> usize
+        ensures { λ r. ⌜ r ≡ usedOf self ⌝ }
+    {
+        let body = self.body;
+        let slots = self.slots;
+        let kind = body.slot_kind();
+        let count = kind.count();
+        let mut k = 0;
+        while k < count {
+            let s = slots[k];
+            if s.empty(kind) {
+                return k;
+            }
+            k += 1;
+        }
+        k
     }
 }
