@@ -1,10 +1,10 @@
 -- The parity rests on bits 0 to 225 alone. Assumes nothing.
-use mathlib.Core.Path.{_≡_, refl, ap₂, ap, sym, _∙_}
+use mathlib.Core.Path.{_≡_, refl, ap₂}
 use Prim.Native.Nat.{ℕ, zero, suc, _+_, _-_, _/_, _%_, _^_, _<_}
 use native.Mathlib.Omega.{arith}
 use mathlib.Core.List.{List}
 use lib.Pow.{shr-shr}
-use Rattle.bits.specs.Frame.{number, fieldOf}
+use Rattle.bits.specs.Frame.{number}
 use Rattle.parity.specs.Parity.{step, after, parityOf, parityOfFront}
 
 -- the register depends on the bits that it has taken

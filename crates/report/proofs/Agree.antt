@@ -1,9 +1,9 @@
 -- The values of the record of a frame are the values of the frame. Assumes nothing.
-use mathlib.Core.Path.{_≡_, refl, sym, ap, ap₂, _∙_, subst}
-use mathlib.Core.Logic.{inl, inr, ⊎-elim}
+use mathlib.Core.Path.{_≡_, refl, ap, ap₂, _∙_, subst}
+use mathlib.Core.Logic.{⊎-elim}
 use Prim.Native.Nat.{ℕ, _+_, _-_, _*_, _≤_}
 use native.Mathlib.Omega.{arith}
-use mathlib.Core.List.{List, [], _∷_, map}
+use mathlib.Core.List.{List, map}
 use lib.ListN.{take}
 use borrow.Author.Tests.{eqb-true}
 use Rattle.bits.specs.Frame.{fieldOf}
@@ -18,7 +18,7 @@ use Rattle.report.specs.Verdict.{Values, verdict}
 use Rattle.report.specs.Records.{each, commonOf, bodyBy, bodyOf, slotsOf, textOf, recordAs, recordOf, cut, valuesOf, headValues, lastValues, bodyValues, slotValues, values}
 use Rattle.report.specs.Reading.{categories, outerOf, innerOf, reading}
 use Rattle.report.specs.Conforms.{In}
-use Rattle.report.proofs.JudgedRows.{allowed-in}
+use Rattle.report.proofs.Spans.{allowed-in}
 use Rattle.report.proofs.Outcomes.{fine-both, unless-fine}
 
 -- what 5, 6 and 7 leave

@@ -1,5 +1,5 @@
 -- A depth, a magnitude or a category is let through exactly where it says something. Assumes nothing.
-use mathlib.Core.Path.{_≡_, refl, sym, ap, _∙_}
+use mathlib.Core.Path.{_≡_, refl, sym, _∙_}
 use mathlib.Core.Bool.{Bool, true, false, _&&_}
 use mathlib.Core.Logic.{_⊎_, inl, inr, ⊎-elim}
 use Prim.Native.Nat.{ℕ, zero, suc, _≤_, _<_}
@@ -13,10 +13,10 @@ use Rattle.report.specs.declared.meaning.Magnitude.{Magnitude}
 use Rattle.report.specs.declared.meaning.Magnitude.the-variants.{InRange, UnknownAboveEight, Unknown as NoMagnitude, OutOfRange as NotAMagnitude}
 use Rattle.report.specs.Layout.{Span, _to_}
 use Rattle.report.specs.Verdict.{allowed}
-use Rattle.report.specs.Conforms.{In}
 use Rattle.report.specs.Meaning.{depthOf, magnitudeOf}
 use Rattle.report.specs.Reading.{categories}
-use Rattle.report.proofs.Spans.{allowed-yes, allowed-no}
+use Rattle.report.proofs.Outcomes.{false-not-true}
+use Rattle.report.proofs.Spans.{in-span, span-in, in-allowed, not-allowed}
 
 abbrev depths : List Span
 depths = 0 to 501 ∷ 511 to 511 ∷ []
@@ -29,12 +29,12 @@ saysDepth OutOfRange = false
 
 by-depth : (v : ℕ) (a b c : Bool) → leb v 500 ≡ a → eqb v 501 ≡ b → eqb v 511 ≡ c → saysDepth (depthOf v) ≡ allowed depths v
 unfolding depthOf
-by-depth v true b c p q r = simp p (sym (allowed-yes depths v (inl (omega arith, omega (arith, leb-true v 500 p)))))
-by-depth v false true c p q r = simp (p, q) (sym (allowed-yes depths v (inl (omega arith, omega (arith, eqb-true v 501 q)))))
-by-depth v false false true p q r = simp (p, q, r) (sym (allowed-yes depths v (inr (inl (omega (arith, eqb-true v 511 r), omega (arith, eqb-true v 511 r))))))
+by-depth v true b c p q r = simp p (sym (in-allowed depths v (inl (omega arith, omega (arith, leb-true v 500 p)))))
+by-depth v false true c p q r = simp (p, q) (sym (in-allowed depths v (inl (omega arith, omega (arith, eqb-true v 501 q)))))
+by-depth v false false true p q r = simp (p, q, r) (sym (in-allowed depths v (inr (inl (omega (arith, eqb-true v 511 r), omega (arith, eqb-true v 511 r))))))
 by-depth v false false false p q r =
     simp (p, q, r)
-    (sym (allowed-no depths v (λ h. ⊎-elim (λ k. eqb-false v 501 q (omega (arith, leb-false v 500 p))) (λ h. ⊎-elim (λ k. eqb-false v 511 r (omega arith)) (λ h. h) h) h)))
+    (sym (not-allowed depths v (λ h. ⊎-elim (λ k. eqb-false v 501 q (omega (arith, leb-false v 500 p))) (λ h. ⊎-elim (λ k. eqb-false v 511 r (omega arith)) (λ h. h) h) h)))
 
 pub depth-known : (v : ℕ) → saysDepth (depthOf v) ≡ allowed depths v
 depth-known v = by-depth v (leb v 500) (eqb v 501) (eqb v 511) refl refl refl
@@ -48,26 +48,16 @@ saysMagnitude UnknownAboveEight = true
 saysMagnitude NoMagnitude = true
 saysMagnitude NotAMagnitude = false
 
-outside : (v : ℕ) (a b : Bool) → leb 1 v ≡ a → leb v 101 ≡ b → leb 1 v && leb v 101 ≡ false → ((1 ≤ v) × (v ≤ 101)) → ⊥
-outside v false b p q e k = omega (arith, leb-false 1 v p)
-outside v true false p q e k = omega (arith, leb-false v 101 q)
-outside v true true p q e k = let z : _≡_ {A = ℕ} 0 1 = cc in omega arith
-
-inside : (v : ℕ) (a b : Bool) → leb 1 v ≡ a → leb v 101 ≡ b → leb 1 v && leb v 101 ≡ true → (1 ≤ v) × (v ≤ 101)
-inside v true true p q e = (leb-true 1 v p, leb-true v 101 q)
-inside v true false p q e = let z : _≡_ {A = ℕ} 0 1 = cc in absurd (omega arith)
-inside v false b p q e = let z : _≡_ {A = ℕ} 0 1 = cc in absurd (omega arith)
-
 by-magnitude : (v : ℕ) (a b c : Bool) → leb 1 v && leb v 101 ≡ a → eqb v 126 ≡ b → eqb v 127 ≡ c → saysMagnitude (magnitudeOf v) ≡ allowed magnitudes v
 unfolding magnitudeOf
-by-magnitude v true b c p q r = simp p (sym (allowed-yes magnitudes v (inl (inside v (leb 1 v) (leb v 101) refl refl p))))
-by-magnitude v false true c p q r = simp (p, q) (sym (allowed-yes magnitudes v (inr (inl (omega (arith, eqb-true v 126 q), omega (arith, eqb-true v 126 q))))))
+by-magnitude v true b c p q r = simp p (sym (in-allowed magnitudes v (inl (in-span 1 101 v p))))
+by-magnitude v false true c p q r = simp (p, q) (sym (in-allowed magnitudes v (inr (inl (omega (arith, eqb-true v 126 q), omega (arith, eqb-true v 126 q))))))
 by-magnitude v false false true p q r =
-    simp (p, q, r) (sym (allowed-yes magnitudes v (inr (inr (inl (omega (arith, eqb-true v 127 r), omega (arith, eqb-true v 127 r)))))))
+    simp (p, q, r) (sym (in-allowed magnitudes v (inr (inr (inl (omega (arith, eqb-true v 127 r), omega (arith, eqb-true v 127 r)))))))
 by-magnitude v false false false p q r =
     simp (p, q, r)
-    (sym (allowed-no magnitudes v
-    (λ h. ⊎-elim (outside v (leb 1 v) (leb v 101) refl refl p)
+    (sym (not-allowed magnitudes v
+    (λ h. ⊎-elim (λ k. false-not-true (sym p ∙ span-in 1 101 v k))
     (λ h. ⊎-elim (λ k. eqb-false v 126 q (omega arith)) (λ h. ⊎-elim (λ k. eqb-false v 127 r (omega arith)) (λ h. h) h) h) h)))
 
 pub magnitude-known : (v : ℕ) → saysMagnitude (magnitudeOf v) ≡ allowed magnitudes v

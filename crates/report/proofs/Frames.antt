@@ -22,7 +22,7 @@ use Rattle.report.specs.Conforms.{In, Conforms}
 use Rattle.report.specs.Reasons.{place, Fault, Lowest, readQuestions, WhyNotRead}
 use Rattle.report.proofs.Outcomes.{then-assoc}
 use Rattle.report.proofs.Judged.{turn}
-use Rattle.report.proofs.JudgedRows.{allowed-in, in-allowed}
+use Rattle.report.proofs.Spans.{allowed-in, in-allowed}
 use Rattle.report.proofs.JudgedFrames.{JudgesAll, whole}
 use Rattle.report.proofs.Ordered.{Met, Answers, unquestioned, question, past}
 

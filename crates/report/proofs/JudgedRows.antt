@@ -1,39 +1,19 @@
 -- One field, and fields one behind the other, as stretches of a frame. Assumes nothing.
 use mathlib.Core.Path.{_≡_}
 use mathlib.Core.Bool.{Bool, true, _&&_}
-use mathlib.Core.Logic.{inl, inr, ⊎-elim}
 use Prim.Native.Nat.{ℕ, suc, _≤_, _<_}
 use native.Mathlib.Omega.{arith}
 use mathlib.Core.List.{List, [], _∷_}
 use lib.Dec.{leb, eqb}
-use borrow.Author.Tests.{eqb-true, leb-true, le-leb, eq-eqb}
+use borrow.Author.Tests.{eqb-true, leb-true, eq-eqb}
 use Rattle.report.specs.declared.refusal.Refusal.the-variants.{Range, Spare}
-use Rattle.report.specs.Layout.{Span, _to_, Rule, among, rising, spare, Row}
+use Rattle.report.specs.Layout.{Rule, among, rising, spare, Row}
 use Rattle.report.specs.Verdict.{allowed, judge, walk}
 use Rattle.report.specs.Conforms.{In, Keeps, Kept}
 use Rattle.report.specs.Reasons.{blame, RowFault}
-use Rattle.report.proofs.Outcomes.{false-not-true, and-both, both-and, or-either, left-or, right-or}
+use Rattle.report.proofs.Outcomes.{and-both}
+use Rattle.report.proofs.Spans.{in-span, span-in, allowed-in, in-allowed}
 use Rattle.report.proofs.Judged.{Judges, unasked, asked, join}
-
--- ---- spans
-
-in-span : (lo hi v : ℕ) → leb lo v && leb v hi ≡ true → (lo ≤ v) × (v ≤ hi)
-in-span lo hi v e = let q = and-both (leb lo v) (leb v hi) e in (leb-true lo v (q .0), leb-true v hi (q .1))
-
-span-in : (lo hi v : ℕ) → (lo ≤ v) × (v ≤ hi) → leb lo v && leb v hi ≡ true
-span-in lo hi v h = both-and (leb lo v) (leb v hi) (le-leb lo v (h .0)) (le-leb v hi (h .1))
-
-pub allowed-in : (ss : List Span) (v : ℕ) → allowed ss v ≡ true → In ss v
-unfolding allowed
-allowed-in [] v e = false-not-true e
-allowed-in ((lo to hi) ∷ ss) v e =
-    ⊎-elim (λ h. inl (in-span lo hi v h)) (λ h. inr (allowed-in ss v h)) (or-either (leb lo v && leb v hi) (allowed ss v) e)
-
-pub in-allowed : (ss : List Span) (v : ℕ) → In ss v → allowed ss v ≡ true
-unfolding allowed
-in-allowed [] v h = absurd h
-in-allowed ((lo to hi) ∷ ss) v h =
-    ⊎-elim (λ k. left-or _ (allowed ss v) (span-in lo hi v k)) (λ k. right-or (leb lo v && leb v hi) _ (in-allowed ss v k)) h
 
 -- ---- one field
 

@@ -1,6 +1,5 @@
 pub mod Claims
 pub mod Tables
-pub mod Questions
 pub mod Spans
 pub mod Codes
 pub mod Filling

@@ -45,6 +45,15 @@ unfolding _then_
 then-assoc Fine b c = refl
 then-assoc (Refused r) b c = refl
 
+pub fine-then : (a : Verdict) → Fine then a ≡ a
+unfolding _then_
+fine-then a = refl
+
+pub then-fine : (a : Verdict) → a then Fine ≡ a
+unfolding _then_
+then-fine Fine = refl
+then-fine (Refused r) = refl
+
 -- a question that is met leaves the answer to those behind it
 pub met-then : (b : Bool) (r : Refusal) (w : Verdict) → b ≡ true → unless b r then w ≡ w
 unfolding unless _then_
@@ -66,6 +75,10 @@ refused-one Fine b x e = inr (refl, e)
 refused-one (Refused r) b x e = inl e
 
 -- ---- tests
+
+pub and-true : (b : Bool) → b && true ≡ b
+and-true true = refl
+and-true false = refl
 
 pub and-both : (a b : Bool) → a && b ≡ true → (a ≡ true) × (b ≡ true)
 and-both true b e = (refl, e)

@@ -1,24 +1,23 @@
 -- The loop over the slots of a record: where each slot stands, one turn, and the end. Assumes nothing.
 use mathlib.Core.Path.{_≡_, refl, sym, ap, _∙_}
-use mathlib.Core.Bool.{Bool, true, false, not}
-use Prim.Native.Nat.{ℕ, zero, suc, _+_, _-_, _*_, _≤_, _<_}
+use mathlib.Core.Bool.{Bool, true, false}
+use Prim.Native.Nat.{ℕ, suc, _+_, _-_, _*_, _≤_, _<_}
 use native.Mathlib.Omega.{arith}
 use native.Mathlib.Numerals.{add-one}
-use mathlib.Core.List.{List, [], _∷_, map}
+use mathlib.Core.List.{List, _∷_, map}
 use lib.ListN.{length, getD, take, drop, length-take, drop-of-length-le}
 use lib.Seq.{drop-cons, getD-take}
 use Rattle.report.specs.declared.refusal.Verdict.{Verdict}
-use Rattle.report.specs.declared.refusal.Verdict.the-variants.{Fine}
 use Rattle.report.specs.declared.record.Slot.{Slot}
 use Rattle.report.specs.declared.record.SlotKind.{SlotKind}
 use Rattle.report.specs.declared.record.SlotKind.the-variants.{Nothing, Prefectures, Places}
 use Rattle.report.specs.declared.check.Run.{Run}
-use Rattle.report.specs.Refusals.{_then_, unless}
+use Rattle.report.specs.Refusals.{_then_}
 use Rattle.report.specs.Layout.{slotCount, slotFirst, slotBits, slotRows}
 use Rattle.report.specs.Verdict.{empty, walk, later, slotsVerdict}
 use Rattle.report.specs.Records.{noSlot, slotValues}
 use Rattle.report.specs.Slots.{laterRun}
-use Rattle.report.proofs.Questions.{then-assoc, then-fine}
+use Rattle.report.proofs.Outcomes.{then-assoc, then-fine}
 
 -- ---- where a slot stands
 

@@ -2,9 +2,7 @@
 use mathlib.Core.Path.{_≡_, refl}
 use mathlib.Core.Bool.{Bool, true, _&&_}
 use mathlib.Core.List.{List, [], _∷_}
-use Rattle.report.specs.declared.record.Body.{Body}
-use Rattle.report.specs.declared.record.Body.the-variants.{Nothing, Hypocenter, Intensity, Nankai, AshFall}
-use Rattle.report.specs.Layout.{Layout, hypocenter, intensity, nankai, ashFall, nothing, layout, allRows, tiles, allFit}
+use Rattle.report.specs.Layout.{Layout, hypocenter, intensity, nankai, ashFall, nothing, allRows, tiles, allFit}
 
 abbrev pub layouts : List Layout
 layouts = hypocenter ∷ intensity ∷ nankai ∷ ashFall ∷ nothing ∷ []

@@ -1,6 +1,6 @@
 -- Walks over the fields of a category, cut into the pieces that the code asks. Assumes nothing.
 use mathlib.Core.Path.{_≡_, refl, sym, ap, _∙_}
-use mathlib.Core.Bool.{Bool, true, false, _&&_}
+use mathlib.Core.Bool.{Bool, _&&_}
 use Prim.Native.Nat.{ℕ, zero, suc, _+_, _≤_, _<_, zero-le}
 use native.Mathlib.Nat.{suc-ne-zero, suc-inj}
 use native.Mathlib.Omega.{arith}
@@ -10,7 +10,6 @@ use lib.ListN.{length}
 use lib.Dec.{leb, eqb}
 use Rattle.bits.specs.Frame.{Bytes}
 use Rattle.report.specs.declared.refusal.Verdict.{Verdict}
-use Rattle.report.specs.declared.refusal.Verdict.the-variants.{Fine}
 use Rattle.report.specs.declared.refusal.Refusal.{Refusal}
 use Rattle.report.specs.declared.refusal.Refusal.the-variants.{Range, Spare}
 use Rattle.report.specs.declared.record.Common.{Common}
@@ -18,11 +17,11 @@ use Rattle.report.specs.declared.record.Quake.{Quake}
 use Rattle.report.specs.declared.record.Page.{Page}
 use Rattle.report.specs.declared.record.Body.the-variants.{Nankai}
 use Rattle.report.specs.Refusals.{_then_, unless}
-use Rattle.report.specs.Layout.{_to_, Layout, common, Row, row, within, time, angle, notification, depth, magnitude, hypocenter, nankai, bytes, page}
+use Rattle.report.specs.Layout.{_to_, Layout, common, time, angle, depth, magnitude, hypocenter, nankai, bytes, page}
 use Rattle.report.specs.Verdict.{allowed, judge, walk}
 use Rattle.report.specs.Records.{headValues, timeValues, angleValues, quakeValues, bodyValues}
-use Rattle.report.proofs.Questions.{then-assoc, then-fine, fine-then, yes}
-use Rattle.report.proofs.Spans.{allowed-one, allowed-yes, only-yes}
+use Rattle.report.proofs.Outcomes.{then-assoc, then-fine, fine-then, unless-true}
+use Rattle.report.proofs.Spans.{allowed-one, in-allowed, only-yes}
 
 -- bits 8 to 52: message type and category are what they are
 pub common-walk : (l : Layout) (c : Common) (x : ℕ)
@@ -35,7 +34,7 @@ pub common-walk : (l : Layout) (c : Common) (x : ℕ)
     then unless (allowed (l .types) (c .it)) (Range 41)
     then unless (eqb x 0) (Spare 43)
 unfolding walk judge
-common-walk l c x = simp (yes _ (Range 8) (only-yes 43), yes _ (Range 17) (only-yes (l .code)), fine-then, then-fine) (simp allowed-one)
+common-walk l c x = simp (unless-true _ (Range 8) (only-yes 43), unless-true _ (Range 17) (only-yes (l .code)), fine-then, then-fine) (simp allowed-one)
 
 -- category 2
 pub quake-walk : (q : Quake)
@@ -63,7 +62,7 @@ bytes-pass zero a b [] x y h l = refl
 bytes-pass zero a b (t ∷ text) x y h l = absurd (suc-ne-zero (length text) l)
 bytes-pass (suc n) a b [] x y h l = absurd (suc-ne-zero n (sym l))
 bytes-pass (suc n) a b (t ∷ text) x y h l =
-    ap (λ (v : Verdict). v then walk t (bytes n (a + 8) ++ page) (text ++ x ∷ y ∷ [])) (yes _ (Range a) (allowed-yes (0 to 255 ∷ []) t (inl (zero-le, byte t (h 0)))))
+    ap (λ (v : Verdict). v then walk t (bytes n (a + 8) ++ page) (text ++ x ∷ y ∷ [])) (unless-true _ (Range a) (in-allowed (0 to 255 ∷ []) t (inl (zero-le, byte t (h 0)))))
     ∙ fine-then _
     ∙ bytes-pass n (a + 8) t text x y (λ i. h (suc i)) (suc-inj l)
 

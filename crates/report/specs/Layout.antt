@@ -1,7 +1,7 @@
 -- The fields of a frame, as document 01, "The frame on the wire", and the tables 4.1.2-12, -14, -18 and -35 of document 001
 -- have them: first bit, width, and what may stand there. Bits 0 to 7 are the preamble, bits 226 to 249 the parity.
-use Prim.Native.Nat.{ℕ, zero, suc, _+_, _-_, _^_}
-use mathlib.Core.Bool.{Bool, true, false, _&&_}
+use Prim.Native.Nat.{ℕ, zero, suc, _+_, _^_}
+use mathlib.Core.Bool.{Bool, true, _&&_}
 use mathlib.Core.List.{List, [], _∷_, _++_}
 use lib.Dec.{eqb, ltb}
 use Rattle.report.specs.declared.record.Body.{Body}

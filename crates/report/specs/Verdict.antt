@@ -5,7 +5,7 @@ use mathlib.Core.Bool.{Bool, true, false, _&&_, _||_, not, cond}
 use mathlib.Core.List.{List, [], _∷_}
 use lib.Dec.{leb, eqb}
 use Rattle.report.specs.declared.refusal.Verdict.{Verdict}
-use Rattle.report.specs.declared.refusal.Verdict.the-variants.{Fine, Refused}
+use Rattle.report.specs.declared.refusal.Verdict.the-variants.{Fine}
 use Rattle.report.specs.declared.refusal.Refusal.the-variants.{Range, Spare, Gap}
 use Rattle.report.specs.declared.record.SlotKind.{SlotKind}
 use Rattle.report.specs.Refusals.{_then_, unless}

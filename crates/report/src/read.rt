@@ -34,6 +34,7 @@ fn outer(f: [u8; 32]) -> Verdict
 fn conclude(found: Verdict, read: Record) -> Reading
     ensures { λ r. ⌜ r ≡ reading found read ⌝ }
 {
+    let zeros = record_of_zeros();
     match found {
         Verdict::Fine => Reading {
             answer: found,
@@ -41,7 +42,7 @@ fn conclude(found: Verdict, read: Record) -> Reading
         },
         Verdict::Refused(_) => Reading {
             answer: found,
-            record: record_of_zeros(),
+            record: zeros,
         },
     }
 }

@@ -1,6 +1,6 @@
 -- `bits::copy_to` meets its contract: the bytes passed are the frame's. Assumes nothing.
 use mathlib.Core.Path.{_≡_, refl, _∙_}
-use Prim.Native.Nat.{_-_, _≤_, _<_}
+use Prim.Native.Nat.{_-_, _≤_}
 use native.Mathlib.Omega.{arith}
 use lib.ListN.{length, getD, take, length-set}
 use borrow.Author.Needs.{needs}

@@ -1,6 +1,6 @@
 -- `bits::frame_of` meets its contract: the bytes passed are the slice's. Assumes nothing.
 use mathlib.Core.Path.{_≡_, refl, _∙_}
-use Prim.Native.Nat.{_-_, _≤_, _<_}
+use Prim.Native.Nat.{_-_, _≤_}
 use native.Mathlib.Omega.{arith}
 use lib.ListN.{length, getD, take, length-set}
 use Rattle.bits.proofs.Turns.{copy-more, copied}

@@ -1,7 +1,7 @@
 -- `bits::with_bytes_between` meets its contract: the bytes passed are those of x, the others as they were. Assumes nothing.
 use mathlib.Core.Path.{_≡_, refl, _∙_}
-use Prim.Native.Nat.{_+_, _-_, _*_, _/_, _%_, _^_, _≤_, _<_}
-use native.Mathlib.Nat.{div-eq-of-lt, sub-self, div-one, mod-lt}
+use Prim.Native.Nat.{_+_, _-_, _*_, _/_, _%_, _^_, _≤_}
+use native.Mathlib.Nat.{div-eq-of-lt, sub-self, div-one}
 use native.Mathlib.Omega.{arith}
 use lib.ListN.{length, take, drop, length-set}
 use borrow.Author.Needs.{needs}

@@ -1,7 +1,6 @@
 -- `report::check::check` meets its contract. Assumes nothing.
-use Prim.Native.Nat.{ℕ}
 use Rattle.bits.specs.Frame.{Bytes}
-use Rattle.report.proofs.Questions.{then-assoc, fine-then}
+use Rattle.report.proofs.Outcomes.{then-assoc, fine-then}
 use Rattle.report.specs.Records.{values}
 use Rattle.report.specs.Verdict.{verdict}
 use borrow.Author.Needs.{elem-fits-field, length-unmapped}

@@ -1,12 +1,10 @@
 -- `report::check::is_category` meets its contract. Assumes nothing.
-use Prim.Native.Nat.{_≤_, _<_}
 use Rattle.report.proofs.Codes.{two-to-four}
-use Rattle.report.proofs.Spans.{allowed-yes, allowed-no}
+use Rattle.report.proofs.Spans.{not-allowed}
 use Rattle.report.specs.Reading.{categories}
 use Rattle.report.specs.Verdict.{allowed}
-use mathlib.Core.List.{[], _∷_}
-use mathlib.Core.Logic.{inl, inr, ⊎-elim}
-use mathlib.Core.Path.{_≡_, sym, ap, _∙_}
+use mathlib.Core.Logic.{⊎-elim}
+use mathlib.Core.Path.{sym, ap}
 use native.Mathlib.Omega.{arith}
 use Rattle.report.proofs.check.is_category.Statement.{statement}
 use Rattle.report.proofs.check.is_category.Tie as tie
@@ -14,12 +12,12 @@ use Rattle.report.proofs.check.is_category.Tie as tie
 -- `report::check::is_category` meets its contract. Assumes nothing.
 
 returns : tie.Need-returns
-returns c = sym (allowed-no categories _ (λ h. ⊎-elim (λ k. omega arith) (λ h. ⊎-elim (λ k. omega arith) (λ h. ⊎-elim (λ k. omega arith) (λ h. ⊎-elim (λ k. omega arith) (λ h. h) h) h) h) h))
+returns c = sym (not-allowed categories _ (λ h. ⊎-elim (λ k. omega arith) (λ h. ⊎-elim (λ k. omega arith) (λ h. ⊎-elim (λ k. omega arith) (λ h. ⊎-elim (λ k. omega arith) (λ h. h) h) h) h) h))
 
 returns-2 : tie.Need-returns-2
 returns-2 c =
     let other = c .before .before .match .rest .1 in
-    sym (allowed-no categories _ (λ h. ⊎-elim (λ k. omega arith) (λ h. ⊎-elim (λ k. omega arith) (λ h. ⊎-elim (λ k. omega arith) (λ h. ⊎-elim (λ k. other (omega arith)) (λ h. h) h) h) h) h))
+    sym (not-allowed categories _ (λ h. ⊎-elim (λ k. omega arith) (λ h. ⊎-elim (λ k. omega arith) (λ h. ⊎-elim (λ k. omega arith) (λ h. ⊎-elim (λ k. other (omega arith)) (λ h. h) h) h) h) h))
 
 returns-3 : tie.Need-returns-3
 unfolding allowed

@@ -1,7 +1,7 @@
 -- `report::check::is_depth` meets its contract. Assumes nothing.
 use Rattle.report.proofs.Codes.{saysDepth, depth-known}
 use borrow.Author.Needs.{needs}
-use mathlib.Core.Path.{_≡_, sym, ap, _∙_}
+use mathlib.Core.Path.{sym, ap, _∙_}
 use Rattle.report.proofs.check.is_depth.Statement.{statement}
 use Rattle.report.proofs.check.is_depth.Tie as tie
 

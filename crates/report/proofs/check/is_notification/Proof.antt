@@ -1,10 +1,9 @@
 -- `report::check::is_notification` meets its contract. Assumes nothing.
-use Prim.Native.Nat.{_≤_, _<_}
-use Rattle.report.proofs.Spans.{allowed-yes, allowed-no}
+use Rattle.report.proofs.Spans.{in-allowed, not-allowed}
 use Rattle.report.specs.Layout.{_to_}
 use mathlib.Core.List.{[], _∷_}
 use mathlib.Core.Logic.{inl, inr, ⊎-elim}
-use mathlib.Core.Path.{_≡_, sym, ap, _∙_}
+use mathlib.Core.Path.{sym}
 use native.Mathlib.Omega.{arith}
 use Rattle.report.proofs.check.is_notification.Statement.{statement}
 use Rattle.report.proofs.check.is_notification.Tie as tie
@@ -12,18 +11,18 @@ use Rattle.report.proofs.check.is_notification.Tie as tie
 returns : tie.Need-returns
 returns c =
     let other = c .before .match .rest .1 in
-    sym (allowed-no (0 to 0 ∷ 101 to 500 ∷ []) _ (λ h. ⊎-elim (λ k. other (omega arith)) (λ h. ⊎-elim (λ k. omega arith) (λ h. h) h) h))
+    sym (not-allowed (0 to 0 ∷ 101 to 500 ∷ []) _ (λ h. ⊎-elim (λ k. other (omega arith)) (λ h. ⊎-elim (λ k. omega arith) (λ h. h) h) h))
 
 returns-2 : tie.Need-returns-2
-returns-2 c = sym (allowed-no (0 to 0 ∷ 101 to 500 ∷ []) _ (λ h. ⊎-elim (λ k. omega arith) (λ h. ⊎-elim (λ k. omega arith) (λ h. h) h) h))
+returns-2 c = sym (not-allowed (0 to 0 ∷ 101 to 500 ∷ []) _ (λ h. ⊎-elim (λ k. omega arith) (λ h. ⊎-elim (λ k. omega arith) (λ h. h) h) h))
 
 returns-3 : tie.Need-returns-3
 returns-3 c =
     let zero = c .match .keys1 in
-    sym (allowed-yes (0 to 0 ∷ 101 to 500 ∷ []) _ (inl (omega arith, omega arith)))
+    sym (in-allowed (0 to 0 ∷ 101 to 500 ∷ []) _ (inl (omega arith, omega arith)))
 
 returns-4 : tie.Need-returns-4
-returns-4 c = sym (allowed-yes (0 to 0 ∷ 101 to 500 ∷ []) _ (inr (inl (omega arith, omega arith))))
+returns-4 c = sym (in-allowed (0 to 0 ∷ 101 to 500 ∷ []) _ (inr (inl (omega arith, omega arith))))
 
 pub is-notification-spec : {M : Type 1} → statement M
 is-notification-spec = tie.close (tie.spec returns returns-2 returns-3 returns-4)

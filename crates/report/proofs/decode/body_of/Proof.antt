@@ -3,7 +3,7 @@ use Rattle.report.specs.Records.{bodyBy}
 use Rattle.report.specs.declared.record.Body.the-variants.{Hypocenter, Intensity, Nankai, AshFall}
 use borrow.Author.Needs.{needs}
 use borrow.Author.Tests.{ne-eqb}
-use mathlib.Core.Path.{_≡_, sym, ap, _∙_}
+use mathlib.Core.Path.{sym, ap, _∙_}
 use Rattle.report.proofs.decode.body_of.Statement.{statement}
 use Rattle.report.proofs.decode.body_of.Tie as tie
 

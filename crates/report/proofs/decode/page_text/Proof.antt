@@ -1,5 +1,5 @@
 -- `report::decode::page_text` meets its contract: the bytes passed are the text's. Assumes nothing.
-use Prim.Native.Nat.{ℕ, _+_, _-_, _*_, _≤_, _<_}
+use Prim.Native.Nat.{ℕ, _+_, _-_, _*_, _≤_}
 use borrow.Author.Needs.{needs}
 use Rattle.bits.specs.Frame.{fieldOf}
 use Rattle.report.proofs.Filling.{fill, filled}

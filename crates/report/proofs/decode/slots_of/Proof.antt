@@ -9,7 +9,7 @@ use Rattle.report.specs.declared.record.Slot.{Slot}
 use Rattle.report.specs.declared.record.SlotKind.{SlotKind}
 use lib.ListN.{length, replicate, length-set}
 use mathlib.Core.List.{List, _++_}
-use mathlib.Core.Path.{_≡_, refl, sym, ap, _∙_}
+use mathlib.Core.Path.{_≡_, refl, ap, _∙_}
 use native.Mathlib.Omega.{arith}
 use Rattle.report.proofs.decode.slots_of.Statement.{statement}
 use Rattle.report.proofs.decode.slots_of.Tie as tie

@@ -3,21 +3,21 @@ use borrow.Author.Needs.{needs}
 use Rattle.report.proofs.read.conclude.Statement.{statement}
 use Rattle.report.proofs.read.conclude.Tie as tie
 
+record-of-zeros-requires : tie.Need-record-of-zeros-requires
+record-of-zeros-requires c κs = search needs
+
 enum-told : tie.Need-enum-told
 enum-told c = search needs
 
 enum-told-2 : tie.Need-enum-told-2
 enum-told-2 c = search needs
 
-record-of-zeros-requires : tie.Need-record-of-zeros-requires
-record-of-zeros-requires c κs = search needs
-
 returns : tie.Need-returns
 returns c = simp (c .enum-told .given .1)
 
 returns-2 : tie.Need-returns-2
-returns-2 c = simp (c .before .enum-told2 .given .1, c .record-of-zeros .ensures)
+returns-2 c = simp (c .enum-told2 .given .1, c .before .before .record-of-zeros .ensures)
 
 pub conclude-spec : {M : Type 1} → statement M
 conclude-spec =
-    tie.close (tie.spec enum-told enum-told-2 record-of-zeros-requires returns returns-2)
+    tie.close (tie.spec record-of-zeros-requires enum-told enum-told-2 returns returns-2)

@@ -1,14 +1,13 @@
 -- `report::read::inner` meets its contract: the values of the record are those of the frame. Assumes nothing.
-use Prim.Native.Nat.{ℕ, _+_, _-_, _≤_}
+use Prim.Native.Nat.{_-_}
 use Rattle.bits.specs.Frame.{fieldOf}
 use Rattle.report.proofs.Agree.{outer, Suits, suits, judged}
 use Rattle.report.specs.Layout.{layout}
-use Rattle.report.specs.Records.{bodyOf, recordOf, recordAs}
+use Rattle.report.specs.Records.{bodyOf, recordAs}
 use Rattle.report.specs.declared.record.Body.{Body}
 use Rattle.report.specs.declared.record.Record.{Record}
 use borrow.Author.Needs.{needs}
-use mathlib.Core.List.{List}
-use mathlib.Core.Path.{_≡_, sym, ap, ap₂, _∙_}
+use mathlib.Core.Path.{_≡_, ap, ap₂, _∙_}
 use native.Mathlib.Omega.{arith}
 use Rattle.report.proofs.read.inner.Statement.{statement}
 use Rattle.report.proofs.read.inner.Tie as tie

@@ -4,7 +4,7 @@ use Prim.Native.Nat.{ℕ}
 use lib.Dec.{eqb}
 use Rattle.report.specs.Verdict.{allowed}
 use Rattle.report.specs.Reading.{preambles, categories, outerOf}
-use Rattle.report.proofs.Questions.{fine-then}
+use Rattle.report.proofs.Outcomes.{fine-then}
 use Rattle.report.proofs.Walks.{asked, link}
 use borrow.Author.Needs.{needs}
 use Rattle.report.proofs.read.outer.Statement.{statement}

@@ -1,8 +1,8 @@
 -- `report::meaning::Depth::of` meets its contract. Assumes nothing.
-use Prim.Native.Nat.{_≤_, _<_}
+use Prim.Native.Nat.{_<_}
 use Rattle.report.specs.Meaning.{depthOf}
 use borrow.Author.Tests.{le-leb, lt-leb, ne-eqb}
-use mathlib.Core.Path.{_≡_, sym, ap}
+use mathlib.Core.Path.{sym, ap}
 use native.Mathlib.Omega.{arith}
 use Rattle.report.proofs.meaning.Depth.of.Statement.{statement}
 use Rattle.report.proofs.meaning.Depth.of.Tie as tie

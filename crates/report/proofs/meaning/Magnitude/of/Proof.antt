@@ -1,5 +1,5 @@
 -- `report::meaning::Magnitude::of` meets its contract. Assumes nothing.
-use Prim.Native.Nat.{_≤_, _<_}
+use Prim.Native.Nat.{_<_}
 use Rattle.report.specs.Meaning.{magnitudeOf}
 use borrow.Author.Tests.{le-leb, lt-leb, ne-eqb}
 use mathlib.Core.Path.{_≡_, sym, ap}

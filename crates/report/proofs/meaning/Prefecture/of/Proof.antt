@@ -1,9 +1,8 @@
 -- `report::meaning::Prefecture::of` meets its contract. Assumes nothing.
-use Prim.Native.Nat.{_≤_, _<_}
+use Prim.Native.Nat.{_<_}
 use Rattle.report.specs.Meaning.{prefectureOf}
 use borrow.Author.Needs.{needs}
-use borrow.Author.Tests.{le-leb, lt-leb, ne-eqb}
-use mathlib.Core.Path.{_≡_, sym, ap}
+use borrow.Author.Tests.{le-leb, lt-leb}
 use native.Mathlib.Omega.{arith}
 use Rattle.report.proofs.meaning.Prefecture.of.Statement.{statement}
 use Rattle.report.proofs.meaning.Prefecture.of.Tie as tie

@@ -1,5 +1,5 @@
 -- `report::record::Slot::empty` meets its contract. Assumes nothing.
-use Rattle.report.proofs.Questions.{and-true}
+use Rattle.report.proofs.Outcomes.{and-true}
 use Rattle.report.specs.Verdict.{empty}
 use borrow.Author.Needs.{needs}
 use borrow.Author.Tests.{eq-eqb, ne-eqb}

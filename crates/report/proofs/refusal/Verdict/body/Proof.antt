@@ -1,5 +1,5 @@
 -- `report::refusal::Verdict::body` meets its contract. Assumes nothing.
-use Rattle.report.proofs.Questions.{then-fine}
+use Rattle.report.proofs.Outcomes.{then-fine}
 use Rattle.report.specs.Layout.{layout}
 use Rattle.report.specs.Records.{bodyValues}
 use Rattle.report.specs.Verdict.{walk}

@@ -1,5 +1,5 @@
 -- `report::refusal::Verdict::eruption` meets its contract. Assumes nothing.
-use Rattle.report.proofs.Questions.{then-assoc, then-fine}
+use Rattle.report.proofs.Outcomes.{then-assoc, then-fine}
 use Rattle.report.proofs.Spans.{allowed-one}
 use Rattle.report.specs.Records.{bodyValues}
 use Rattle.report.specs.Verdict.{walk, judge}

@@ -1,5 +1,5 @@
 -- `report::refusal::Verdict::last` meets its contract. Assumes nothing.
-use Rattle.report.proofs.Questions.{then-assoc, then-fine, fine-then}
+use Rattle.report.proofs.Outcomes.{then-assoc, then-fine, fine-then}
 use Rattle.report.proofs.Spans.{allowed-one, only-yes}
 use Rattle.report.specs.Refusals.{unless}
 use Rattle.report.specs.Verdict.{walk, judge}

@@ -1,5 +1,5 @@
 -- `report::refusal::Verdict::page` meets its contract. Assumes nothing.
-use Rattle.report.proofs.Questions.{then-assoc}
+use Rattle.report.proofs.Outcomes.{then-assoc}
 use Rattle.report.proofs.Walks.{page-walk}
 use borrow.Author.Needs.{needs}
 use Rattle.report.proofs.refusal.Verdict.page.Statement.{statement}
