@@ -5,6 +5,8 @@ use mathlib.Core.Bool.{true, false}
 use mathlib.Core.List.{List, [], map}
 use Prim.Native.Nat.{ℕ, _≤_, _<_}
 use lib.ListN.{length, getD}
+use types.Run.{OneOf}
+use Rattle.bits.specs.Frame.{Bytes, bytesOf}
 use Rattle.report.specs.declared.refusal.Verdict.{Verdict}
 use Rattle.report.specs.declared.refusal.Verdict.the-variants.{Fine, Refused}
 use Rattle.report.specs.declared.refusal.Refusal.{Refusal}
@@ -13,12 +15,13 @@ use Rattle.report.specs.declared.record.Body.{Body}
 use Rattle.report.specs.declared.record.Record.{Record}
 use Rattle.report.specs.Refusals.{says, answers}
 use Rattle.report.specs.Layout.{layout, slotCount, allRows, tiles, allFit}
-use Rattle.report.specs.Records.{recordOf, zeros, valuesOf, values}
+use Rattle.report.specs.Records.{bodyOf, recordOf, zeros, valuesOf, values}
 use Rattle.report.specs.Verdict.{empty}
 use Rattle.report.specs.Meaning.{slotsOfCategory, usedOf}
 use Rattle.report.specs.Reading.{readAnswer, reading, readOf}
 use Rattle.report.specs.Conforms.{Conforms}
-use Rattle.report.specs.Reasons.{Fault, Lowest, readQuestions, WhyNotRead}
+use Rattle.report.specs.Reasons.{Fault, Lowest, readQuestions, WhyNotRead, WhyNotWritten}
+use Rattle.report.specs.Writing.{frame, written, writeAnswer, writeOf, Valid, KeepsRules}
 use Rattle.report.proofs.Tables.{layouts, all, tables-tile as tiled, rules-fit as fit}
 use Rattle.report.proofs.Ordered.{Met}
 use Rattle.report.proofs.Frames.{layoutOf, frameValues, conforming-fine, fine-conforming, reason, faulty, faultless, no-gap}
@@ -26,6 +29,13 @@ use Rattle.report.proofs.Lengths.{Filled, frame-filled, record-filled}
 use Rattle.report.proofs.Used.{counted-used, others-empty}
 use Rattle.report.proofs.Numbers.{says-apart, read-ten, refused-zeros}
 use Rattle.report.proofs.PaperValues.{found, expected, paperValues, every-row}
+use Rattle.report.proofs.Shapes.{Shaped, frame-shaped}
+use Rattle.report.proofs.Validity.{recordLayout, recordValues, valid-keeps, keeps-valid, reason as write-reason}
+use Rattle.report.proofs.WriteReasons.{reserving, no-gap as write-no-gap, above-63}
+use Rattle.report.proofs.WriteNumbers.{writeNumbers, write-numbered}
+use Rattle.report.proofs.ReadThenWritten.{valid-written, written-again}
+use Rattle.report.proofs.WrittenThenRead.{returns, read-again}
+use Rattle.report.proofs.Trips.{WrittenBy, frame-of-record, same-frame, same-record, conforming-written, written-bytes}
 
 -- ---- the tables
 
@@ -109,3 +119,79 @@ a-refused-reading-gives-zeros s x e = refused-zeros (readAnswer s) (recordOf s) 
 -- "All of these stand in one table over the definitions, with a single proved claim": P1 to P12.
 pub paper-values-hold : map found paperValues ≡ map expected paperValues
 paper-values-hold = every-row
+
+-- ---- writing
+
+-- "A record is valid when writing it to 32 bytes is not refused": then it keeps every rule of document 01 ..
+pub valid-keeps-rules : (r : Record) → Shaped r → Valid r → KeepsRules r
+valid-keeps-rules r s v = valid-keeps r s v
+
+-- .. and "where no row tested by a call applies, the call succeeds".
+pub keeping-rules-is-valid : (r : Record) → Shaped r → KeepsRules r → Valid r
+keeping-rules-is-valid r s k = keeps-valid r s k
+
+-- "Writing: 1, 3, 7, 11, then 8 and 10 by lowest bit": the condition of the number fails, every earlier one holds, and no
+-- fault has a lower bit than that of an 8 or 10.
+pub writing-refused-for-a-reason : (r : Record) (size : ℕ) (x : Refusal) → Shaped r → writeAnswer r size ≡ Refused x → WhyNotWritten r size x
+writing-refused-for-a-reason r size x s e = write-reason r size x s e
+
+-- "the gap again before a slot's fields"
+pub gap-before-fields-in-writing : (r : Record) (size p : ℕ) → Shaped r → writeAnswer r size ≡ Refused (Range p)
+    → Fault (recordLayout r) (recordValues r) (Gap p) → ⊥
+gap-before-fields-in-writing r size p s e f = write-no-gap r size p s e f
+
+-- "a Reserved above 63 is 8 at bit 220": any valid record, with such a Reserved instead of its own.
+pub reserved-above-63 : (r : Record) (n : ℕ) → Valid r → 63 < n → writeAnswer (reserving r n) 32 ≡ Refused (Range 220)
+reserved-above-63 r n v h = above-63 r n v h
+
+-- "Writing: 1, 3, 7, 11, then 8 and 10": no other number is answered, and never 9, for "spares .. are not in it".
+pub write-answers : (r : Record) (size : ℕ) → OneOf writeNumbers (answers (writeAnswer r size) .number)
+write-answers r size = write-numbered r size
+
+-- "the final contents of every buffer lent to it": the frame of a valid record, whatever stood there; a refused writing
+-- leaves the buffer as it was.
+pub valid-is-written : (r : Record) (buffer : List ℕ) → Valid r → length buffer ≡ 32 → writeOf r buffer ≡ bytesOf (frame r)
+valid-is-written r buffer v l = valid-written r buffer v l
+
+pub refused-leaves-the-buffer : (r : Record) (buffer : List ℕ) (x : Refusal) → writeAnswer r (length buffer) ≡ Refused x → writeOf r buffer ≡ buffer
+refused-leaves-the-buffer r buffer x e = ap (λ (v : Verdict). written v r buffer) e
+
+-- ---- there and back
+
+-- "sixteen slots (hour, strength or intensity, place) and 18 text bytes": the record of a frame has that shape.
+pub read-records-are-shaped : (s : List ℕ) → Shaped (recordOf s)
+read-records-are-shaped s = frame-shaped s (bodyOf s)
+
+-- "The base reads and writes DC Report frames": what was read is written without refusal, and gives every bit back. "Spares,
+-- message type, version and parity are not in it", nor need they be.
+pub written-again-is-the-frame : (s buffer : List ℕ) → Bytes s → readOf s .answer ≡ Fine → length buffer ≡ 32
+    → (writeAnswer (readOf s .«record») (length buffer) ≡ Fine) × (writeOf (readOf s .«record») buffer ≡ s)
+written-again-is-the-frame s buffer b e l = written-again s buffer b e l
+
+-- What a valid record writes is read without refusal, and gives every field back. "What its category does not use is zero."
+pub read-again-is-the-record : (r : Record) (buffer : List ℕ) → Shaped r → Valid r → length buffer ≡ 32
+    → readOf (writeOf r buffer) ≡ record { answer = Fine; «record» = r }
+read-again-is-the-record r buffer s v l = read-again r buffer s v l
+
+-- No record has two frames: a frame that reads as r is the one that r writes.
+pub one-record-one-frame : (s : List ℕ) (r : Record) → Bytes s → readOf s ≡ record { answer = Fine; «record» = r } → s ≡ bytesOf (frame r)
+one-record-one-frame s r b e = frame-of-record s r b e
+
+-- So nothing that a frame says is lost in its record ..
+pub different-frames-different-records : (s t : List ℕ) → Bytes s → Bytes t → Conforms s → Conforms t → recordOf s ≡ recordOf t → s ≡ t
+different-frames-different-records s t b c d f e = same-frame s t b c d f e
+
+-- .. and nothing that a valid record says is lost in its frame.
+pub different-records-different-frames : (r q : Record) → Shaped r → Shaped q → Valid r → Valid q → bytesOf (frame r) ≡ bytesOf (frame q) → r ≡ q
+different-records-different-frames r q s t v w e = same-record r q s t v w e
+
+-- The conforming frames are the written ones: each is the frame of a valid record ..
+pub conforming-frames-are-written : (s : List ℕ) → Bytes s → Conforms s → (r : Record) × WrittenBy s r
+conforming-frames-are-written s b c = conforming-written s b c
+
+-- .. and what a valid record writes conforms, and is bytes.
+pub written-frames-conform : (r : Record) → Shaped r → Valid r → Conforms (bytesOf (frame r))
+written-frames-conform r s v = returns r s v .conforms
+
+pub written-frames-are-bytes : (r : Record) → Bytes (bytesOf (frame r))
+written-frames-are-bytes r = written-bytes r

@@ -3,6 +3,7 @@ pub mod Layout
 pub mod Verdict
 pub mod Records
 pub mod Reading
+pub mod Writing
 pub mod Meaning
 pub mod Slots
 pub mod Conforms

@@ -1,21 +1,25 @@
 -- Why a frame is refused: its faults, wherever they are, and the order in which document 01 asks.
-use Prim.Native.Nat.{ℕ, _+_, _≤_}
+use Prim.Native.Nat.{ℕ, _+_, _≤_, _<_}
 use mathlib.Core.Path.{_≡_}
 use mathlib.Core.Bool.{Bool, true, false}
 use mathlib.Core.Logic.{_⊎_}
 use mathlib.Core.List.{List, [], _∷_}
-use lib.ListN.{length}
+use lib.ListN.{length, getD}
 use Rattle.bits.specs.Frame.{fieldOf}
 use Rattle.parity.specs.Parity.{parityOf}
 use Rattle.report.specs.declared.refusal.Refusal.{Refusal}
-use Rattle.report.specs.declared.refusal.Refusal.the-variants.{Length, Padding, Preamble, Parity, Message, Version, Category, Range, Spare, Gap}
+use Rattle.report.specs.declared.refusal.Refusal.the-variants.{Length, Padding, Preamble, Parity, Message, Version, Category, Range, Spare, Gap, Unused}
+use Rattle.report.specs.declared.record.Body.the-variants.{Nothing}
 use Rattle.report.specs.declared.record.SlotKind.{SlotKind}
+use Rattle.report.specs.declared.record.SlotKind.the-variants.{Nothing as NoSlots}
+use Rattle.report.specs.declared.record.Record.{Record}
 use Rattle.report.specs.Refusals.{says}
-use Rattle.report.specs.Layout.{Rule, among, rising, spare, Row, Layout, common, ending, layout, slotFirst, slotBits, slotRows}
+use Rattle.report.specs.Layout.{Rule, among, rising, spare, Row, Layout, common, ending, layout, slotCount, slotFirst, slotBits, slotRows}
 use Rattle.report.specs.Verdict.{Values}
-use Rattle.report.specs.Records.{bodyOf, valuesOf}
+use Rattle.report.specs.Records.{noSlot, bodyOf, valuesOf, values}
 use Rattle.report.specs.Reading.{preambles, categories}
 use Rattle.report.specs.Conforms.{In, Keeps, Empty}
+use Rattle.report.specs.Writing.{unused, TextUnused}
 
 -- ---- faults: x is the refusal of something that is wrong, whatever else is
 
@@ -79,3 +83,22 @@ readQuestions s =
 
 abbrev pub WhyNotRead : List ℕ → Refusal → Type 0
 WhyNotRead s x = First (readQuestions s) x (Lowest (layout (bodyOf s)) (valuesOf s (layout (bodyOf s))) x)
+
+-- ---- writing: the order of 1, 3, 7, 11
+
+-- nothing stands where the category has nothing
+pub record Tidy (r : Record) : Type 0 where
+  pub slots : (i : ℕ) → i < slotCount (layout (r .body) .slots) → Empty (unused (layout (r .body) .slots) (getD (r .slots) i noSlot))
+  pub others : (i : ℕ) → slotCount (layout (r .body) .slots) ≤ i → Empty (unused NoSlots (getD (r .slots) i noSlot))
+  pub text : TextUnused (r .body) (r .text)
+
+abbrev pub writeQuestions : Record → ℕ → List Question
+writeQuestions r size =
+    (size ≡ 32) or Length
+    ∷ In preambles (r .preamble) or Preamble
+    ∷ (r .body ≡ Nothing → ⊥) or Category
+    ∷ Tidy r or Unused
+    ∷ []
+
+abbrev pub WhyNotWritten : Record → ℕ → Refusal → Type 0
+WhyNotWritten r size x = First (writeQuestions r size) x (Lowest (layout (r .body)) (values r 0 0) x)

@@ -141,6 +141,19 @@ impl Body {
         }
     }
 
+    // The category's number, 0 for none.
+    pub fn code(self) -> u8
+        ensures { λ r. ⌜ r ≡ layout self .code ⌝ }
+    {
+        match self {
+            Body::Nothing => 0,
+            Body::Hypocenter(_) => 2,
+            Body::Intensity(_) => 3,
+            Body::Nankai(_) => 4,
+            Body::AshFall(_) => 9,
+        }
+    }
+
     // The first bit of its category's spare, which ends before bit 214.
     pub fn spare_first(self) -> u8
         ensures { λ r. ⌜ r ≡ layout self .spareFirst ⌝ }

@@ -1,0 +1,134 @@
+-- Fields laid on a frame: the turns of the loops, and the spare. Assumes nothing.
+use mathlib.Core.Path.{_≡_, refl, sym, ap, ap₂, _∙_, subst}
+use mathlib.Core.Bool.{true}
+use Prim.Native.Nat.{ℕ, zero, suc, _+_, _-_, _*_, _≤_, _<_}
+use native.Mathlib.Nat.{add-zero}
+use native.Mathlib.Numerals.{add-one}
+use native.Mathlib.Omega.{arith}
+use mathlib.Core.List.{List, [], _∷_, _++_, map, append-assoc, append-nil}
+use lib.ListN.{length, getD, take, replicate, length-append}
+use lib.Seq.{take-suc}
+use Rattle.bits.specs.Layout.{total}
+use Rattle.bits.specs.Frame.{placed, laid}
+use Rattle.bits.proofs.Laid.{laid-append}
+use Rattle.report.specs.declared.record.Body.{Body}
+use Rattle.report.specs.declared.record.Body.the-variants.{Nothing, Hypocenter, Intensity, Nankai, AshFall}
+use Rattle.report.specs.declared.record.Slot.{Slot}
+use Rattle.report.specs.declared.record.SlotKind.{SlotKind}
+use Rattle.report.specs.declared.record.SlotKind.the-variants.{Nothing as NoSlots, Prefectures, Places}
+use Rattle.report.specs.Layout.{layout, nankai, slotBits, slotRows, slotsRows}
+use Rattle.report.specs.Records.{noSlot, slotValues}
+use Rattle.report.specs.Writing.{known, widths, joined}
+use Rattle.report.proofs.Outcomes.{false-not-true}
+
+-- ---- bytes
+
+total-eights : (k : ℕ) → total (replicate k 8) ≡ 8 * k
+total-eights zero = refl
+total-eights (suc k) = omega (arith, total-eights k)
+
+eights-more : (k : ℕ) → _≡_ {A = List ℕ} (replicate (suc k) 8) (replicate k 8 ++ 8 ∷ [])
+eights-more zero = refl
+eights-more (suc k) = ap (λ (l : List ℕ). 8 ∷ l) (eights-more k)
+
+length-eights : (k : ℕ) (t : List ℕ) → k ≤ length t → length {A = ℕ} (replicate k 8) ≡ length (take k t)
+length-eights zero t h = refl
+length-eights (suc k) [] h = absurd (omega arith)
+length-eights (suc k) (x ∷ t) h = ap suc (length-eights k t (omega arith))
+
+pub byte-more : (f t : List ℕ) (a k at : ℕ) → k < length t → at ≡ a + 8 * k
+    → placed (laid f a (replicate k 8) (take k t)) at 8 (getD t k 0) ≡ laid f a (replicate (k + 1) 8) (take (k + 1) t)
+byte-more f t a k at h e =
+    let p : at ≡ a + total (replicate k 8) = omega (arith, total-eights k) in
+    ap (λ (x : ℕ). placed (laid f a (replicate k 8) (take k t)) x 8 (getD t k 0)) p
+    ∙ sym (laid-append f (replicate k 8) (take k t) (8 ∷ []) (getD t k 0 ∷ []) a (length-eights k t (omega arith)))
+    ∙ ap₂ (laid f a) (sym (eights-more k)) (sym (take-suc t k 0 h))
+    ∙ ap (λ (n : ℕ). laid f a (replicate n 8) (take n t)) (sym (add-one k))
+
+-- ---- slots
+
+-- the widths of n slots, wherever they stand
+abbrev pub runs : SlotKind → ℕ → List ℕ
+runs k zero = []
+runs k (suc n) = widths (slotRows k 0) ++ runs k n
+
+slot-widths : (k : SlotKind) (a : ℕ) → widths (slotRows k a) ≡ widths (slotRows k 0)
+slot-widths NoSlots a = refl
+slot-widths Prefectures a = refl
+slot-widths Places a = refl
+
+widths-append : (k : SlotKind) (a n : ℕ) → widths (slotsRows k (suc n) a) ≡ widths (slotRows k a) ++ widths (slotsRows k n (a + slotBits k))
+widths-append NoSlots a n = refl
+widths-append Prefectures a n = refl
+widths-append Places a n = refl
+
+pub slots-widths : (k : SlotKind) (n a : ℕ) → widths (slotsRows k n a) ≡ runs k n
+slots-widths k zero a = refl
+slots-widths k (suc n) a = widths-append k a n ∙ ap₂ (λ (x y : List ℕ). x ++ y) (slot-widths k a) (slots-widths k n (a + slotBits k))
+
+runs-more : (k : SlotKind) (n : ℕ) → runs k (suc n) ≡ runs k n ++ widths (slotRows k 0)
+runs-more k zero = append-nil (widths (slotRows k 0))
+runs-more k (suc n) = ap (λ (l : List ℕ). widths (slotRows k 0) ++ l) (runs-more k n) ∙ sym (append-assoc (widths (slotRows k 0)) (runs k n) (widths (slotRows k 0)))
+
+total-runs : (k : SlotKind) (n : ℕ) → total (runs k n) ≡ slotBits k * n
+total-runs NoSlots zero = refl
+total-runs NoSlots (suc n) = omega (arith, total-runs NoSlots n)
+total-runs Prefectures zero = refl
+total-runs Prefectures (suc n) = omega (arith, total-runs Prefectures n)
+total-runs Places zero = refl
+total-runs Places (suc n) = omega (arith, total-runs Places n)
+
+slot-length : (k : SlotKind) (s : Slot) → length (widths (slotRows k 0)) ≡ length (slotValues k s)
+slot-length NoSlots s = refl
+slot-length Prefectures s = refl
+slot-length Places s = refl
+
+runs-length : (k : SlotKind) (n : ℕ) (ss : List Slot) → n ≤ length ss → length (runs k n) ≡ length (joined (map (slotValues k) (take n ss)))
+runs-length k zero ss h = refl
+runs-length k (suc n) [] h = absurd (omega arith)
+runs-length k (suc n) (s ∷ ss) h =
+    length-append (widths (slotRows k 0)) (runs k n)
+    ∙ ap₂ _+_ (slot-length k s) (runs-length k n ss (omega arith))
+    ∙ sym (length-append (slotValues k s) (joined (map (slotValues k) (take n ss))))
+
+joined-more : (k : SlotKind) (ss : List Slot) (s : Slot) → joined (map (slotValues k) (ss ++ s ∷ [])) ≡ joined (map (slotValues k) ss) ++ slotValues k s
+joined-more k [] s = append-nil (slotValues k s)
+joined-more k (x ∷ ss) s = ap (λ (l : List ℕ). slotValues k x ++ l) (joined-more k ss s) ∙ sym (append-assoc (slotValues k x) (joined (map (slotValues k) ss)) (slotValues k s))
+
+pub slot-more : (f r : List ℕ) (k : SlotKind) (ss : List Slot) (a n at : ℕ) → n < length ss → at ≡ a + slotBits k * n
+    → r ≡ laid (laid f a (runs k n) (joined (map (slotValues k) (take n ss)))) at (widths (slotRows k at)) (slotValues k (getD ss n noSlot))
+    → r ≡ laid f a (runs k (n + 1)) (joined (map (slotValues k) (take (n + 1) ss)))
+slot-more f r k ss a n at h e q =
+    let vs = joined (map (slotValues k) (take n ss)) in
+    let s = getD ss n noSlot in
+    let p : at ≡ a + total (runs k n) = omega (arith, total-runs k n) in
+    q
+    ∙ ap₂ (λ (x : ℕ) (ws : List ℕ). laid (laid f a (runs k n) vs) x ws (slotValues k s)) p (slot-widths k at)
+    ∙ sym (laid-append f (runs k n) vs (widths (slotRows k 0)) (slotValues k s) a (runs-length k n ss (omega arith)))
+    ∙ ap₂ (laid f a) (sym (runs-more k n)) (sym (ap (λ (l : List Slot). joined (map (slotValues k) l)) (take-suc ss n noSlot h) ∙ joined-more k (take n ss) s))
+    ∙ ap (λ (j : ℕ). laid f a (runs k j) (joined (map (slotValues k) (take j ss)))) (sym (add-one n))
+
+-- ---- the spare
+
+pub record Spare (b : Body) : Type 0 where
+  pub ends : layout b .spareFirst + layout b .spareWidth ≡ 214
+  pub narrow : layout b .spareWidth ≤ 57
+
+pub spare-of : (b : Body) → known b ≡ true → Spare b
+unfolding layout
+spare-of Nothing e = absurd (false-not-true e)
+spare-of (Hypocenter q) e = record { ends = refl; narrow = omega arith }
+spare-of (Intensity t) e = record { ends = refl; narrow = omega arith }
+spare-of (Nankai p) e = record { ends = refl; narrow = omega arith }
+spare-of (AshFall x) e = record { ends = refl; narrow = omega arith }
+
+pub last-laid : (f : List ℕ) (a w x : ℕ) → a + w ≡ 214
+    → placed (placed (placed f a w 0) 214 6 1) 220 6 x ≡ laid f a (w ∷ 6 ∷ 6 ∷ []) (0 ∷ 1 ∷ x ∷ [])
+last-laid f a w x e = ap (λ (y : ℕ). placed (placed (placed f a w 0) y 6 1) (y + 6) 6 x) (sym e)
+
+-- ---- a page: its kind, its text, its number and total
+
+pub page-laid : (f text : List ℕ) (x y z : ℕ) → length text ≡ 18
+    → placed (placed (laid (placed f 53 4 x) 57 (replicate 18 8) text) 201 6 y) 207 6 z
+    ≡ laid f 53 (widths (nankai .body)) (x ∷ text ++ y ∷ z ∷ [])
+page-laid f text x y z l = sym (laid-append (placed f 53 4 x) (replicate 18 8) text (6 ∷ 6 ∷ []) (y ∷ z ∷ []) 57 (sym l))

@@ -1,0 +1,130 @@
+-- The parts of a record from its values: the body, the slots, the text. Assumes nothing.
+use mathlib.Core.Path.{_≡_, refl, sym, ap, ap₂, _∙_}
+use mathlib.Core.Bool.{true}
+use Prim.Native.Nat.{ℕ, zero, suc, _+_}
+use native.Mathlib.Nat.{suc-ne-zero, suc-inj}
+use mathlib.Core.List.{List, [], _∷_, _++_, map}
+use lib.ListN.{length, getD, take, drop, replicate}
+use lib.Seq.{take-at, drop-at}
+use Rattle.bits.specs.Frame.{fieldOf}
+use Rattle.report.specs.declared.record.Time.{Time}
+use Rattle.report.specs.declared.record.Angle.{Angle}
+use Rattle.report.specs.declared.record.Quake.{Quake}
+use Rattle.report.specs.declared.record.Page.{Page}
+use Rattle.report.specs.declared.record.Eruption.{Eruption}
+use Rattle.report.specs.declared.record.Body.{Body}
+use Rattle.report.specs.declared.record.Body.the-variants.{Nothing, Hypocenter, Intensity, Nankai, AshFall}
+use Rattle.report.specs.declared.record.Slot.{Slot}
+use Rattle.report.specs.declared.record.SlotKind.{SlotKind}
+use Rattle.report.specs.declared.record.SlotKind.the-variants.{Nothing as NoSlots, Prefectures, Places}
+use Rattle.report.specs.Layout.{layout}
+use Rattle.report.specs.Verdict.{empty}
+use Rattle.report.specs.Records.{cut, bodyBy, textOf, bodyValues, slotValues}
+use Rattle.report.specs.Conforms.{Empty}
+use Rattle.report.specs.Writing.{unused, tidySlots, tidyText}
+use Rattle.report.proofs.Outcomes.{and-both}
+use Rattle.report.proofs.JudgedSlots.{empty-is}
+
+-- ---- from values, counted from i on
+
+abbrev timeFrom : List ℕ → ℕ → Time
+timeFrom vs i = record { day = getD vs i 0; hour = getD vs (i + 1) 0; minute = getD vs (i + 2) 0 }
+
+abbrev angleFrom : List ℕ → ℕ → Angle
+angleFrom vs i = record { side = getD vs i 0; degrees = getD vs (i + 1) 0; minutes = getD vs (i + 2) 0; seconds = getD vs (i + 3) 0 }
+
+abbrev quakeFrom : List ℕ → Quake
+quakeFrom vs = record {
+  notification1 = getD vs 0 0;
+  notification2 = getD vs 1 0;
+  notification3 = getD vs 2 0;
+  time = timeFrom vs 3;
+  depth = getD vs 6 0;
+  magnitude = getD vs 7 0;
+  epicenter = getD vs 8 0;
+  latitude = angleFrom vs 9;
+  longitude = angleFrom vs 13;
+}
+
+abbrev pageFrom : List ℕ → Page
+pageFrom vs = record { serial = getD vs 0 0; number = getD (drop 19 vs) 0 0; total = getD (drop 19 vs) 1 0 }
+
+abbrev eruptionFrom : List ℕ → Eruption
+eruptionFrom vs = record { time = timeFrom vs 0; warning = getD vs 3 0; volcano = getD vs 4 0 }
+
+-- a body of the category of b
+abbrev bodyFrom : Body → List ℕ → Body
+bodyFrom Nothing vs = Nothing
+bodyFrom (Hypocenter q) vs = Hypocenter (quakeFrom vs)
+bodyFrom (Intensity t) vs = Intensity (timeFrom vs 0)
+bodyFrom (Nankai p) vs = Nankai (pageFrom vs)
+bodyFrom (AshFall e) vs = AshFall (eruptionFrom vs)
+
+-- ---- the body
+
+page-again : (p : Page) (text : List ℕ) → length text ≡ 18 → pageFrom (p .serial ∷ text ++ p .number ∷ p .total ∷ []) ≡ p
+page-again p text n = ap (λ (vs : List ℕ). record { serial = p .serial; number = getD vs 0 0; total = getD vs 1 0 }) (drop-at text (p .number ∷ p .total ∷ []) 18 n)
+
+body-again : (b : Body) (text : List ℕ) → length text ≡ 18 → bodyFrom b (bodyValues b text) ≡ b
+unfolding bodyValues
+body-again Nothing text n = refl
+body-again (Hypocenter q) text n = refl
+body-again (Intensity t) text n = refl
+body-again (Nankai p) text n = ap Nankai (page-again p text n)
+body-again (AshFall e) text n = refl
+
+body-cut : (s : List ℕ) (b : Body) → bodyFrom b (map (cut s) (layout b .body)) ≡ bodyBy s (layout b .code)
+unfolding layout bodyBy
+body-cut s Nothing = refl
+body-cut s (Hypocenter q) = refl
+body-cut s (Intensity t) = refl
+body-cut s (Nankai p) = refl
+body-cut s (AshFall e) = refl
+
+-- a frame with the values of a body has that body
+pub same-body : (s : List ℕ) (b : Body) (text : List ℕ) → length text ≡ 18 → fieldOf s 17 4 ≡ layout b .code
+    → map (cut s) (layout b .body) ≡ bodyValues b text → bodyBy s (fieldOf s 17 4) ≡ b
+same-body s b text n c e = ap (bodyBy s) c ∙ sym (body-cut s b) ∙ ap (bodyFrom b) e ∙ body-again b text n
+
+-- ---- the text
+
+all-zero : (vs : List ℕ) (n : ℕ) → length vs ≡ n → Empty vs → replicate n 0 ≡ vs
+all-zero [] zero l h = refl
+all-zero [] (suc n) l h = absurd (suc-ne-zero n (sym l))
+all-zero (v ∷ vs) zero l h = absurd (suc-ne-zero (length vs) l)
+all-zero (v ∷ vs) (suc n) l h = ap₂ (λ (a : ℕ) (b : List ℕ). a ∷ b) (sym (h .0)) (all-zero vs n (suc-inj l) (h .1))
+
+pub same-text : (s : List ℕ) (b : Body) (text : List ℕ) → length text ≡ 18 → tidyText b text ≡ true
+    → map (cut s) (layout b .body) ≡ bodyValues b text → textOf s b ≡ text
+unfolding layout bodyValues textOf tidyText
+same-text s Nothing text n t e = all-zero text 18 n (empty-is text t)
+same-text s (Hypocenter q) text n t e = all-zero text 18 n (empty-is text t)
+same-text s (Intensity q) text n t e = all-zero text 18 n (empty-is text t)
+same-text s (Nankai p) text n t e = ap (λ (vs : List ℕ). take 18 (drop 1 vs)) e ∙ take-at text (p .number ∷ p .total ∷ []) 18 n
+same-text s (AshFall q) text n t e = all-zero text 18 n (empty-is text t)
+
+-- ---- the slots
+
+-- a slot is told by what its category uses and what it does not
+same-slot : (k : SlotKind) (x y : Slot) → Empty (unused k x) → Empty (unused k y) → slotValues k x ≡ slotValues k y → x ≡ y
+same-slot NoSlots x y f g e = λ i. record { hour = (f .0 ∙ sym (g .0)) i; strength = (f .1 .0 ∙ sym (g .1 .0)) i; place = (f .1 .1 .0 ∙ sym (g .1 .1 .0)) i }
+same-slot Prefectures x y f g e = λ i. record { hour = (f .0 ∙ sym (g .0)) i; strength = getD (e i) 0 0; place = getD (e i) 1 0 }
+same-slot Places x y f g e = λ i. record { hour = getD (e i) 0 0; strength = getD (e i) 1 0; place = getD (e i) 2 0 }
+
+pub same-slots : (k : SlotKind) (n : ℕ) (xs ys : List Slot) → length xs ≡ length ys → tidySlots k n xs ≡ true → tidySlots k n ys ≡ true
+    → map (slotValues k) (take n xs) ≡ map (slotValues k) (take n ys) → xs ≡ ys
+unfolding tidySlots
+same-slots k n [] [] l t u e = refl
+same-slots k n [] (y ∷ ys) l t u e = absurd (suc-ne-zero (length ys) (sym l))
+same-slots k n (x ∷ xs) [] l t u e = absurd (suc-ne-zero (length xs) l)
+same-slots k zero (x ∷ xs) (y ∷ ys) l t u e =
+    let p = and-both (empty (unused NoSlots x)) (tidySlots k zero xs) t in
+    let q = and-both (empty (unused NoSlots y)) (tidySlots k zero ys) u in
+    ap₂ (λ (a : Slot) (b : List Slot). a ∷ b) (same-slot NoSlots x y (empty-is (unused NoSlots x) (p .0)) (empty-is (unused NoSlots y) (q .0)) refl)
+    (same-slots k zero xs ys (suc-inj l) (p .1) (q .1) refl)
+same-slots k (suc n) (x ∷ xs) (y ∷ ys) l t u e =
+    let p = and-both (empty (unused k x)) (tidySlots k n xs) t in
+    let q = and-both (empty (unused k y)) (tidySlots k n ys) u in
+    ap₂ (λ (a : Slot) (b : List Slot). a ∷ b)
+    (same-slot k x y (empty-is (unused k x) (p .0)) (empty-is (unused k y) (q .0)) (ap (λ (vs : List (List ℕ)). getD vs 0 []) e))
+    (same-slots k n xs ys (suc-inj l) (p .1) (q .1) (ap (drop 1) e))

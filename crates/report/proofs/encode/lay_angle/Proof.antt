@@ -1,0 +1,74 @@
+-- `report::encode::lay_angle` meets its contract. Assumes nothing.
+use borrow.Author.Needs.{needs}
+use Rattle.report.proofs.encode.lay_angle.Statement.{statement}
+use Rattle.report.proofs.encode.lay_angle.Tie as tie
+
+cast-put : tie.Need-cast-put
+cast-put c = search needs
+
+put-requires : tie.Need-put-requires
+put-requires c κs = search needs
+
+add-put : tie.Need-add-put
+add-put c = search needs
+
+cast-put-2 : tie.Need-cast-put-2
+cast-put-2 c = search needs
+
+put-requires-2 : tie.Need-put-requires-2
+put-requires-2 c κs = search needs
+
+add-put-2 : tie.Need-add-put-2
+add-put-2 c = search needs
+
+add-put-3 : tie.Need-add-put-3
+add-put-3 c = search needs
+
+cast-put-3 : tie.Need-cast-put-3
+cast-put-3 c = search needs
+
+put-requires-3 : tie.Need-put-requires-3
+put-requires-3 c κs = search needs
+
+add-put-4 : tie.Need-add-put-4
+add-put-4 c = search needs
+
+add-put-5 : tie.Need-add-put-5
+add-put-5 c = search needs
+
+add-put-6 : tie.Need-add-put-6
+add-put-6 c = search needs
+
+cast-put-4 : tie.Need-cast-put-4
+cast-put-4 c = search needs
+
+put-requires-4 : tie.Need-put-requires-4
+put-requires-4 c κs = search needs
+
+returns : tie.Need-returns
+returns c = simp (
+  c .put4 .ensures,
+  c .before .before .put3 .ensures,
+  c .before .before .before .before .put2 .ensures,
+  c .before .before .before .before .before .before .put .ensures,
+)
+
+pub lay-angle-spec : {M : Type 1} → statement M
+lay-angle-spec =
+    tie.close
+    (tie.spec
+    cast-put
+    put-requires
+    add-put
+    cast-put-2
+    put-requires-2
+    add-put-2
+    add-put-3
+    cast-put-3
+    put-requires-3
+    add-put-4
+    add-put-5
+    add-put-6
+    cast-put-4
+    put-requires-4
+    returns)

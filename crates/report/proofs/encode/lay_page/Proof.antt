@@ -1,0 +1,59 @@
+-- `report::encode::lay_page` meets its contract. Assumes nothing.
+use Prim.Native.Nat.{ℕ}
+use Rattle.bits.specs.Frame.{placed, laid}
+use Rattle.report.proofs.Laying.{page-laid}
+use Rattle.report.specs.Records.{bodyValues}
+use borrow.Author.Needs.{needs}
+use lib.ListN.{length}
+use lib.ListN.{replicate}
+use mathlib.Core.List.{List}
+use mathlib.Core.Path.{_≡_, ap, _∙_}
+use Rattle.report.proofs.encode.lay_page.Statement.{statement}
+use Rattle.report.proofs.encode.lay_page.Tie as tie
+
+cast-put : tie.Need-cast-put
+cast-put c = search needs
+
+put-requires : tie.Need-put-requires
+put-requires c κs = search needs
+
+lay-text-requires : tie.Need-lay-text-requires
+lay-text-requires c κs = search needs
+
+cast-put-2 : tie.Need-cast-put-2
+cast-put-2 c = search needs
+
+put-requires-2 : tie.Need-put-requires-2
+put-requires-2 c κs = search needs
+
+cast-put-3 : tie.Need-cast-put-3
+cast-put-3 c = search needs
+
+put-requires-3 : tie.Need-put-requires-3
+put-requires-3 c κs = search needs
+
+returns : tie.Need-returns
+unfolding bodyValues
+returns c =
+    let s = c .before .before .before .before .before .before .before in
+    let a = s .args in
+    let l : length (a .text) ≡ 18 = s .good .1 .1 .0 .1 .0 .1 in
+    c .put3 .ensures
+    ∙ ap (λ (f : List ℕ). placed f 207 6 (a .p .total)) (c .before .before .put2 .ensures)
+    ∙ ap (λ (f : List ℕ). placed (placed f 201 6 (a .p .number)) 207 6 (a .p .total)) (c .before .before .before .before .lay-text .ensures)
+    ∙ ap (λ (f : List ℕ). placed (placed (laid f 57 (replicate 18 8) (a .text)) 201 6 (a .p .number)) 207 6 (a .p .total))
+    (c .before .before .before .before .before .put .ensures)
+    ∙ page-laid (a .f) (a .text) (a .p .serial) (a .p .number) (a .p .total) l
+
+pub lay-page-spec : {M : Type 1} → statement M
+lay-page-spec =
+    tie.close
+    (tie.spec
+    cast-put
+    put-requires
+    lay-text-requires
+    cast-put-2
+    put-requires-2
+    cast-put-3
+    put-requires-3
+    returns)

@@ -1,0 +1,46 @@
+-- `report::encode::lay_time` meets its contract. Assumes nothing.
+use borrow.Author.Needs.{needs}
+use native.Mathlib.Nat.{add-assoc}
+use Rattle.report.proofs.encode.lay_time.Statement.{statement}
+use Rattle.report.proofs.encode.lay_time.Tie as tie
+
+cast-put : tie.Need-cast-put
+cast-put c = search needs
+
+put-requires : tie.Need-put-requires
+put-requires c κs = search needs
+
+add-put : tie.Need-add-put
+add-put c = search needs
+
+cast-put-2 : tie.Need-cast-put-2
+cast-put-2 c = search needs
+
+put-requires-2 : tie.Need-put-requires-2
+put-requires-2 c κs = search needs
+
+add-put-2 : tie.Need-add-put-2
+add-put-2 c = search needs
+
+cast-put-3 : tie.Need-cast-put-3
+cast-put-3 c = search needs
+
+put-requires-3 : tie.Need-put-requires-3
+put-requires-3 c κs = search needs
+
+returns : tie.Need-returns
+returns c = simp (c .put3 .ensures, c .before .before .put2 .ensures, c .before .before .before .before .put .ensures, add-assoc (c .before .before .before .before .before .before .args .at) 5 5)
+
+pub lay-time-spec : {M : Type 1} → statement M
+lay-time-spec =
+    tie.close
+    (tie.spec
+    cast-put
+    put-requires
+    add-put
+    cast-put-2
+    put-requires-2
+    add-put-2
+    cast-put-3
+    put-requires-3
+    returns)

@@ -1,0 +1,117 @@
+-- What writing a record answers, and the frame that it writes (document 01): "Writing: 1, 3, 7, 11, then 8 and 10 by lowest
+-- bit".
+use Prim.Native.Nat.{ℕ, zero, suc, _+_, _*_, _^_, _≤_, _<_}
+use mathlib.Core.Path.{_≡_}
+use mathlib.Core.Bool.{Bool, true, false, _&&_}
+use mathlib.Core.List.{List, [], _∷_, _++_, map}
+use lib.ListN.{length, getD}
+use lib.Dec.{eqb}
+use Rattle.bits.specs.Layout.{encode}
+use Rattle.bits.specs.Frame.{bytesOf}
+use Rattle.parity.specs.Parity.{parityOfFront}
+use Rattle.report.specs.declared.refusal.Verdict.{Verdict}
+use Rattle.report.specs.declared.refusal.Verdict.the-variants.{Fine, Refused}
+use Rattle.report.specs.declared.refusal.Refusal.the-variants.{Length, Preamble, Category, Unused}
+use Rattle.report.specs.declared.record.Body.{Body}
+use Rattle.report.specs.declared.record.Body.the-variants.{Nothing, Hypocenter, Intensity, Nankai, AshFall}
+use Rattle.report.specs.declared.record.Slot.{Slot}
+use Rattle.report.specs.declared.record.SlotKind.{SlotKind}
+use Rattle.report.specs.declared.record.SlotKind.the-variants.{Nothing as NoSlots, Prefectures, Places}
+use Rattle.report.specs.declared.record.Record.{Record}
+use Rattle.report.specs.Refusals.{_then_, unless}
+use Rattle.report.specs.Layout.{Row, layout, allRows, slotCount}
+use Rattle.report.specs.Verdict.{allowed, empty, Values, verdict}
+use Rattle.report.specs.Records.{noSlot, values}
+use Rattle.report.specs.Reading.{preambles}
+use Rattle.report.specs.Conforms.{In, Empty, Holds}
+
+-- ---- what is refused
+
+-- 7
+abbrev pub known : Body → Bool
+known Nothing = false
+known (Hypocenter q) = true
+known (Intensity t) = true
+known (Nankai p) = true
+known (AshFall e) = true
+
+-- 11: what of a slot its category does not use
+abbrev pub unused : SlotKind → Slot → List ℕ
+unused NoSlots s = s .hour ∷ s .strength ∷ s .place ∷ []
+unused Prefectures s = s .hour ∷ []
+unused Places s = []
+
+-- the first n slots have nothing in what the category does not use, and the others have nothing at all
+unfoldable pub tidySlots : SlotKind → ℕ → List Slot → Bool
+tidySlots k n [] = true
+tidySlots k zero (s ∷ ss) = empty (unused NoSlots s) && tidySlots k zero ss
+tidySlots k (suc n) (s ∷ ss) = empty (unused k s) && tidySlots k n ss
+
+-- text stands in category 4 alone
+unfoldable pub tidyText : Body → List ℕ → Bool
+tidyText (Nankai p) text = true
+tidyText Nothing text = empty text
+tidyText (Hypocenter q) text = empty text
+tidyText (Intensity t) text = empty text
+tidyText (AshFall e) text = empty text
+
+abbrev pub tidy : Record → Bool
+tidy r = let k = layout (r .body) .slots in tidySlots k (slotCount k) (r .slots) && tidyText (r .body) (r .text)
+
+-- spares are not in a record: they are zero
+unfoldable pub writeAnswer : Record → ℕ → Verdict
+writeAnswer r size =
+    unless (eqb size 32) Length
+    then unless (allowed preambles (r .preamble)) Preamble
+    then unless (known (r .body)) Category
+    then unless (tidy r) Unused
+    then verdict (layout (r .body)) (values r 0 0)
+
+-- ---- the frame
+
+abbrev pub joined : List (List ℕ) → List ℕ
+joined [] = []
+joined (v ∷ vs) = v ++ joined vs
+
+-- the values one behind the other
+abbrev pub flat : Values → List ℕ
+flat v = v .head ++ (v .body ++ (joined (v .slots) ++ v .last))
+
+abbrev pub widths : List Row → List ℕ
+widths = map (λ r. r .width)
+
+-- bits 0 to 225 as one number, and the whole frame: the parity behind them, and six bits of padding
+unfoldable pub front : Record → ℕ
+front r = encode (8 ∷ widths (allRows (layout (r .body)))) (r .preamble ∷ flat (values r 0 0))
+
+unfoldable pub frame : Record → ℕ
+frame r = (front r * 2 ^ 24 + parityOfFront (front r)) * 2 ^ 6
+
+-- a refused writing leaves the buffer as it was
+abbrev pub written : Verdict → Record → List ℕ → List ℕ
+written Fine r buffer = bytesOf (frame r)
+written (Refused x) r buffer = buffer
+
+abbrev pub writeOf : Record → List ℕ → List ℕ
+writeOf r buffer = written (writeAnswer r (length buffer)) r buffer
+
+-- ---- "A record is valid when writing it to 32 bytes is not refused"
+
+abbrev pub Valid : Record → Type 0
+Valid r = writeAnswer r 32 ≡ Fine
+
+-- the same as a list of rules without an order
+abbrev pub TextUnused : Body → List ℕ → Type 0
+TextUnused (Nankai p) text = Unit
+TextUnused Nothing text = Empty text
+TextUnused (Hypocenter q) text = Empty text
+TextUnused (Intensity t) text = Empty text
+TextUnused (AshFall e) text = Empty text
+
+pub record KeepsRules (r : Record) : Type 0 where
+  pub preamble : In preambles (r .preamble)
+  pub category : r .body ≡ Nothing → ⊥
+  pub slots : (i : ℕ) → i < slotCount (layout (r .body) .slots) → Empty (unused (layout (r .body) .slots) (getD (r .slots) i noSlot))
+  pub others : (i : ℕ) → slotCount (layout (r .body) .slots) ≤ i → Empty (unused NoSlots (getD (r .slots) i noSlot))
+  pub text : TextUnused (r .body) (r .text)
+  pub rows : Holds (layout (r .body)) (values r 0 0)

@@ -1,0 +1,164 @@
+// A record as bits: fields laid one behind the other on a frame of zeros, and the parity behind them.
+// Nothing is refused here; what may be written is asked before.
+ghost use mathlib.Core.Path.{_≡_};
+ghost use mathlib.Core.Bool.{true};
+ghost use mathlib.Core.List.{_∷_, [], map};
+ghost use Prim.Native.Nat.{_≤_};
+ghost use lib.ListN.{replicate, take};
+ghost use Rattle.bits.specs.Frame.{laid, bytesOf};
+ghost use Rattle.report.specs.Layout.{layout, common, ending, time, angle, hypocenter, nankai, ashFall, page, slotRows, slotsRows, slotCount, slotFirst};
+ghost use Rattle.report.specs.Records.{headValues, lastValues, timeValues, angleValues, quakeValues, bodyValues, slotValues};
+ghost use Rattle.report.specs.Writing.{known, widths, joined, frame, Valid};
+use crate::record::Angle;
+use crate::record::Body;
+use crate::record::Common;
+use crate::record::Eruption;
+use crate::record::Page;
+use crate::record::Quake;
+use crate::record::Record;
+use crate::record::Slot;
+use crate::record::SlotKind;
+use crate::record::Time;
+
+// Bits 8 to 52.
+fn lay_common(f: [u8; 32], c: Common, b: Body) -> [u8; 32]
+    ensures { λ r. ⌜ r ≡ laid f 8 (widths (common (layout b))) (headValues c (layout b .code) 0) ⌝ }
+{
+    let message = bits::put(f, 8, 6, 43);
+    let rc = bits::put(message, 14, 3, c.rc as u64);
+    let dc = bits::put(rc, 17, 4, b.code() as u64);
+    let month = bits::put(dc, 21, 4, c.month as u64);
+    let day = bits::put(month, 25, 5, c.day as u64);
+    let hour = bits::put(day, 30, 5, c.hour as u64);
+    let minute = bits::put(hour, 35, 6, c.minute as u64);
+    let it = bits::put(minute, 41, 2, c.it as u64);
+    bits::put(it, 43, 10, 0)
+}
+
+fn lay_time(f: [u8; 32], at: usize, t: Time) -> [u8; 32]
+    requires { ⌜ at ≤ 200 ⌝ }
+    ensures { λ r. ⌜ r ≡ laid f at (widths (time at)) (timeValues t) ⌝ }
+{
+    let day = bits::put(f, at, 5, t.day as u64);
+    let hour = bits::put(day, at + 5, 5, t.hour as u64);
+    bits::put(hour, at + 10, 6, t.minute as u64)
+}
+
+// An angle whose degrees have `width` bits.
+fn lay_angle(f: [u8; 32], at: usize, width: usize, a: Angle) -> [u8; 32]
+    requires { ⌜ (at ≤ 200) × (width ≤ 8) ⌝ }
+    ensures { λ r. ⌜ r ≡ laid f at (1 ∷ width ∷ 6 ∷ 6 ∷ []) (angleValues a) ⌝ }
+{
+    let side = bits::put(f, at, 1, a.side as u64);
+    let degrees = bits::put(side, at + 1, width, a.degrees as u64);
+    let minutes = bits::put(degrees, at + 1 + width, 6, a.minutes as u64);
+    bits::put(minutes, at + 1 + width + 6, 6, a.seconds as u64)
+}
+
+fn lay_quake(f: [u8; 32], q: Quake) -> [u8; 32]
+    ensures { λ r. ⌜ r ≡ laid f 53 (widths (hypocenter .body)) (quakeValues q) ⌝ }
+{
+    let first = bits::put(f, 53, 9, q.notification1 as u64);
+    let second = bits::put(first, 62, 9, q.notification2 as u64);
+    let third = bits::put(second, 71, 9, q.notification3 as u64);
+    let quake_time = q.time;
+    let time = lay_time(third, 80, quake_time);
+    let depth = bits::put(time, 96, 9, q.depth as u64);
+    let magnitude = bits::put(depth, 105, 7, q.magnitude as u64);
+    let epicenter = bits::put(magnitude, 112, 10, q.epicenter as u64);
+    let quake_latitude = q.latitude;
+    let quake_longitude = q.longitude;
+    let latitude = lay_angle(epicenter, 122, 7, quake_latitude);
+    lay_angle(latitude, 142, 8, quake_longitude)
+}
+
+fn lay_text(f: [u8; 32], text: [u8; 18]) -> [u8; 32]
+    ensures { λ r. ⌜ r ≡ laid f 57 (replicate 18 8) text ⌝ }
+{
+    let mut next = f;
+    let mut k = 0;
+    while k < 18 {
+        let more = bits::put(next, 57 + 8 * k, 8, text[k] as u64);
+        next = more;
+        k += 1;
+    }
+    next
+}
+
+fn lay_page(f: [u8; 32], p: Page, text: [u8; 18]) -> [u8; 32]
+    ensures { λ r. ⌜ r ≡ laid f 53 (widths (nankai .body)) (bodyValues (Body.Nankai p) text) ⌝ }
+{
+    let serial = bits::put(f, 53, 4, p.serial as u64);
+    let whole = lay_text(serial, text);
+    let number = bits::put(whole, 201, 6, p.number as u64);
+    bits::put(number, 207, 6, p.total as u64)
+}
+
+fn lay_eruption(f: [u8; 32], e: Eruption) -> [u8; 32]
+    ensures { λ r. ⌜ r ≡ laid f 53 (widths (ashFall .body)) (bodyValues (Body.AshFall e) []) ⌝ }
+{
+    let eruption_time = e.time;
+    let time = lay_time(f, 53, eruption_time);
+    let warning = bits::put(time, 69, 2, e.warning as u64);
+    bits::put(warning, 71, 12, e.volcano as u64)
+}
+
+// The fields of the category, from bit 53 on.
+fn lay_body(f: [u8; 32], b: Body, text: [u8; 18]) -> [u8; 32]
+    ensures { λ r. ⌜ r ≡ laid f 53 (widths (layout b .body)) (bodyValues b text) ⌝ }
+{
+    match b {
+        Body::Nothing => f,
+        Body::Hypocenter(q) => lay_quake(f, q),
+        Body::Intensity(t) => lay_time(f, 53, t),
+        Body::Nankai(p) => lay_page(f, p, text),
+        Body::AshFall(e) => lay_eruption(f, e),
+    }
+}
+
+fn lay_slot(f: [u8; 32], kind: SlotKind, at: usize, s: Slot) -> [u8; 32]
+    requires { ⌜ at ≤ 220 ⌝ }
+    ensures { λ r. ⌜ r ≡ laid f at (widths (slotRows kind at)) (slotValues kind s) ⌝ }
+{
+    match kind {
+        SlotKind::Nothing => f,
+        SlotKind::Prefectures => {
+            let strength = bits::put(f, at, 3, s.strength as u64);
+            bits::put(strength, at + 3, 6, s.place as u64)
+        }
+        SlotKind::Places => {
+            let hour = bits::put(f, at, 3, s.hour as u64);
+            let strength = bits::put(hour, at + 3, 3, s.strength as u64);
+            bits::put(strength, at + 6, 23, s.place as u64)
+        }
+    }
+}
+
+fn lay_slots(f: [u8; 32], kind: SlotKind, slots: [Slot; 16]) -> [u8; 32]
+    ensures { λ r. ⌜ r ≡ laid f (slotFirst kind) (widths (slotsRows kind (slotCount kind) (slotFirst kind))) (joined (map (slotValues kind) (take (slotCount kind) slots))) ⌝ }
+{
+    let count = kind.count();
+    let bits = kind.bits() as usize;
+    let mut next = f;
+    let mut at = kind.first() as usize;
+    let mut k = 0;
+    while k < count {
+        let s = slots[k];
+        let more = lay_slot(next, kind, at, s);
+        next = more;
+        at += bits;
+        k += 1;
+    }
+    next
+}
+
+// The category's spare, the version and Reserved.
+fn lay_last(f: [u8; 32], b: Body, reserved: u8) -> [u8; 32]
+    requires { ⌜ known b ≡ true ⌝ }
+    ensures { λ r. ⌜ r ≡ laid f (layout b .spareFirst) (widths (ending (layout b))) (lastValues 0 reserved) ⌝ }
+{
+    let first = b.spare_first() as usize;
+    let spare = bits::put(f, first, 214 - first, 0);
+    let version = bits::put(spare, 214, 6, 1);
+    bits::put(version, 220, 6, reserved as u64)
+}
