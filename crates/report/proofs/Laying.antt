@@ -83,7 +83,7 @@ slot-length NoSlots s = refl
 slot-length Prefectures s = refl
 slot-length Places s = refl
 
-runs-length : (k : SlotKind) (n : ℕ) (ss : List Slot) → n ≤ length ss → length (runs k n) ≡ length (joined (map (slotValues k) (take n ss)))
+pub runs-length : (k : SlotKind) (n : ℕ) (ss : List Slot) → n ≤ length ss → length (runs k n) ≡ length (joined (map (slotValues k) (take n ss)))
 runs-length k zero ss h = refl
 runs-length k (suc n) [] h = absurd (omega arith)
 runs-length k (suc n) (s ∷ ss) h =

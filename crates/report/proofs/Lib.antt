@@ -16,6 +16,7 @@ pub mod Agree
 pub mod Ways
 pub mod Used
 pub mod Laying
+pub mod TidyTurns
 pub mod Numbers
 pub mod Lengths
 pub mod PaperValues
@@ -30,5 +31,6 @@ pub mod Flattened
 pub mod Parts
 pub mod WrittenThenRead
 pub mod Trips
+pub mod Encoding
 pub mod WriteNumbers
 pub mod WriteReasons

@@ -22,11 +22,11 @@ use Rattle.report.specs.Layout.{layout}
 use Rattle.report.specs.Records.{bodyOf, recordAs, recordOf, valuesOf, values}
 use Rattle.report.specs.Reading.{readAnswer, reading, readOf}
 use Rattle.report.specs.Conforms.{Conforms, Holds}
-use Rattle.report.specs.Writing.{flat, front, frame, written, writeAnswer, writeOf, Valid, KeepsRules}
+use Rattle.report.specs.Writing.{frontWidths, flat, front, frame, written, writeAnswer, writeOf, Valid, KeepsRules}
 use Rattle.report.proofs.Agree.{Outer, suits, agree}
 use Rattle.report.proofs.Frames.{layoutOf, frameValues, fine-conforming}
 use Rattle.report.proofs.Shapes.{frame-shaped}
-use Rattle.report.proofs.Rows.{frontWidths, front-total, front-fields, values-flat}
+use Rattle.report.proofs.Rows.{front-total, front-fields, values-flat}
 use Rattle.report.proofs.Tidy.{is-tidy, frame-tidy}
 use Rattle.report.proofs.Validity.{keeps-valid}
 use Rattle.report.proofs.Ends.{ended-again}

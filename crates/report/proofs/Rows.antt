@@ -16,7 +16,7 @@ use Rattle.report.specs.declared.record.SlotKind.{SlotKind}
 use Rattle.report.specs.declared.record.SlotKind.the-variants.{Nothing as NoSlots, Prefectures, Places}
 use Rattle.report.specs.Layout.{Row, Layout, spare, row, layout, hypocenter, intensity, nankai, ashFall, nothing, slotCount, slotFirst, slotBits, slotRows, slotsRows, allRows, tiles, allFit}
 use Rattle.report.specs.Records.{each, cut, valuesOf}
-use Rattle.report.specs.Writing.{joined, flat, widths}
+use Rattle.report.specs.Writing.{frontWidths, joined, flat, widths}
 use Rattle.report.proofs.Outcomes.{and-both}
 use Rattle.report.proofs.Tables.{layouts, all, tables-tile, rules-fit}
 
@@ -60,9 +60,6 @@ tiled s a (r ∷ rs) t =
     rw (shr-shr (number s) 30 (total (widths rs)), e, tiled s (a + r .width) rs (q .1))
 
 -- the widths of bits 0 to 225
-abbrev pub frontWidths : Layout → List ℕ
-frontWidths l = 8 ∷ widths (allRows l)
-
 pub front-total : (b : Body) → total (frontWidths (layout b)) ≡ 226
 front-total b = tiled-total 8 (allRows (layout b)) (tiles-all b)
 

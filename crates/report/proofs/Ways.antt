@@ -1,9 +1,10 @@
--- The three ways out of reading. Assumes nothing.
+-- The three ways out of reading, and the two of writing. Assumes nothing.
 use mathlib.Core.Path.{_≡_, sym, ap, _∙_}
 use Prim.Native.Nat.{ℕ}
 use mathlib.Core.List.{List}
 use lib.ListN.{length}
-use borrow.Author.Tests.{eq-eqb, ne-eqb}
+use borrow.Author.Tests.{eq-eqb, ne-eqb, eqb-true}
+use Rattle.bits.specs.Frame.{bytesOf}
 use Rattle.report.specs.declared.refusal.Verdict.{Verdict}
 use Rattle.report.specs.declared.refusal.Verdict.the-variants.{Fine, Refused}
 use Rattle.report.specs.declared.refusal.Refusal.{Refusal}
@@ -13,6 +14,8 @@ use Rattle.report.specs.declared.read.Reading.{Reading}
 use Rattle.report.specs.Refusals.{_then_, unless}
 use Rattle.report.specs.Records.{recordOf}
 use Rattle.report.specs.Reading.{outerOf, innerOf, readAnswer, reading, readOf}
+use Rattle.report.specs.Writing.{writeAnswer, frame, written, writeOf, Valid}
+use Rattle.report.proofs.Outcomes.{fine-both, unless-fine}
 
 pub not-a-frame : (s : List ℕ) (r : Record) (out : Reading) → (length s ≡ 32 → ⊥) → out ≡ reading (Refused Length) r → out ≡ readOf s
 unfolding unless _then_
@@ -41,3 +44,20 @@ read-on s f v out l p q e k =
     k
     ∙ ap (λ (g : List ℕ). reading (innerOf g) (recordOf g)) p
     ∙ sym (ap (λ (w : Verdict). reading w (recordOf s)) (asked s v l (q ∙ ap outerOf p) ∙ ap (λ (w : Verdict). w then innerOf s) e))
+
+-- ---- and the two of writing
+
+pub fine-size : (r : Record) (n : ℕ) → writeAnswer r n ≡ Fine → n ≡ 32
+unfolding writeAnswer
+fine-size r n h = eqb-true n 32 (unless-fine _ _ (fine-both _ _ h .0))
+
+pub fine-valid : (r : Record) (n : ℕ) (v : Verdict) → v ≡ writeAnswer r n → v ≡ Fine → Valid r
+fine-valid r n v a e = ap (writeAnswer r) (sym (fine-size r n (sym a ∙ e))) ∙ sym a ∙ e
+
+pub left-alone : (r : Record) (l : List ℕ) (v : Verdict) (x : Refusal) → v ≡ writeAnswer r (length l) → v ≡ Refused x
+    → (v ≡ writeAnswer r (length l)) × (l ≡ writeOf r l)
+left-alone r l v x a e = (a, sym (ap (λ (u : Verdict). written u r l) (sym a ∙ e)))
+
+pub written-out : (r : Record) (l o : List ℕ) (v : Verdict) → v ≡ writeAnswer r (length l) → v ≡ Fine → o ≡ bytesOf (frame r)
+    → (v ≡ writeAnswer r (length l)) × (o ≡ writeOf r l)
+written-out r l o v a e q = (a, q ∙ sym (ap (λ (u : Verdict). written u r l) (sym a ∙ e)))

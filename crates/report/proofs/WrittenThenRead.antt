@@ -21,13 +21,13 @@ use Rattle.report.specs.Verdict.{Values}
 use Rattle.report.specs.Records.{bodyOf, slotsOf, cut, recordAs, recordOf, valuesOf, values}
 use Rattle.report.specs.Reading.{preambles, categories, reading, readOf}
 use Rattle.report.specs.Conforms.{In, Holds, Conforms}
-use Rattle.report.specs.Writing.{tidySlots, tidyText, flat, front, frame, writeOf, Valid, KeepsRules}
+use Rattle.report.specs.Writing.{frontValues, frontWidths, tidySlots, tidyText, flat, front, frame, writeOf, Valid, KeepsRules}
 use Rattle.report.proofs.Outcomes.{and-both}
 use Rattle.report.proofs.Frames.{conforming-fine}
 use Rattle.report.proofs.Agree.{slots-agree}
 use Rattle.report.proofs.Lengths.{frame-filled, record-filled}
 use Rattle.report.proofs.Shapes.{Shaped, frame-shaped}
-use Rattle.report.proofs.Rows.{fits-all, frontWidths, front-total, front-fields, values-flat}
+use Rattle.report.proofs.Rows.{fits-all, front-total, front-fields, values-flat}
 use Rattle.report.proofs.Fits.{in-below, holds-fit}
 use Rattle.report.proofs.Flattened.{flat-same}
 use Rattle.report.proofs.Parts.{same-body, same-text, same-slots}
@@ -39,9 +39,6 @@ use Rattle.report.proofs.ReadThenWritten.{valid-written}
 -- ---- the number that is written
 
 -- the values of bits 0 to 225
-abbrev frontValues : Record → List ℕ
-frontValues r = r .preamble ∷ flat (values r 0 0)
-
 pub front-fit : (r : Record) → Shaped r → KeepsRules r → Fit (frontWidths (layout (r .body))) (frontValues r)
 front-fit r s k =
     let l = layout (r .body) in

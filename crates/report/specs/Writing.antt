@@ -19,7 +19,7 @@ use Rattle.report.specs.declared.record.SlotKind.{SlotKind}
 use Rattle.report.specs.declared.record.SlotKind.the-variants.{Nothing as NoSlots, Prefectures, Places}
 use Rattle.report.specs.declared.record.Record.{Record}
 use Rattle.report.specs.Refusals.{_then_, unless}
-use Rattle.report.specs.Layout.{Row, layout, allRows, slotCount}
+use Rattle.report.specs.Layout.{Row, Layout, layout, allRows, slotCount}
 use Rattle.report.specs.Verdict.{allowed, empty, Values, verdict}
 use Rattle.report.specs.Records.{noSlot, values}
 use Rattle.report.specs.Reading.{preambles}
@@ -80,9 +80,16 @@ flat v = v .head ++ (v .body ++ (joined (v .slots) ++ v .last))
 abbrev pub widths : List Row → List ℕ
 widths = map (λ r. r .width)
 
+-- the preamble and the rows, with their values
+abbrev pub frontWidths : Layout → List ℕ
+frontWidths l = 8 ∷ widths (allRows l)
+
+abbrev pub frontValues : Record → List ℕ
+frontValues r = r .preamble ∷ flat (values r 0 0)
+
 -- bits 0 to 225 as one number, and the whole frame: the parity behind them, and six bits of padding
 unfoldable pub front : Record → ℕ
-front r = encode (8 ∷ widths (allRows (layout (r .body)))) (r .preamble ∷ flat (values r 0 0))
+front r = encode (frontWidths (layout (r .body))) (frontValues r)
 
 unfoldable pub frame : Record → ℕ
 frame r = (front r * 2 ^ 24 + parityOfFront (front r)) * 2 ^ 6

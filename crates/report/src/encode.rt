@@ -8,7 +8,7 @@ ghost use lib.ListN.{replicate, take};
 ghost use Rattle.bits.specs.Frame.{laid, bytesOf};
 ghost use Rattle.report.specs.Layout.{layout, common, ending, time, angle, hypocenter, nankai, ashFall, page, slotRows, slotsRows, slotCount, slotFirst};
 ghost use Rattle.report.specs.Records.{headValues, lastValues, timeValues, angleValues, quakeValues, bodyValues, slotValues};
-ghost use Rattle.report.specs.Writing.{known, widths, joined, frame, Valid};
+ghost use Rattle.report.specs.Writing.{known, widths, joined, frontWidths, frontValues, frame, Valid};
 use crate::record::Angle;
 use crate::record::Body;
 use crate::record::Common;
@@ -161,4 +161,30 @@ fn lay_last(f: [u8; 32], b: Body, reserved: u8) -> [u8; 32]
     let spare = bits::put(f, first, 214 - first, 0);
     let version = bits::put(spare, 214, 6, 1);
     bits::put(version, 220, 6, reserved as u64)
+}
+
+// Bits 0 to 225 of a record.
+fn lay_front(r: Record) -> [u8; 32]
+    requires { ⌜ known (r .body) ≡ true ⌝ }
+    ensures { λ f. ⌜ f ≡ laid (replicate 32 0) 0 (frontWidths (layout (r .body))) (frontValues r) ⌝ }
+{
+    let common = r.common;
+    let body = r.body;
+    let slots = r.slots;
+    let text = r.text;
+    let preamble = bits::put(bits::blank(), 0, 8, r.preamble as u64);
+    let head = lay_common(preamble, common, body);
+    let fields = lay_body(head, body, text);
+    let places = lay_slots(fields, body.slot_kind(), slots);
+    lay_last(places, body, r.reserved)
+}
+
+// The frame of a valid record: the parity is that of all bits before it.
+pub fn encode(r: Record) -> [u8; 32]
+    requires { ⌜ Valid r ⌝ }
+    ensures { λ f. ⌜ f ≡ bytesOf (frame r) ⌝ }
+{
+    let front = lay_front(r);
+    let parity = parity::parity(front);
+    bits::put(front, 226, 24, parity as u64)
 }

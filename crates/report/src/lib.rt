@@ -8,3 +8,4 @@ pub mod decode; // bits as a record
 pub mod check; // the rules, on values
 pub mod encode; // a record as bits
 pub mod read; // from a lent frame to a record
+pub mod write; // from a record to a lent frame

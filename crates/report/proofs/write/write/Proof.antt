@@ -1,0 +1,57 @@
+-- `report::write::write` meets its contract. Assumes nothing.
+use Rattle.report.proofs.Ways.{fine-size, fine-valid, left-alone, written-out}
+use borrow.Author.Needs.{needs}
+use mathlib.Core.Path.{_≡_, sym, _∙_}
+use Rattle.report.proofs.write.write.Statement.{statement}
+use Rattle.report.proofs.write.write.Tie as tie
+
+answer-requires : tie.Need-answer-requires
+answer-requires c κs = search needs
+
+enum-told : tie.Need-enum-told
+enum-told c = search needs
+
+encode-requires : tie.Need-encode-requires
+encode-requires c κs =
+    let a = c .before .before in
+    fine-valid (a .before .before .args .r) _ (a .answer .result) (a .answer .ensures) (c .enum-told .given .1)
+
+copy-to-requires : tie.Need-copy-to-requires
+copy-to-requires c κs =
+    let k = c .before .before in
+    let a = k .before .before in
+    fine-size (a .before .before .args .r) _ (sym (a .answer .ensures) ∙ k .enum-told .given .1)
+
+enum-told-2 : tie.Need-enum-told-2
+enum-told-2 c = search needs
+
+same-length : tie.Need-same-length
+same-length c = search needs
+
+returns : tie.Need-returns
+returns c =
+    let p = c .before .before in
+    let n = p .before .before in
+    let k = n .before in
+    let a = k .before .before in
+    let s = a .before .before in
+    written-out (s .args .r) (s .args .frame .now) _ (a .answer .result) (a .answer .ensures) (k .enum-told .given .1) (p .copy-to .ensures ∙ n .encode .ensures)
+
+returns-2 : tie.Need-returns-2
+returns-2 c =
+    let a = c .before .before in
+    let s = a .before .before in
+    left-alone (s .args .r) (s .args .frame .now) (a .answer .result) _ (a .answer .ensures) (c .enum-told2 .given .1)
+
+pub write-spec : {M : Type 1} → statement M
+write-spec =
+    tie.close
+    (tie.spec
+    answer-requires
+    enum-told
+    encode-requires
+    copy-to-requires
+    enum-told-2
+    same-length
+    returns
+    returns-2)
