@@ -1,0 +1,6 @@
+pub mod Claims
+pub mod Writing
+pub mod Wide
+pub mod Slots
+pub mod Whole
+pub mod Back

@@ -1,0 +1,46 @@
+-- The parts of a packed record, one behind the other. Assumes nothing.
+use mathlib.Core.Path.{_≡_, refl, sym, ap, _∙_}
+use Prim.Native.Nat.{ℕ, _+_}
+use native.Mathlib.Omega.{arith}
+use mathlib.Core.List.{List, _++_}
+use lib.ListN.{length, length-append}
+use Rattle.report.specs.declared.record.Body.{Body}
+use Rattle.report.specs.declared.record.Body.the-variants.{Nothing, Hypocenter, Intensity, Nankai, AshFall}
+use Rattle.report.specs.declared.record.Record.{Record}
+use Rattle.packed.specs.Packed.{padded, headBytes, bodyBytes, slotsBytes, packed}
+use Rattle.packed.specs.Writing.{Wrote}
+use Rattle.packed.proofs.Writing.{behind, _then_, whole}
+use Rattle.packed.proofs.Slots.{length-slots}
+
+length-body : (b : Body) → length (padded 22 (bodyBytes b)) ≡ 22
+unfolding bodyBytes
+length-body Nothing = refl
+length-body (Hypocenter q) = refl
+length-body (Intensity t) = refl
+length-body (Nankai p) = refl
+length-body (AshFall e) = refl
+
+module _ (r : Record) where
+  -- bytes 0 to 30, and 0 to 126
+  abbrev pub front : List ℕ
+  front = headBytes r ++ padded 22 (bodyBytes (r .body))
+
+  abbrev pub most : List ℕ
+  most = front ++ slotsBytes (r .slots)
+
+  pub length-front : length front ≡ 31
+  length-front = length-append (headBytes r) (padded 22 (bodyBytes (r .body))) ∙ ap (λ (n : ℕ). 9 + n) (length-body (r .body))
+
+  pub length-most : length (r .slots) ≡ 16 → length most ≡ 127
+  length-most n = length-append front (slotsBytes (r .slots)) ∙ rw (length-front, length-slots (r .slots), n)
+
+  pub length-packed : length (r .slots) ≡ 16 → length (r .text) ≡ 18 → length (packed r) ≡ 145
+  unfolding packed
+  length-packed n m = length-append most (r .text) ∙ rw (length-most n, m)
+
+  -- each part written where the one before it ends
+  pub packed-in-parts : {l a b c d : List ℕ} → length (r .slots) ≡ 16 → length (r .text) ≡ 18 → length l ≡ 145 → Wrote l a 0 (headBytes r)
+      → Wrote a b 9 (padded 22 (bodyBytes (r .body))) → Wrote b c 31 (slotsBytes (r .slots)) → Wrote c d 127 (r .text) → d ≡ packed r
+  unfolding packed
+  packed-in-parts n m e x y z w =
+      whole (length-packed n m ∙ sym e) (behind (omega (arith, length-most n)) (behind (omega (arith, length-front)) (x then y) z) w)
