@@ -2,7 +2,11 @@
 // `requires`, since nobody proves what a caller in another language passes; each settles its answer
 // on every input. include/lavendelzug.h says the same in the caller's words.
 ghost use mathlib.Core.Path.{_≡_};
-ghost use Rattle.inserter.specs.Answers.{parityAnswer};
+ghost use Prim.Native.Nat.{_+_, _*_, _^_};
+ghost use Rattle.report.specs.Refusals.{says};
+ghost use Rattle.inserter.specs.Answers.{parityAnswer, word, left, readInto};
+use report::refusal::Refusal;
+use report::refusal::Verdict;
 
 // The parity of a lent frame in the low three bytes. A slice that is no frame has 1, the number of
 // that refusal, in the high byte, and zeros below it.
@@ -14,4 +18,58 @@ pub extern "C" fn lz_parity(frame: &[u8]) -> u32
         return 0x100_0000;
     }
     parity::parity(bits::frame_of(frame))
+}
+
+// An answer as one word.
+fn word(number: u8, place: u8, page: u8, mark: u8) -> u32
+    ensures { λ r. ⌜ r ≡ number * 2 ^ 24 + place * 2 ^ 16 + page * 2 ^ 8 + mark ⌝ }
+{
+    (number as u32) * 0x100_0000 + (place as u32) * 0x1_0000 + (page as u32) * 0x100 + mark as u32
+}
+
+fn refusal_word(refusal: Refusal) -> u32
+    ensures { λ r. ⌜ r ≡ word (says refusal) ⌝ }
+{
+    match refusal {
+        Refusal::Length => word(1, 0, 0, 0),
+        Refusal::Padding => word(2, 0, 0, 0),
+        Refusal::Preamble => word(3, 0, 0, 0),
+        Refusal::Parity => word(4, 0, 0, 0),
+        Refusal::Message => word(5, 0, 0, 0),
+        Refusal::Version => word(6, 0, 0, 0),
+        Refusal::Category => word(7, 0, 0, 0),
+        Refusal::Range(place) => word(8, place, 0, 0),
+        Refusal::Spare(place) => word(9, place, 0, 0),
+        Refusal::Gap(place) => word(10, place, 0, 0),
+        Refusal::Unused => word(11, 0, 0, 0),
+        Refusal::NoPage => word(12, 0, 0, 0),
+        Refusal::OtherBulletin => word(13, 0, 0, 0),
+        Refusal::Unsound => word(14, 0, 0, 0),
+        Refusal::NotHeld { page, mark } => word(15, 0, page, mark),
+        Refusal::Short => word(16, 0, 0, 0),
+        Refusal::Line => word(17, 0, 0, 0),
+    }
+}
+
+// Reads a lent frame. The answer has the number of the refusal in the high byte, its place in the
+// next, and is 0 where nothing is refused: then the buffer holds the record's bytes, and otherwise
+// it stays as it was. A buffer that is not 145 bytes long is answered 255 in the high byte, before
+// the frame is looked at.
+#[no_mangle]
+pub extern "C" fn lz_read(frame: &[u8], record_bytes: &mut [u8]) -> u32
+    ensures { λ r. ⌜ left r (now (record_bytes .exit)) ≡ readInto (now (frame .entry)) (now (record_bytes .entry)) ⌝ }
+{
+    if record_bytes.len() != 145 {
+        return word(255, 0, 0, 0);
+    }
+    let reading = report::read::read(frame);
+    let answer = reading.answer;
+    match answer {
+        Verdict::Fine => {
+            let found = reading.record;
+            packed::pack(found, record_bytes);
+            0
+        }
+        Verdict::Refused(refusal) => refusal_word(refusal),
+    }
 }

@@ -1,0 +1,60 @@
+-- `inserter::lz_read` meets its contract. Assumes nothing.
+use borrow.Author.Tests.{ne-eqb}
+use Rattle.inserter.specs.Answers.{readInto}
+use Rattle.inserter.proofs.Reading.{read-whole, refused}
+use borrow.Author.Needs.{needs}
+use Rattle.inserter.proofs.lz_read.Statement.{statement}
+use Rattle.inserter.proofs.lz_read.Tie as tie
+
+word-requires : tie.Need-word-requires
+word-requires c κs = search needs
+
+returns : tie.Need-returns
+unfolding readInto
+returns c = simp (ne-eqb _ 145 (c .before .if1 .taken), c .word .ensures)
+
+read-requires : tie.Need-read-requires
+read-requires c κs = search needs
+
+enum-told : tie.Need-enum-told
+enum-told c = search needs
+
+pack-requires : tie.Need-pack-requires
+pack-requires c κs = search needs
+
+enum-known-answer : tie.Need-enum-known-answer
+enum-known-answer c = search needs
+
+refusal-word-requires : tie.Need-refusal-word-requires
+refusal-word-requires c κs = search needs
+
+same-length : tie.Need-same-length
+same-length c = search needs
+
+returns-2 : tie.Need-returns-2
+returns-2 c =
+    let pack = c .before .before in
+    let told = pack .before .before .before in
+    let read = told .before .before in
+    read-whole _ _ (read .read .result) (read .before .if1 .left) (read .read .ensures) _ (told .enum-told .given .1) (pack .pack .ensures)
+
+returns-3 : tie.Need-returns-3
+returns-3 c =
+    let told = c .before .before in
+    let read = told .before .before in
+    refused _ _ (read .read .result) (read .before .if1 .left) (read .read .ensures) _ _ (told .answer .given .1) (c .refusal-word .ensures)
+
+pub lz-read-spec : {M : Type 1} → statement M
+lz-read-spec =
+    tie.close
+    (tie.spec
+    word-requires
+    returns
+    read-requires
+    enum-told
+    pack-requires
+    enum-known-answer
+    refusal-word-requires
+    same-length
+    returns-2
+    returns-3)
