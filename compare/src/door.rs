@@ -4,6 +4,12 @@
 mod raw {
     extern "C" {
         pub fn lz_parity(frame: *const u8, length: usize) -> u32;
+        pub fn lz_read(
+            frame: *const u8,
+            length: usize,
+            record_bytes: *mut u8,
+            record_length: usize,
+        ) -> u32;
     }
 }
 
@@ -16,4 +22,15 @@ pub fn parity(frame: &[u8]) -> Option<u32> {
         1 if answer << 8 == 0 => None,
         _ => panic!("no such answer: {answer:08X} on {} bytes", frame.len()),
     }
+}
+
+/// Reads a frame into the bytes of a record. The answer is the number of the
+/// refusal, 0 where nothing is refused, and its place, page and mark.
+pub fn read(frame: &[u8], record_bytes: &mut [u8]) -> [u8; 4] {
+    // Each pointer and its length are those of one slice; the second slice is
+    // lent for writing, so the two cannot overlap.
+    let answer = unsafe {
+        raw::lz_read(frame.as_ptr(), frame.len(), record_bytes.as_mut_ptr(), record_bytes.len())
+    };
+    answer.to_be_bytes()
 }

@@ -1,9 +1,13 @@
 //! Compares the proved functions with the reference on many inputs. It prints
 //! how many inputs each comparison had, and ends with an error at the first
-//! one on which the two differ.
+//! one on which the two differ. With the word `measure` it compares their
+//! speed instead, which is not part of the tests.
 
 mod door;
+mod measure;
+mod packed;
 mod parity;
+mod reading;
 
 use std::fmt::Debug;
 
@@ -32,5 +36,13 @@ fn run(name: &str, compare: fn(&mut Count)) {
 }
 
 fn main() {
+    if std::env::args().nth(1).as_deref() == Some("measure") {
+        return measure::measure();
+    }
     run("parity", parity::compare);
+    run("reading, frames of all kinds", reading::any_frames);
+    run("reading, fields at their bounds", reading::boundaries);
+    run("reading, slices of 0 to 40 bytes", reading::slice_lengths);
+    run("reading, buffers of other lengths", reading::buffer_lengths);
+    run("reading, document 004", reading::document_004);
 }

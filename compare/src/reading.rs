@@ -1,0 +1,131 @@
+//! Reading a frame into the bytes of a record, against the reference reader:
+//! answer, place and every field, and what a refusal leaves in the buffer.
+
+use crate::packed::{packed, Bytes, LENGTH, SLOTS, SLOT_LENGTH, TEXT};
+use crate::{door, Count};
+use reference::bits::Frame;
+use reference::generate::{any_frame, boundary_frames, slices, valid_frame};
+use reference::random::Random;
+use reference::read::read;
+use reference::record::{Category, Record};
+use reference::samples;
+use reference::write::write;
+
+const ANY_FRAMES: usize = 1_000_000;
+
+/// The number of a prefecture that the samples never name.
+const HOKKAIDO: u32 = 1;
+
+/// The byte of the page number in category 4.
+const PAGE_NUMBER: usize = 10;
+
+/// Frames of every kind that the reference builds, right ones and wrong ones.
+pub fn any_frames(count: &mut Count) {
+    let mut random = Random::new(43);
+    for _ in 0..ANY_FRAMES {
+        agree(count, &any_frame(&mut random));
+    }
+}
+
+/// Each field of each category at its bounds and just outside.
+pub fn boundaries(count: &mut Count) {
+    let mut random = Random::new(44);
+    for category in Category::ALL {
+        for frame in boundary_frames(&mut random, category) {
+            agree(count, &frame);
+        }
+    }
+}
+
+/// Slices of 0 to 40 bytes, of which only those of 32 are frames.
+pub fn slice_lengths(count: &mut Count) {
+    let mut random = Random::new(45);
+    for slice in slices(&mut random) {
+        agree(count, &slice);
+    }
+}
+
+/// A buffer of another length is 255, on a right frame and on any other, and
+/// stays as it was.
+pub fn buffer_lengths(count: &mut Count) {
+    let mut random = Random::new(46);
+    for category in Category::ALL {
+        for length in [0, 144, 146] {
+            refused_buffer(count, &valid_frame(&mut random, category), length);
+            refused_buffer(count, &any_frame(&mut random), length);
+        }
+    }
+}
+
+/// The values of document 004, and what it says of them in words.
+pub fn document_004(count: &mut Count) {
+    for record in samples::all() {
+        let frame = frame_of(&record);
+        agree(count, &frame);
+        count.same(&frame, &bytes_of(&frame), &packed(&record));
+    }
+    for record in samples::intensity() {
+        let frame = frame_of(&record);
+        let places = places(&bytes_of(&frame));
+        count.same(&frame, &places.len(), &9);
+        count.same(&frame, &places.contains(&HOKKAIDO), &false);
+    }
+    let pages = samples::nankai();
+    for delivery in pages.chunks(pages.len() / 2) {
+        let text = joined(delivery);
+        count.same(&text, &text.as_slice(), &samples::NANKAI_TEXT.as_bytes());
+    }
+}
+
+/// What the buffer holds before a call. It differs from place to place, so
+/// that no byte can be written unseen.
+fn pattern(length: usize) -> Vec<u8> {
+    (0..length).map(|place| 0xA5 ^ place as u8).collect()
+}
+
+fn agree(count: &mut Count, frame: &[u8]) {
+    let mut buffer = pattern(LENGTH);
+    let answer = door::read(frame, &mut buffer);
+    let expected = match read(frame) {
+        Ok(record) => ([0; 4], packed(&record).to_vec()),
+        Err(refusal) => ([refusal.number, refusal.place, 0, 0], pattern(LENGTH)),
+    };
+    count.same(frame, &(answer, buffer), &expected);
+}
+
+fn refused_buffer(count: &mut Count, frame: &[u8], length: usize) {
+    let mut buffer = pattern(length);
+    let answer = door::read(frame, &mut buffer);
+    count.same(frame, &(answer, buffer), &([255, 0, 0, 0], pattern(length)));
+}
+
+fn frame_of(record: &Record) -> Frame {
+    let mut frame = [0; 32];
+    write(record, &mut frame).expect("a sample is valid");
+    frame
+}
+
+/// The bytes that the proved reader gives.
+fn bytes_of(frame: &Frame) -> Bytes {
+    let mut bytes = [0; LENGTH];
+    door::read(frame, &mut bytes);
+    bytes
+}
+
+/// The places of the slots that are used.
+fn places(bytes: &Bytes) -> Vec<u32> {
+    let slots = bytes[SLOTS..TEXT].chunks(SLOT_LENGTH);
+    let place = |slot: &[u8]| u32::from_be_bytes([slot[2], slot[3], slot[4], slot[5]]);
+    slots.filter(|slot| slot.iter().any(|&byte| byte != 0)).map(place).collect()
+}
+
+/// The text of one delivery's pages, by page number, without the zeros that
+/// fill up the last page.
+fn joined(pages: &[Record]) -> Vec<u8> {
+    let mut read: Vec<Bytes> = pages.iter().map(|page| bytes_of(&frame_of(page))).collect();
+    read.sort_by_key(|bytes| bytes[PAGE_NUMBER]);
+    let mut text: Vec<u8> = read.iter().flat_map(|bytes| bytes[TEXT..].to_vec()).collect();
+    let length = text.iter().rposition(|&byte| byte != 0).map_or(0, |last| last + 1);
+    text.truncate(length);
+    text
+}
