@@ -8,7 +8,7 @@ use Rattle.parity.specs.Parity.{parityOf}
 use Rattle.report.specs.declared.refusal.Verdict.{Verdict}
 use Rattle.report.specs.declared.refusal.Verdict.the-variants.{Fine, Refused}
 use Rattle.report.specs.declared.record.Record.{Record}
-use Rattle.report.specs.Refusals.{Said, plain, says}
+use Rattle.report.specs.Refusals.{Said, plain, answers}
 use Rattle.report.specs.Reading.{readOf}
 use Rattle.packed.specs.Packed.{packed}
 
@@ -32,8 +32,8 @@ left a b = record { answer = a; buffer = b }
 
 -- a record that was read goes into the buffer; a refusal leaves the buffer as it was
 abbrev pub handed : Verdict → Record → List ℕ → Left
-handed Fine r buffer = left 0 (packed r)
-handed (Refused x) r buffer = left (word (says x)) buffer
+handed Fine r buffer = left (word (answers Fine)) (packed r)
+handed (Refused x) r buffer = left (word (answers (Refused x))) buffer
 
 -- a buffer that is not 145 bytes long is 255, whatever the frame is
 unfoldable pub readInto : List ℕ → List ℕ → Left
