@@ -11,7 +11,7 @@ use std::hint::black_box;
 use std::time::Instant;
 
 const FRAMES: usize = 100_000;
-const ROUNDS: usize = 9;
+const ROUNDS: usize = 20;
 
 pub fn measure() {
     let mut random = Random::new(100);
@@ -19,12 +19,12 @@ pub fn measure() {
         (0..FRAMES).map(|number| valid_frame(&mut random, Category::ALL[number % 4])).collect();
     let mut proved = Vec::new();
     let mut reference = Vec::new();
-    // The two take turns, so that a slow moment of the machine meets both.
+    // The two take turns, so that a slow time of the machine meets both.
     for _ in 0..ROUNDS {
         proved.push(nanoseconds(&frames, read_proved));
         reference.push(nanoseconds(&frames, read_reference));
     }
-    let (proved, reference) = (median(proved), median(reference));
+    let (proved, reference) = (fastest(proved), fastest(reference));
     println!("proved:    {proved:.0} ns for one frame");
     println!("reference: {reference:.0} ns for one frame");
     println!("ratio:     {:.2}", proved / reference);
@@ -49,7 +49,7 @@ fn nanoseconds(frames: &[Frame], read: fn(&Frame)) -> f64 {
     start.elapsed().as_nanos() as f64 / frames.len() as f64
 }
 
-fn median(mut times: Vec<f64>) -> f64 {
-    times.sort_by(f64::total_cmp);
-    times[times.len() / 2]
+/// The fastest round: what else the machine does can only slow one down.
+fn fastest(times: Vec<f64>) -> f64 {
+    times.into_iter().fold(f64::INFINITY, f64::min)
 }
