@@ -68,16 +68,16 @@ widths-four a b c d = simp map-append
 many : (rs : List Row) (vs : List ℕ) → length vs ≡ length rs → length (widths rs) ≡ length vs
 many rs vs e = length-map rs (λ r. r .width) ∙ sym e
 
-pub all-laid : (r : Record) → Shaped r → (f g h i j : List ℕ) → let l = layout (r .body) in (
-    f ≡ placed (replicate 32 0) 0 8 (r .preamble)
+pub all-laid : (r : Record) → Shaped r → (z f g h i j : List ℕ) → let l = layout (r .body) in (
+    f ≡ placed z 0 8 (r .preamble)
     → g ≡ laid f 8 (widths (common l)) (headValues (r .common) (l .code) 0)
     → h ≡ laid g 53 (widths (l .body)) (bodyValues (r .body) (r .text))
     → i ≡ laid h (slotFirst (l .slots)) (slotsWidths l) (joined (map (slotValues (l .slots)) (take (slotCount (l .slots)) (r .slots))))
     → j ≡ laid i (l .spareFirst) (widths (ending l)) (lastValues 0 (r .reserved))
-    → j ≡ laid (replicate 32 0) 0 (frontWidths l) (frontValues r)
+    → j ≡ laid z 0 (frontWidths l) (frontValues r)
     )
 unfolding values
-all-laid r s f g h i j ef eg eh ei ej =
+all-laid r s z f g h i j ef eg eh ei ej =
     let l = layout (r .body) in
     let k = l .slots in
     let wb = widths (l .body) in
@@ -85,7 +85,7 @@ all-laid r s f g h i j ef eg eh ei ej =
     let vb = bodyValues (r .body) (r .text) in
     let vs = joined (map (slotValues k) (take (slotCount k) (r .slots))) in
     let ve = lastValues 0 (r .reserved) in
-    let first = placed (replicate 32 0) 0 8 (r .preamble) in
+    let first = placed z 0 8 (r .preamble) in
     let head = headValues (r .common) (l .code) 0 in
     let enough : slotCount k ≤ length (r .slots) = omega (arith, s .slots, at-most-sixteen k) in
     let many-slots = ap length (slots-widths k (slotCount k) (slotFirst k)) ∙ runs-length k (slotCount k) (r .slots) enough in

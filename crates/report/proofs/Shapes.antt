@@ -18,7 +18,6 @@ use Rattle.report.specs.Records.{each, slotsOf, textOf, recordAs}
 pub record Shaped (r : Record) : Type 0 where
   pub slots : length (r .slots) ≡ 16
   pub text : length (r .text) ≡ 18
-  pub bytes : Bytes (r .text)
 
 -- ---- the record of a frame is shaped
 
@@ -36,24 +35,6 @@ text-eighteen s (Intensity t) = refl
 text-eighteen s (Nankai p) = refl
 text-eighteen s (AshFall e) = refl
 
-each-bytes : (n : ℕ) (f : ℕ → ℕ) → ((i : ℕ) → f i < 256) → Bytes (each n f)
-each-bytes zero f h i = omega arith
-each-bytes (suc n) f h zero = h 0
-each-bytes (suc n) f h (suc i) = each-bytes n (λ j. f (suc j)) (λ j. h (suc j)) i
-
-zero-bytes : (n : ℕ) → Bytes (replicate n 0)
-zero-bytes zero i = omega arith
-zero-bytes (suc n) zero = omega arith
-zero-bytes (suc n) (suc i) = zero-bytes n i
-
-text-bytes : (s : List ℕ) (b : Body) → Bytes (textOf s b)
-unfolding textOf
-text-bytes s Nothing = zero-bytes 18
-text-bytes s (Hypocenter q) = zero-bytes 18
-text-bytes s (Intensity t) = zero-bytes 18
-text-bytes s (Nankai p) = each-bytes 18 (λ i. fieldOf s (57 + 8 * i) 8) (λ i. field-lt s (57 + 8 * i) 8)
-text-bytes s (AshFall e) = zero-bytes 18
-
 pub frame-shaped : (s : List ℕ) (b : Body) → Shaped (recordAs s b)
 unfolding recordAs
-frame-shaped s b = record { slots = slots-sixteen s (layout b .slots); text = text-eighteen s b; bytes = text-bytes s b }
+frame-shaped s b = record { slots = slots-sixteen s (layout b .slots); text = text-eighteen s b }

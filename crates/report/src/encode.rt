@@ -164,15 +164,15 @@ fn lay_last(f: [u8; 32], b: Body, reserved: u8) -> [u8; 32]
 }
 
 // Bits 0 to 225 of a record.
-fn lay_front(r: Record) -> [u8; 32]
+fn lay_front(f: [u8; 32], r: Record) -> [u8; 32]
     requires { ⌜ known (r .body) ≡ true ⌝ }
-    ensures { λ f. ⌜ f ≡ laid (replicate 32 0) 0 (frontWidths (layout (r .body))) (frontValues r) ⌝ }
+    ensures { λ next. ⌜ next ≡ laid f 0 (frontWidths (layout (r .body))) (frontValues r) ⌝ }
 {
     let common = r.common;
     let body = r.body;
     let slots = r.slots;
     let text = r.text;
-    let preamble = bits::put(bits::blank(), 0, 8, r.preamble as u64);
+    let preamble = bits::put(f, 0, 8, r.preamble as u64);
     let head = lay_common(preamble, common, body);
     let fields = lay_body(head, body, text);
     let places = lay_slots(fields, body.slot_kind(), slots);
@@ -184,7 +184,8 @@ pub fn encode(r: Record) -> [u8; 32]
     requires { ⌜ Valid r ⌝ }
     ensures { λ f. ⌜ f ≡ bytesOf (frame r) ⌝ }
 {
-    let front = lay_front(r);
+    let blank = bits::blank();
+    let front = lay_front(blank, r);
     let parity = parity::parity(front);
     bits::put(front, 226, 24, parity as u64)
 }

@@ -1,11 +1,15 @@
 -- `report::encode::encode` meets its contract. Assumes nothing.
+use Prim.Native.Nat.{ℕ}
+use Rattle.bits.specs.Frame.{laid}
 use Rattle.report.proofs.Encoding.{encoded, valid-known}
 use Rattle.report.proofs.Shapes.{Shaped}
 use Rattle.report.proofs.Used.{unmapped}
-use borrow.Author.Needs.{needs, elem-fits-field, length-unmapped}
+use Rattle.report.specs.Layout.{layout}
+use Rattle.report.specs.Writing.{frontWidths, frontValues}
+use borrow.Author.Needs.{needs, length-unmapped}
 use borrow.Author.Needs.{needs}
+use mathlib.Core.List.{List}
 use mathlib.Core.Path.{_≡_, ap, _∙_}
-use mir.Syntax.{w8}
 use Rattle.report.proofs.encode.encode.Statement.{statement}
 use Rattle.report.proofs.encode.encode.Tie as tie
 
@@ -13,15 +17,14 @@ use Rattle.report.proofs.encode.encode.Tie as tie
 shaped : (c : tie.Start) → Shaped (c .args .r)
 shaped c =
     let r = c .args .r in
-    let text = c .good .0 .1 .1 .1 .1 .1 .1 .1 .0 in
-    record {
-      slots = unmapped _ (r .slots) 16 (c .good .0 .1 .1 .1 .1 .1 .1 .0 .1 .0 .1);
-      text = length-unmapped _ (r .text) 18 (text .1 .0 .1);
-      bytes = λ i. elem-fits-field w8 w8 (r .text) _ i (text .1 .1) tt .fits;
-    }
+    let good = c .good .0 in
+    record { slots = unmapped _ (r .slots) 16 (good .1 .1 .1 .1 .1 .1 .0 .1 .0 .1); text = length-unmapped _ (r .text) 18 (good .1 .1 .1 .1 .1 .1 .1 .0 .1 .0 .1) }
+
+blank-requires : tie.Need-blank-requires
+blank-requires c κs = search needs
 
 lay-front-requires : tie.Need-lay-front-requires
-lay-front-requires c κs = valid-known (c .args .r) (c .pre)
+lay-front-requires c κs = valid-known (c .before .args .r) (c .before .pre)
 
 parity-requires : tie.Need-parity-requires
 parity-requires c κs = search needs
@@ -35,8 +38,12 @@ put-requires c κs = search needs
 returns : tie.Need-returns
 returns c =
     let f = c .before .before in
-    let s = f .before in
-    c .put .ensures ∙ encoded (s .args .r) (shaped s) (s .pre) (f .lay-front .result) (c .before .parity .result) (f .lay-front .ensures) (c .before .parity .ensures)
+    let s = f .before .before in
+    let r = s .args .r in
+    let front = f .lay-front .ensures ∙ ap (λ (z : List ℕ). laid z 0 (frontWidths (layout (r .body))) (frontValues r)) (f .before .blank .ensures) in
+    c .put .ensures ∙ encoded r (shaped s) (s .pre) (f .lay-front .result) (c .before .parity .result) front (c .before .parity .ensures)
 
 pub encode-spec : {M : Type 1} → statement M
-encode-spec = tie.close (tie.spec lay-front-requires parity-requires cast-put put-requires returns)
+encode-spec =
+    tie.close
+    (tie.spec blank-requires lay-front-requires parity-requires cast-put put-requires returns)

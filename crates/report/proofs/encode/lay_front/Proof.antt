@@ -1,5 +1,5 @@
 -- `report::encode::lay_front` meets its contract. Assumes nothing.
-use Rattle.bits.specs.Frame.{placed, laid}
+use Rattle.bits.specs.Frame.{laid}
 use Rattle.report.proofs.Encoding.{all-laid}
 use Rattle.report.proofs.Shapes.{Shaped}
 use Rattle.report.proofs.Used.{unmapped}
@@ -7,12 +7,11 @@ use Rattle.report.specs.Layout.{slotsRows, slotCount, slotFirst}
 use Rattle.report.specs.Records.{slotValues}
 use Rattle.report.specs.Writing.{widths, joined}
 use Rattle.report.specs.declared.record.SlotKind.{SlotKind}
-use borrow.Author.Needs.{needs, elem-fits-field, length-unmapped}
+use borrow.Author.Needs.{needs, length-unmapped}
 use borrow.Author.Needs.{needs}
 use lib.ListN.{take}
-use mathlib.Core.List.{List, map}
+use mathlib.Core.List.{map}
 use mathlib.Core.Path.{_≡_, ap, _∙_}
-use mir.Syntax.{w8}
 use Rattle.report.proofs.encode.lay_front.Statement.{statement}
 use Rattle.report.proofs.encode.lay_front.Tie as tie
 
@@ -20,15 +19,8 @@ use Rattle.report.proofs.encode.lay_front.Tie as tie
 shaped : (c : tie.Start) → Shaped (c .args .r)
 shaped c =
     let r = c .args .r in
-    let text = c .good .0 .1 .1 .1 .1 .1 .1 .1 .0 in
-    record {
-      slots = unmapped _ (r .slots) 16 (c .good .0 .1 .1 .1 .1 .1 .1 .0 .1 .0 .1);
-      text = length-unmapped _ (r .text) 18 (text .1 .0 .1);
-      bytes = λ i. elem-fits-field w8 w8 (r .text) _ i (text .1 .1) tt .fits;
-    }
-
-blank-requires : tie.Need-blank-requires
-blank-requires c κs = search needs
+    let good = c .good .1 .0 in
+    record { slots = unmapped _ (r .slots) 16 (good .1 .1 .1 .1 .1 .1 .0 .1 .0 .1); text = length-unmapped _ (r .text) 18 (good .1 .1 .1 .1 .1 .1 .1 .0 .1 .0 .1) }
 
 cast-put : tie.Need-cast-put
 cast-put c = search needs
@@ -56,10 +48,10 @@ returns c =
     let k = c .before .before in
     let b = k .before in
     let p = b .before .before in
-    let s = p .before .before .before .before .before .before in
+    let s = p .before .before .before .before .before in
     let r = s .args .r in
-    all-laid r (shaped s) (p .put .result) (b .before .lay-common .result) (b .lay-body .result) (c .before .lay-slots .result) (c .lay-last .result)
-    (p .put .ensures ∙ ap (λ (f : List _). placed f 0 8 (r .preamble)) (p .before .before .blank .ensures)) (b .before .lay-common .ensures) (b .lay-body .ensures)
+    all-laid r (shaped s) (s .args .f) (p .put .result) (b .before .lay-common .result) (b .lay-body .result) (c .before .lay-slots .result) (c .lay-last .result)
+    (p .put .ensures) (b .before .lay-common .ensures) (b .lay-body .ensures)
     (c .before .lay-slots .ensures
     ∙ ap (λ (x : SlotKind). laid (b .lay-body .result) (slotFirst x) (widths (slotsRows x (slotCount x) (slotFirst x))) (joined (map (slotValues x) (take (slotCount x) (r .slots)))))
     (k .slot-kind .ensures))
@@ -69,7 +61,6 @@ pub lay-front-spec : {M : Type 1} → statement M
 lay-front-spec =
     tie.close
     (tie.spec
-    blank-requires
     cast-put
     put-requires
     lay-common-requires
