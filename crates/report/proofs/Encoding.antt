@@ -5,11 +5,11 @@ use Prim.Native.Nat.{ℕ, _+_, _-_, _*_, _/_, _%_, _^_, _≤_, _<_}
 use native.Mathlib.Nat.{zero-add, mul-mod-left}
 use native.Mathlib.Omega.{arith}
 use mathlib.Core.Bool.{true}
-use mathlib.Core.List.{List, [], _∷_, _++_, map, map-append}
+use mathlib.Core.List.{List, _++_, map, map-append}
 use lib.ListN.{length, replicate, take, length-map}
 use lib.Dec.{lit<, lit≤}
 use lib.Pow.{shl-shr}
-use Rattle.bits.specs.Layout.{total, encode, Fit}
+use Rattle.bits.specs.Layout.{total, encode}
 use Rattle.bits.specs.Frame.{number, bytesOf, placed, laid}
 use Rattle.bits.proofs.Frames.{frame-is, number-256}
 use Rattle.bits.proofs.Laid.{Frame, Free, bytesOf-frame, placed-frame, laid-frame, number-laid, number-placed-free, laid-append}
@@ -21,9 +21,9 @@ use Rattle.report.specs.declared.record.Body.the-variants.{Nothing, Hypo
 use Rattle.report.specs.declared.record.Record.{Record}
 use Rattle.report.specs.Layout.{Row, Layout, common, ending, layout, slotsRows, slotCount, slotFirst}
 use Rattle.report.specs.Records.{headValues, lastValues, bodyValues, slotValues, values}
-use Rattle.report.specs.Writing.{known, writeAnswer, frontValues, frontWidths, widths, joined, flat, front, frame, Valid}
+use Rattle.report.specs.Writing.{known, writeAnswer, frontValues, frontWidths, widths, joined, front, frame, Valid}
 use Rattle.report.proofs.Outcomes.{fine-both, unless-fine}
-use Rattle.report.proofs.Laying.{runs, runs-length, slots-widths}
+use Rattle.report.proofs.Laying.{runs-length, slots-widths}
 use Rattle.report.proofs.Lengths.{record-filled}
 use Rattle.report.proofs.Rows.{front-total}
 use Rattle.report.proofs.Shapes.{Shaped}

@@ -50,7 +50,7 @@ at-most-one : (b : Bool) → cond b 0 1 ≤ 1
 at-most-one true = omega arith
 at-most-one false = omega arith
 
-turn-place : (x y : Refusal) → turn x ≤ turn y → place x ≤ place y
+pub turn-place : (x y : Refusal) → turn x ≤ turn y → place x ≤ place y
 turn-place x y h = by-place (place x) (place y) _ _ (at-most-one (eqb (says y .number) 10)) h
 
 lowest : (s : List ℕ) (x : Refusal) → innerOf s ≡ Refused x → Lowest (layoutOf s) (frameValues s) x

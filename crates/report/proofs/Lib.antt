@@ -1,7 +1,7 @@
 pub mod Claims
 pub mod Tables
 pub mod Spans
-pub mod Codes
+pub mod KnownCodes
 pub mod Filling
 pub mod Walks
 pub mod SlotTurns

@@ -1,18 +1,16 @@
 -- Records as lists have a shape: sixteen slots, 18 text bytes. Assumes nothing.
 use mathlib.Core.Path.{_≡_, refl}
-use Prim.Native.Nat.{ℕ, zero, suc, _+_, _*_, _<_}
+use Prim.Native.Nat.{ℕ}
 use native.Mathlib.Omega.{arith}
 use mathlib.Core.List.{List}
-use lib.ListN.{length, replicate}
-use Rattle.bits.specs.Frame.{Bytes, fieldOf}
-use Rattle.bits.proofs.Frames.{field-lt}
+use lib.ListN.{length}
 use Rattle.report.specs.declared.record.Body.{Body}
 use Rattle.report.specs.declared.record.Body.the-variants.{Nothing, Hypocenter, Intensity, Nankai, AshFall}
 use Rattle.report.specs.declared.record.SlotKind.{SlotKind}
 use Rattle.report.specs.declared.record.SlotKind.the-variants.{Nothing as NoSlots, Prefectures, Places}
 use Rattle.report.specs.declared.record.Record.{Record}
 use Rattle.report.specs.Layout.{layout}
-use Rattle.report.specs.Records.{each, slotsOf, textOf, recordAs}
+use Rattle.report.specs.Records.{slotsOf, textOf, recordAs}
 
 -- what an array of the code tells by its type
 pub record Shaped (r : Record) : Type 0 where

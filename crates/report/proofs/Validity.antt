@@ -1,7 +1,7 @@
 -- What writing a record answers, and what the record is. Assumes nothing.
 use mathlib.Core.Path.{_≡_, refl, sym, ap, _∙_}
-use mathlib.Core.Bool.{Bool, true, false, cond}
-use Prim.Native.Nat.{ℕ, _+_, _≤_}
+use mathlib.Core.Bool.{true}
+use Prim.Native.Nat.{ℕ}
 use native.Mathlib.Omega.{arith}
 use lib.ListN.{length, take, length-map}
 use lib.Dec.{eqb}
@@ -13,17 +13,16 @@ use Rattle.report.specs.declared.refusal.Refusal.the-variants.{Length, P
 use Rattle.report.specs.declared.record.Body.{Body}
 use Rattle.report.specs.declared.record.Body.the-variants.{Nothing, Hypocenter, Intensity, Nankai, AshFall}
 use Rattle.report.specs.declared.record.Record.{Record}
-use Rattle.report.specs.Refusals.{says}
 use Rattle.report.specs.Layout.{Layout, layout, slotCount}
 use Rattle.report.specs.Verdict.{Values, allowed, verdict}
 use Rattle.report.specs.Records.{slotValues, values}
 use Rattle.report.specs.Reading.{preambles}
 use Rattle.report.specs.Conforms.{In}
-use Rattle.report.specs.Reasons.{place, Lowest, Tidy, writeQuestions, WhyNotWritten}
+use Rattle.report.specs.Reasons.{Lowest, Tidy, writeQuestions, WhyNotWritten}
 use Rattle.report.specs.Writing.{known, tidy, writeAnswer, Valid, KeepsRules}
+use Rattle.report.proofs.Frames.{turn-place}
 use Rattle.report.proofs.Outcomes.{false-not-true}
 use Rattle.report.proofs.Spans.{allowed-in, in-allowed}
-use Rattle.report.proofs.Judged.{turn}
 use Rattle.report.proofs.JudgedFrames.{JudgesAll, whole}
 use Rattle.report.proofs.Ordered.{Met, Answers, unquestioned, question}
 use Rattle.report.proofs.SlotTurns.{taken}
@@ -91,16 +90,6 @@ pub keeps-valid : (r : Record) → Shaped r → KeepsRules r → Valid r
 keeps-valid r s k = answered r 32 .met (met r k) ∙ judged-record r (s .slots) .passes (k .rows)
 
 -- ---- reasons
-
-by-place : (p q i j : ℕ) → j ≤ 1 → p + p + i ≤ q + q + j → p ≤ q
-by-place p q i j h k = omega arith
-
-at-most-one : (b : Bool) → cond b 0 1 ≤ 1
-at-most-one true = omega arith
-at-most-one false = omega arith
-
-turn-place : (x y : Refusal) → turn x ≤ turn y → place x ≤ place y
-turn-place x y h = by-place (place x) (place y) _ _ (at-most-one (eqb (says y .number) 10)) h
 
 lowest : (r : Record) (x : Refusal) → length (r .slots) ≡ 16 → innerWrite r ≡ Refused x → Lowest (recordLayout r) (recordValues r) x
 lowest r x n e =

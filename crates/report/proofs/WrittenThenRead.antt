@@ -21,7 +21,7 @@ use Rattle.report.specs.Verdict.{Values}
 use Rattle.report.specs.Records.{bodyOf, slotsOf, cut, recordAs, recordOf, valuesOf, values}
 use Rattle.report.specs.Reading.{preambles, categories, reading, readOf}
 use Rattle.report.specs.Conforms.{In, Holds, Conforms}
-use Rattle.report.specs.Writing.{frontValues, frontWidths, tidySlots, tidyText, flat, front, frame, writeOf, Valid, KeepsRules}
+use Rattle.report.specs.Writing.{frontValues, frontWidths, tidySlots, tidyText, front, frame, writeOf, Valid, KeepsRules}
 use Rattle.report.proofs.Outcomes.{and-both}
 use Rattle.report.proofs.Frames.{conforming-fine}
 use Rattle.report.proofs.Agree.{slots-agree}

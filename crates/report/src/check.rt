@@ -3,19 +3,21 @@
 // the answer.
 ghost use mathlib.Core.Path.{_≡_};
 ghost use mathlib.Core.Bool.{_&&_};
-ghost use mathlib.Core.List.{List, map, _∷_, []};
+ghost use mathlib.Core.List.{List, map};
 ghost use Prim.Native.Nat.{ℕ, _+_, _≤_};
 ghost use lib.Dec.{leb, eqb};
 ghost use lib.ListN.{length, take};
 ghost use Rattle.bits.specs.Frame.{Bytes};
 ghost use Rattle.report.specs.Refusals.{_then_, unless};
-ghost use Rattle.report.specs.Layout.{_to_, layout, common, ending, time, angle, hypocenter, nankai, ashFall, slotRows, slotCount};
-ghost use Rattle.report.specs.Verdict.{allowed, walk, slotsVerdict, verdict};
+ghost use Rattle.report.specs.Layout.{layout, common, ending, time, angle, hypocenter, nankai, ashFall, slotRows, slotCount};
+ghost use Rattle.report.specs.Verdict.{walk, slotsVerdict, verdict};
 ghost use Rattle.report.specs.Records.{headValues, lastValues, timeValues, angleValues, quakeValues, bodyValues, slotValues, values};
-ghost use Rattle.report.specs.Reading.{preambles, categories};
 ghost use Rattle.report.specs.Slots.{laterRun};
-use crate::meaning::Depth;
-use crate::meaning::Magnitude;
+use crate::codes::between;
+use crate::codes::is_classification;
+use crate::codes::is_depth;
+use crate::codes::is_magnitude;
+use crate::codes::is_notification;
 use crate::record::Angle;
 use crate::record::Body;
 use crate::record::Common;
@@ -28,97 +30,6 @@ use crate::record::SlotKind;
 use crate::record::Time;
 use crate::refusal::Refusal;
 use crate::refusal::Verdict;
-
-// ---- one value
-
-fn between(v: u32, lo: u32, hi: u32) -> bool
-    ensures { λ r. ⌜ r ≡ leb lo v && leb v hi ⌝ }
-{
-    lo <= v && v <= hi
-}
-
-pub fn is_preamble(v: u8) -> bool
-    ensures { λ r. ⌜ r ≡ allowed preambles v ⌝ }
-{
-    match v {
-        0x53 | 0x9A | 0xC6 => true,
-        _ => false,
-    }
-}
-
-pub fn is_category(v: u8) -> bool
-    ensures { λ r. ⌜ r ≡ allowed categories v ⌝ }
-{
-    match v {
-        2 | 3 | 4 | 9 => true,
-        _ => false,
-    }
-}
-
-fn is_classification(v: u8) -> bool
-    ensures { λ r. ⌜ r ≡ allowed (2 to 2 ∷ 7 to 7 ∷ []) v ⌝ }
-{
-    match v {
-        2 | 7 => true,
-        _ => false,
-    }
-}
-
-fn is_notification(v: u16) -> bool
-    ensures { λ r. ⌜ r ≡ allowed (0 to 0 ∷ 101 to 500 ∷ []) v ⌝ }
-{
-    match v {
-        0 | 101..=500 => true,
-        _ => false,
-    }
-}
-
-fn is_depth(v: u16) -> bool
-    ensures { λ r. ⌜ r ≡ allowed (0 to 501 ∷ 511 to 511 ∷ []) v ⌝ }
-{
-    match Depth::of(v) {
-        Depth::Kilometres(_) => true,
-        Depth::Deeper => true,
-        Depth::Unknown => true,
-        Depth::OutOfRange => false,
-    }
-}
-
-fn is_magnitude(v: u8) -> bool
-    ensures { λ r. ⌜ r ≡ allowed (1 to 101 ∷ 126 to 126 ∷ 127 to 127 ∷ []) v ⌝ }
-{
-    match Magnitude::of(v) {
-        Magnitude::InRange(_) => true,
-        Magnitude::UnknownAboveEight => true,
-        Magnitude::Unknown => true,
-        Magnitude::OutOfRange => false,
-    }
-}
-
-// Issue or cancellation.
-fn is_uncorrected(v: u8) -> bool
-    ensures { λ r. ⌜ r ≡ allowed (0 to 0 ∷ 2 to 2 ∷ []) v ⌝ }
-{
-    match v {
-        0 | 2 => true,
-        _ => false,
-    }
-}
-
-impl Body {
-    // Issue or cancellation; in an ash fall report also correction.
-    fn has_type(self, v: u8) -> bool
-        ensures { λ r. ⌜ r ≡ allowed (layout self .types) v ⌝ }
-    {
-        match self {
-            Body::Nothing => is_uncorrected(v),
-            Body::Hypocenter(_) => is_uncorrected(v),
-            Body::Intensity(_) => is_uncorrected(v),
-            Body::Nankai(_) => is_uncorrected(v),
-            Body::AshFall(_) => v <= 2,
-        }
-    }
-}
 
 // ---- one question after another
 

@@ -5,6 +5,7 @@ pub mod refusal; // why a call is refused
 pub mod record; // what a frame says
 pub mod meaning; // what the numbers in it say
 pub mod decode; // bits as a record
+pub mod codes; // which values a field may hold
 pub mod check; // the rules, on values
 pub mod encode; // a record as bits
 pub mod read; // from a lent frame to a record

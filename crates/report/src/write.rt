@@ -8,7 +8,7 @@ ghost use Rattle.report.specs.Layout.{slotCount};
 ghost use Rattle.report.specs.Verdict.{empty};
 ghost use Rattle.report.specs.Writing.{known, unused, tidySlots, tidyText, tidy, writeAnswer, writeOf};
 use crate::check::check;
-use crate::check::is_preamble;
+use crate::codes::is_preamble;
 use crate::encode::encode;
 use crate::record::Body;
 use crate::record::Record;

@@ -9,7 +9,7 @@ use Rattle.report.specs.Writing.{frontWidths, frontValues}
 use borrow.Author.Needs.{needs, length-unmapped}
 use borrow.Author.Needs.{needs}
 use mathlib.Core.List.{List}
-use mathlib.Core.Path.{_≡_, ap, _∙_}
+use mathlib.Core.Path.{ap, _∙_}
 use Rattle.report.proofs.encode.encode.Statement.{statement}
 use Rattle.report.proofs.encode.encode.Tie as tie
 

@@ -11,7 +11,7 @@ use borrow.Author.Needs.{needs, length-unmapped}
 use borrow.Author.Needs.{needs}
 use lib.ListN.{take}
 use mathlib.Core.List.{map}
-use mathlib.Core.Path.{_≡_, ap, _∙_}
+use mathlib.Core.Path.{ap, _∙_}
 use Rattle.report.proofs.encode.lay_front.Statement.{statement}
 use Rattle.report.proofs.encode.lay_front.Tie as tie
 

@@ -1,11 +1,11 @@
 -- `report::encode::lay_last` meets its contract. Assumes nothing.
-use Prim.Native.Nat.{ℕ, _+_, _-_, _≤_}
+use Prim.Native.Nat.{ℕ, _-_}
 use Rattle.bits.specs.Frame.{placed}
 use Rattle.report.proofs.Laying.{Spare, spare-of, last-laid}
 use Rattle.report.specs.Layout.{layout}
 use borrow.Author.Needs.{needs}
 use mathlib.Core.List.{List}
-use mathlib.Core.Path.{_≡_, sym, ap, ap₂, _∙_}
+use mathlib.Core.Path.{_≡_, ap, ap₂, _∙_}
 use native.Mathlib.Omega.{arith}
 use Rattle.report.proofs.encode.lay_last.Statement.{statement}
 use Rattle.report.proofs.encode.lay_last.Tie as tie

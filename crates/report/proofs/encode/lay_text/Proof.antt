@@ -1,5 +1,5 @@
 -- `report::encode::lay_text` meets its contract: the bytes passed are laid. Assumes nothing.
-use Prim.Native.Nat.{ℕ, _+_, _-_, _*_, _≤_, _<_}
+use Prim.Native.Nat.{ℕ, _+_, _-_, _*_, _≤_}
 use Rattle.bits.proofs.Arrays.{each-bytes}
 use Rattle.bits.specs.Frame.{Bytes, laid, placed}
 use Rattle.report.proofs.Laying.{byte-more}
@@ -7,7 +7,7 @@ use borrow.Author.Needs.{needs}
 use lib.ListN.{length, getD, take, replicate}
 use lib.Seq.{take-all}
 use mathlib.Core.List.{List}
-use mathlib.Core.Path.{_≡_, refl, sym, ap, _∙_}
+use mathlib.Core.Path.{_≡_, refl, ap, _∙_}
 use native.Mathlib.Nat.{lt-of-lt-of-le}
 use native.Mathlib.Omega.{arith}
 use lib.Dec.{lit≤}

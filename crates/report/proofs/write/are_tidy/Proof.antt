@@ -1,5 +1,5 @@
 -- `report::write::are_tidy` meets its contract: what is left decides. Assumes nothing.
-use Prim.Native.Nat.{ℕ, _-_, _≤_, _<_}
+use Prim.Native.Nat.{ℕ, _-_, _≤_}
 use Rattle.report.proofs.TidyTurns.{rest, tidy-so-far, not-tidy, all-tidy}
 use Rattle.report.specs.declared.record.SlotKind.the-variants.{Nothing}
 use Rattle.report.specs.Layout.{slotCount}

@@ -3,7 +3,7 @@ use Rattle.report.specs.Layout.{layout, slotCount}
 use Rattle.report.specs.Writing.{tidySlots, tidyText}
 use Rattle.report.specs.declared.record.SlotKind.{SlotKind}
 use borrow.Author.Needs.{needs}
-use mathlib.Core.Bool.{Bool, true, false, _&&_}
+use mathlib.Core.Bool.{Bool, _&&_}
 use mathlib.Core.Path.{_≡_, sym, ap, _∙_}
 use Rattle.report.proofs.write.is_tidy.Statement.{statement}
 use Rattle.report.proofs.write.is_tidy.Tie as tie

@@ -1,7 +1,7 @@
 -- `report::write::write` meets its contract. Assumes nothing.
 use Rattle.report.proofs.Ways.{fine-size, fine-valid, left-alone, written-out}
 use borrow.Author.Needs.{needs}
-use mathlib.Core.Path.{_≡_, sym, _∙_}
+use mathlib.Core.Path.{sym, _∙_}
 use Rattle.report.proofs.write.write.Statement.{statement}
 use Rattle.report.proofs.write.write.Tie as tie
 

@@ -1,9 +1,8 @@
 -- `report::record::SlotKind::of_slot` meets its contract. Assumes nothing.
-use Prim.Native.Nat.{ℕ, _<_, _≤_}
+use Prim.Native.Nat.{_<_, _≤_}
 use Rattle.report.specs.Layout.{slotCount}
 use borrow.Author.Needs.{needs}
 use borrow.Author.Tests.{lt-ltb, le-ltb}
-use mathlib.Core.Path.{_≡_, sym, ap, _∙_}
 use native.Mathlib.Omega.{arith}
 use Rattle.report.proofs.record.SlotKind.of_slot.Statement.{statement}
 use Rattle.report.proofs.record.SlotKind.of_slot.Tie as tie

@@ -1,9 +1,9 @@
--- `report::check::is_classification` meets its contract. Assumes nothing.
+-- `report::codes::is_classification` meets its contract. Assumes nothing.
 use Rattle.report.proofs.Spans.{key-yes, key-no}
 use mathlib.Core.List.{[], _∷_}
 use mathlib.Core.Path.{sym}
-use Rattle.report.proofs.check.is_classification.Statement.{statement}
-use Rattle.report.proofs.check.is_classification.Tie as tie
+use Rattle.report.proofs.codes.is_classification.Statement.{statement}
+use Rattle.report.proofs.codes.is_classification.Tie as tie
 
 returns : tie.Need-returns
 returns c = sym (key-yes (2 ∷ 7 ∷ []) _ (c .match .keys1))

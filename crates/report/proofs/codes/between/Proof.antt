@@ -1,7 +1,7 @@
--- `report::check::between` meets its contract. Assumes nothing.
+-- `report::codes::between` meets its contract. Assumes nothing.
 use borrow.Author.Tests.{le-leb, lt-leb}
-use Rattle.report.proofs.check.between.Statement.{statement}
-use Rattle.report.proofs.check.between.Tie as tie
+use Rattle.report.proofs.codes.between.Statement.{statement}
+use Rattle.report.proofs.codes.between.Tie as tie
 
 returns : tie.Need-returns
 returns c = simp (le-leb _ _ (c .if1 .taken))

@@ -1,9 +1,9 @@
--- `report::check::is_uncorrected` meets its contract. Assumes nothing.
+-- `report::codes::is_uncorrected` meets its contract. Assumes nothing.
 use Rattle.report.proofs.Spans.{key-yes, key-no}
 use mathlib.Core.List.{[], _∷_}
 use mathlib.Core.Path.{sym}
-use Rattle.report.proofs.check.is_uncorrected.Statement.{statement}
-use Rattle.report.proofs.check.is_uncorrected.Tie as tie
+use Rattle.report.proofs.codes.is_uncorrected.Statement.{statement}
+use Rattle.report.proofs.codes.is_uncorrected.Tie as tie
 
 returns : tie.Need-returns
 returns c = sym (key-yes (0 ∷ 2 ∷ []) _ (c .match .keys1))

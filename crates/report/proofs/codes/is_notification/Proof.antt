@@ -1,12 +1,12 @@
--- `report::check::is_notification` meets its contract. Assumes nothing.
+-- `report::codes::is_notification` meets its contract. Assumes nothing.
 use Rattle.report.proofs.Spans.{in-allowed, not-allowed}
 use Rattle.report.specs.Layout.{_to_}
 use mathlib.Core.List.{[], _∷_}
 use mathlib.Core.Logic.{inl, inr, ⊎-elim}
 use mathlib.Core.Path.{sym}
 use native.Mathlib.Omega.{arith}
-use Rattle.report.proofs.check.is_notification.Statement.{statement}
-use Rattle.report.proofs.check.is_notification.Tie as tie
+use Rattle.report.proofs.codes.is_notification.Statement.{statement}
+use Rattle.report.proofs.codes.is_notification.Tie as tie
 
 returns : tie.Need-returns
 returns c =

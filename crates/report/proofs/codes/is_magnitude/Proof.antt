@@ -1,9 +1,9 @@
--- `report::check::is_magnitude` meets its contract. Assumes nothing.
-use Rattle.report.proofs.Codes.{saysMagnitude, magnitude-known}
+-- `report::codes::is_magnitude` meets its contract. Assumes nothing.
+use Rattle.report.proofs.KnownCodes.{saysMagnitude, magnitude-known}
 use borrow.Author.Needs.{needs}
 use mathlib.Core.Path.{sym, ap, _∙_}
-use Rattle.report.proofs.check.is_magnitude.Statement.{statement}
-use Rattle.report.proofs.check.is_magnitude.Tie as tie
+use Rattle.report.proofs.codes.is_magnitude.Statement.{statement}
+use Rattle.report.proofs.codes.is_magnitude.Tie as tie
 
 of-requires : tie.Need-of-requires
 of-requires c κs = search needs

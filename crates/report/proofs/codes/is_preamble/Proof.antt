@@ -1,9 +1,9 @@
--- `report::check::is_preamble` meets its contract. Assumes nothing.
+-- `report::codes::is_preamble` meets its contract. Assumes nothing.
 use Rattle.report.proofs.Spans.{key-yes, key-no}
 use mathlib.Core.List.{[], _∷_}
 use mathlib.Core.Path.{sym}
-use Rattle.report.proofs.check.is_preamble.Statement.{statement}
-use Rattle.report.proofs.check.is_preamble.Tie as tie
+use Rattle.report.proofs.codes.is_preamble.Statement.{statement}
+use Rattle.report.proofs.codes.is_preamble.Tie as tie
 
 returns : tie.Need-returns
 returns c = sym (key-yes (0x53 ∷ 0x9A ∷ 0xC6 ∷ []) _ (c .match .keys1))

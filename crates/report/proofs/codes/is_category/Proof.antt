@@ -1,15 +1,15 @@
--- `report::check::is_category` meets its contract. Assumes nothing.
-use Rattle.report.proofs.Codes.{two-to-four}
+-- `report::codes::is_category` meets its contract. Assumes nothing.
+use Rattle.report.proofs.KnownCodes.{two-to-four}
 use Rattle.report.proofs.Spans.{not-allowed}
 use Rattle.report.specs.Reading.{categories}
 use Rattle.report.specs.Verdict.{allowed}
 use mathlib.Core.Logic.{⊎-elim}
 use mathlib.Core.Path.{sym, ap}
 use native.Mathlib.Omega.{arith}
-use Rattle.report.proofs.check.is_category.Statement.{statement}
-use Rattle.report.proofs.check.is_category.Tie as tie
+use Rattle.report.proofs.codes.is_category.Statement.{statement}
+use Rattle.report.proofs.codes.is_category.Tie as tie
 
--- `report::check::is_category` meets its contract. Assumes nothing.
+-- `report::codes::is_category` meets its contract. Assumes nothing.
 
 returns : tie.Need-returns
 returns c = sym (not-allowed categories _ (λ h. ⊎-elim (λ k. omega arith) (λ h. ⊎-elim (λ k. omega arith) (λ h. ⊎-elim (λ k. omega arith) (λ h. ⊎-elim (λ k. omega arith) (λ h. h) h) h) h) h))

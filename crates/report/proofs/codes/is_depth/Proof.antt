@@ -1,9 +1,9 @@
--- `report::check::is_depth` meets its contract. Assumes nothing.
-use Rattle.report.proofs.Codes.{saysDepth, depth-known}
+-- `report::codes::is_depth` meets its contract. Assumes nothing.
+use Rattle.report.proofs.KnownCodes.{saysDepth, depth-known}
 use borrow.Author.Needs.{needs}
 use mathlib.Core.Path.{sym, ap, _∙_}
-use Rattle.report.proofs.check.is_depth.Statement.{statement}
-use Rattle.report.proofs.check.is_depth.Tie as tie
+use Rattle.report.proofs.codes.is_depth.Statement.{statement}
+use Rattle.report.proofs.codes.is_depth.Tie as tie
 
 of-requires : tie.Need-of-requires
 of-requires c κs = search needs
