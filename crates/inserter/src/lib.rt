@@ -1,6 +1,6 @@
 // The doors to C and Rust: functions on numbers and byte slices, over the proved crates. None has a
 // `requires`, since nobody proves what a caller in another language passes; each settles its answer
-// on every input. include/lavendelzug.h says the same in the caller's words.
+// on every input.
 ghost use mathlib.Core.Path.{_≡_};
 ghost use Prim.Native.Nat.{_+_, _*_, _^_};
 ghost use Rattle.report.specs.Refusals.{says};

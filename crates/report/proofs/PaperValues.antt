@@ -2,7 +2,7 @@
 -- Assumes nothing.
 use mathlib.Core.Path.{_≡_, refl}
 use mathlib.Core.List.{List, [], _∷_, _++_, map}
-use Prim.Native.Nat.{ℕ, _/_}
+use Prim.Native.Nat.{ℕ}
 use lib.ListN.{replicate}
 use Rattle.bits.specs.Layout.{encode}
 use Rattle.report.specs.declared.record.Time.{Time}
@@ -11,6 +11,9 @@ use Rattle.report.specs.declared.record.Body.{Body}
 use Rattle.report.specs.declared.record.Body.the-variants.{Hypocenter, Intensity, Nankai}
 use Rattle.report.specs.declared.record.Slot.{Slot}
 use Rattle.report.specs.declared.record.SlotKind.the-variants.{Prefectures}
+use Rattle.report.specs.declared.meaning.Prefecture.{Prefecture}
+use Rattle.report.specs.declared.meaning.Prefecture.the-variants.{Number, Nowhere}
+use Rattle.report.specs.Meaning.{prefectureOf}
 use Rattle.report.specs.Refusals.{Said, plain, at, answers, _then_, unless}
 use Rattle.report.specs.Layout.{Row, layout, slotFirst, slotRows}
 use Rattle.report.specs.Verdict.{allowed, judge, walk, empty, later, slotsVerdict, verdict}
@@ -82,8 +85,12 @@ abbrev pub slotValue : Slot → Outcome
 slotValue s = number (encode (map (λ (r : Row). r .width) (slotRows Prefectures (slotFirst Prefectures))) (slotValues Prefectures s))
 
 -- "A place divided by 100000, remainder dropped, is its prefecture"
+abbrev pub numbered : Prefecture → Outcome
+numbered (Number n) = number n
+numbered Nowhere = said (plain 0)
+
 abbrev pub prefecture : ℕ → Outcome
-prefecture place = number (place / 100000)
+prefecture place = numbered (prefectureOf place)
 
 -- a page of category 4
 abbrev pub page : ℕ → ℕ → Outcome
@@ -133,5 +140,5 @@ abbrev pub expected : Value → Outcome
 expected (a gives b) = b
 
 pub every-row : map found paperValues ≡ map expected paperValues
-unfolding _then_ unless allowed judge walk empty later slotsVerdict verdict layout bodyValues values
+unfolding _then_ unless allowed judge walk empty later slotsVerdict verdict layout bodyValues values prefectureOf
 every-row = refl
