@@ -168,7 +168,7 @@ fn text_of(f: [u8; 32], body: Body) -> [u8; 18]
     }
 }
 
-pub fn decode(f: [u8; 32]) -> Record
+pub(crate) fn decode(f: [u8; 32]) -> Record
     ensures { λ r. ⌜ r ≡ recordOf f ⌝ }
 {
     let body = body_of(f);

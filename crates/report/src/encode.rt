@@ -180,7 +180,7 @@ fn lay_front(f: [u8; 32], r: Record) -> [u8; 32]
 }
 
 // The frame of a valid record: the parity is that of all bits before it.
-pub fn encode(r: Record) -> [u8; 32]
+pub(crate) fn encode(r: Record) -> [u8; 32]
     requires { ⌜ Valid r ⌝ }
     ensures { λ f. ⌜ f ≡ bytesOf (frame r) ⌝ }
 {
