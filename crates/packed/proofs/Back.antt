@@ -1,23 +1,23 @@
 -- From the bytes back to the record, so that the bytes tell records apart. Assumes nothing.
 use mathlib.Core.Path.{_≡_, refl, sym, ap, _∙_}
-use Prim.Native.Nat.{ℕ, zero, suc, _+_, _^_, _<_}
+use Prim.Native.Nat.{ℕ, zero, suc, _+_, _*_, _^_, _<_}
+use native.Mathlib.Omega.{arith}
 use native.Mathlib.Nat.{mod-eq-of-lt}
-use mathlib.Core.Bool.{cond}
+use mathlib.Core.Bool.{Bool, false}
 use mathlib.Core.List.{List, [], _∷_, _++_, append-assoc}
-use lib.ListN.{length, getD, take, drop}
-use lib.Seq.{drop-at}
-use lib.Dec.{eqb}
+use lib.ListN.{length, getD, drop}
+use lib.Seq.{drop-at, getD-drop}
 use Rattle.bits.specs.Frame.{number}
 use Rattle.bits.proofs.Claims.{decoded-then-encoded}
-use Rattle.report.specs.declared.record.Time.{Time}
-use Rattle.report.specs.declared.record.Angle.{Angle}
-use Rattle.report.specs.declared.record.Quake.{Quake}
 use Rattle.report.specs.declared.record.Body.{Body}
 use Rattle.report.specs.declared.record.Body.the-variants.{Nothing, Hypocenter, Intensity, Nankai, AshFall}
 use Rattle.report.specs.declared.record.Slot.{Slot}
 use Rattle.report.specs.declared.record.Record.{Record}
 use Rattle.report.specs.Layout.{layout}
-use Rattle.packed.specs.Packed.{wide, padded, bodyBytes, slotsBytes, packed}
+use Rattle.report.specs.Verdict.{empty}
+use Rattle.report.specs.Records.{each}
+use Rattle.packed.specs.Packed.{wide, padded, headBytes, bodyBytes, slotBytes, slotsBytes, packed}
+use Rattle.packed.specs.Unpacked.{fourAt, slotAt, bodyBy, bodyFrom, stray, slotsFrom, marked, textFrom, unpackedAs, unpacked}
 use Rattle.packed.proofs.Whole.{front, most, length-front, length-most}
 
 -- ---- the numbers that have more than one byte fit their bytes
@@ -46,43 +46,12 @@ two-back v h = decoded-then-encoded (8 ∷ 8 ∷ []) v ∙ mod-eq-of-lt h
 four-back : (v : ℕ) → v < 2 ^ 32 → number (wide 4 v) ≡ v
 four-back v h = decoded-then-encoded (8 ∷ 8 ∷ 8 ∷ 8 ∷ []) v ∙ mod-eq-of-lt h
 
--- ---- from the bytes at k on
+-- ---- 9 to 30
 
--- a number of two bytes
-abbrev two : List ℕ → ℕ → ℕ
-two l k = number (getD l k 0 ∷ getD l (k + 1) 0 ∷ [])
-
-abbrev time : List ℕ → ℕ → Time
-time l k = record { day = getD l k 0; hour = getD l (k + 1) 0; minute = getD l (k + 2) 0 }
-
-abbrev angle : List ℕ → ℕ → Angle
-angle l k = record { side = getD l k 0; degrees = getD l (k + 1) 0; minutes = getD l (k + 2) 0; seconds = getD l (k + 3) 0 }
-
-abbrev quake : List ℕ → Quake
-quake l = record {
-  notification1 = two l 0;
-  notification2 = two l 2;
-  notification3 = two l 4;
-  time = time l 6;
-  depth = two l 9;
-  magnitude = getD l 11 0;
-  epicenter = two l 12;
-  latitude = angle l 14;
-  longitude = angle l 18;
-}
-
--- by the category's code
-body : ℕ → List ℕ → Body
-body dc l =
-    cond (eqb dc 2) (Hypocenter (quake l))
-    (cond (eqb dc 3) (Intensity (time l 0))
-    (cond (eqb dc 4) (Nankai (record { serial = getD l 0 0; number = getD l 1 0; total = getD l 2 0 }))
-    (cond (eqb dc 9) (AshFall (record { time = time l 0; warning = getD l 3 0; volcano = two l 4 })) Nothing)))
-
-body-back : (b : Body) (rest : List ℕ) → BodyFits b → body (layout b .code) (padded 22 (bodyBytes b) ++ rest) ≡ b
-unfolding body bodyBytes layout
-body-back Nothing rest h = refl
-body-back (Hypocenter q) rest h =
+body-back : (r : Record) (b : Body) (rest : List ℕ) → BodyFits b → bodyBy (headBytes r ++ padded 22 (bodyBytes b) ++ rest) (layout b .code) ≡ b
+unfolding bodyBy bodyBytes layout
+body-back r Nothing rest h = refl
+body-back r (Hypocenter q) rest h =
     ap Hypocenter λ i. record {
       notification1 = two-back (q .notification1) (h .0) i;
       notification2 = two-back (q .notification2) (h .1 .0) i;
@@ -94,54 +63,103 @@ body-back (Hypocenter q) rest h =
       latitude = q .latitude;
       longitude = q .longitude;
     }
-body-back (Intensity t) rest h = refl
-body-back (Nankai p) rest h = refl
-body-back (AshFall e) rest h = ap AshFall λ i. record { time = e .time; warning = e .warning; volcano = two-back (e .volcano) h i }
+body-back r (Intensity t) rest h = refl
+body-back r (Nankai p) rest h = refl
+body-back r (AshFall e) rest h = ap AshFall λ i. record { time = e .time; warning = e .warning; volcano = two-back (e .volcano) h i }
 
-slots : ℕ → List ℕ → List Slot
-slots zero l = []
-slots (suc n) l = record { hour = getD l 0 0; strength = getD l 1 0; place = number (take 4 (drop 2 l)) } ∷ slots n (drop 6 l)
+-- behind the body's bytes there are zeros
+not-stray : (r : Record) (b : Body) (rest : List ℕ) → stray b (headBytes r ++ padded 22 (bodyBytes b) ++ rest) ≡ false
+unfolding bodyBytes empty
+not-stray r Nothing rest = refl
+not-stray r (Hypocenter q) rest = refl
+not-stray r (Intensity t) rest = refl
+not-stray r (Nankai p) rest = refl
+not-stray r (AshFall e) rest = refl
 
-slots-back : (ss : List Slot) (rest : List ℕ) → SlotsFit ss → slots (length ss) (slotsBytes ss ++ rest) ≡ ss
-unfolding slots slotsBytes
+-- ---- one behind the other
+
+each-same : {A : Type 0} (n : ℕ) (f g : ℕ → A) → ((i : ℕ) → f i ≡ g i) → each n f ≡ each n g
+each-same zero f g h = refl
+each-same (suc n) f g h = λ j. h 0 j ∷ each-same n (λ i. f (suc i)) (λ i. g (suc i)) (λ i. h (suc i)) j
+
+byte-behind : (n : ℕ) (l : List ℕ) (j k : ℕ) → j ≡ n + k → getD l j 0 ≡ getD (drop n l) k 0
+byte-behind n l j k e = ap (λ (x : ℕ). getD l x 0) e ∙ sym (getD-drop n l k 0)
+
+place-behind : (n : ℕ) (l : List ℕ) (j k : ℕ) → j ≡ n + k → fourAt l j ≡ fourAt (drop n l) k
+place-behind n l j k e = λ i. number (
+    byte-behind n l j k e i
+    ∷ byte-behind n l (j + 1) (k + 1) (omega (arith, e)) i
+    ∷ byte-behind n l (j + 2) (k + 2) (omega (arith, e)) i
+    ∷ byte-behind n l (j + 3) (k + 3) (omega (arith, e)) i ∷ []
+    )
+
+slot-behind : (n : ℕ) (l : List ℕ) (j k : ℕ) → j ≡ n + k → slotAt l j ≡ slotAt (drop n l) k
+slot-behind n l j k e = λ i. record {
+  hour = byte-behind n l j k e i;
+  strength = byte-behind n l (j + 1) (k + 1) (omega (arith, e)) i;
+  place = place-behind n l (j + 2) (k + 2) (omega (arith, e)) i;
+}
+
+slots-back : (ss : List Slot) (rest : List ℕ) → SlotsFit ss → each (length ss) (λ i. slotAt (slotsBytes ss ++ rest) (6 * i)) ≡ ss
+unfolding slotsBytes
 slots-back [] rest h = refl
-slots-back (s ∷ ss) rest h = λ i. record { hour = s .hour; strength = s .strength; place = four-back (s .place) (h .0) i } ∷ slots-back ss rest (h .1) i
+slots-back (s ∷ ss) rest h =
+    let l : List ℕ = slotBytes s ++ slotsBytes ss ++ rest in
+    let first : slotAt l 0 ≡ s = λ i. record { hour = s .hour; strength = s .strength; place = four-back (s .place) (h .0) i } in
+    let others : each (length ss) (λ i. slotAt l (6 * suc i)) ≡ ss =
+    each-same (length ss) (λ i. slotAt l (6 * suc i)) (λ i. slotAt (drop 6 l) (6 * i)) (λ i. slot-behind 6 l (6 * suc i) (6 * i) (omega arith))
+    ∙ slots-back ss rest (h .1)
+    in λ i. first i ∷ others i
+
+text-back : (t : List ℕ) → each (length t) (λ i. getD t i 0) ≡ t
+text-back [] = refl
+text-back (v ∷ t) = ap (λ (l : List ℕ). v ∷ l) (text-back t)
 
 -- ---- the record
 
-unpacked : List ℕ → Record
-unpacked l = record {
-  preamble = getD l 1 0;
-  reserved = getD l 2 0;
-  common = record { rc = getD l 3 0; month = getD l 4 0; day = getD l 5 0; hour = getD l 6 0; minute = getD l 7 0; it = getD l 8 0 };
-  body = body (getD l 0 0) (drop 9 l);
-  slots = slots 16 (drop 31 l);
-  text = drop 127 l;
-}
+module _ (r : Record) (f : Fits r) where
+  behind-front : packed r ≡ front r ++ (slotsBytes (r .slots) ++ r .text)
+  unfolding packed
+  behind-front = append-assoc (front r) (slotsBytes (r .slots)) (r .text)
 
-back : (r : Record) → Fits r → unpacked (packed r) ≡ r
-unfolding packed unpacked
-back r f = λ i. record {
-  preamble = r .preamble;
-  reserved = r .reserved;
-  common = r .common;
-  body = body-part i;
-  slots = slots-part i;
-  text = drop-at (most r) (r .text) 127 (length-most r (f .slots)) i;
-}
-  where
-    behind-front : packed r ≡ front r ++ (slotsBytes (r .slots) ++ r .text)
-    behind-front = append-assoc (front r) (slotsBytes (r .slots)) (r .text)
+  body-part : bodyFrom (packed r) ≡ r .body
+  unfolding packed
+  body-part =
+      ap (λ (l : List ℕ). bodyBy l (layout (r .body) .code)) behind-front
+      ∙ body-back r (r .body) (slotsBytes (r .slots) ++ r .text) (f .body)
 
-    body-part : body (layout (r .body) .code) (drop 9 (packed r)) ≡ r .body
-    body-part = ap (λ (l : List ℕ). body (layout (r .body) .code) (drop 9 l)) behind-front ∙ body-back (r .body) (slotsBytes (r .slots) ++ r .text) (f .body)
+  stray-part : stray (r .body) (packed r) ≡ false
+  stray-part = ap (stray (r .body)) behind-front ∙ not-stray r (r .body) (slotsBytes (r .slots) ++ r .text)
 
-    slots-part : slots 16 (drop 31 (packed r)) ≡ r .slots
-    slots-part =
-        ap (λ (l : List ℕ). slots 16 (drop 31 l)) behind-front
-        ∙ ap (slots 16) (drop-at (front r) (slotsBytes (r .slots) ++ r .text) 31 (length-front r))
-        ∙ ap (λ (n : ℕ). slots n (slotsBytes (r .slots) ++ r .text)) (sym (f .slots))
-        ∙ slots-back (r .slots) (r .text) (f .places)
+  slots-part : slotsFrom (packed r) ≡ r .slots
+  slots-part =
+      each-same 16 (λ i. slotAt (packed r) (31 + 6 * i)) (λ i. slotAt (drop 31 (packed r)) (6 * i)) (λ i. slot-behind 31 (packed r) (31 + 6 * i) (6 * i) refl)
+      ∙ ap (λ (l : List ℕ). each 16 (λ i. slotAt (drop 31 l) (6 * i))) behind-front
+      ∙ ap (λ (l : List ℕ). each 16 (λ i. slotAt l (6 * i))) (drop-at (front r) (slotsBytes (r .slots) ++ r .text) 31 (length-front r))
+      ∙ ap (λ (n : ℕ). each n (λ i. slotAt (slotsBytes (r .slots) ++ r .text) (6 * i))) (sym (f .slots))
+      ∙ slots-back (r .slots) (r .text) (f .places)
+
+  text-part : textFrom (packed r) ≡ r .text
+  unfolding packed
+  text-part =
+      each-same 18 (λ i. getD (packed r) (127 + i) 0) (λ i. getD (drop 127 (packed r)) i 0) (λ i. byte-behind 127 (packed r) (127 + i) i refl)
+      ∙ ap (λ (l : List ℕ). each 18 (λ i. getD l i 0)) (drop-at (most r) (r .text) 127 (length-most r (f .slots)))
+      ∙ ap (λ (n : ℕ). each n (λ i. getD (r .text) i 0)) (sym (f .text))
+      ∙ text-back (r .text)
+
+  by-body : unpackedAs (packed r) (r .body) ≡ r
+  unfolding packed unpackedAs
+  by-body = λ i. record {
+    preamble = r .preamble;
+    reserved = r .reserved;
+    common = r .common;
+    body = r .body;
+    slots = (ap (λ (b : Bool). marked b (slotsFrom (packed r))) stray-part ∙ slots-part) i;
+    text = text-part i;
+  }
+
+  pub back : unpacked (packed r) ≡ r
+  back = ap (unpackedAs (packed r)) body-part ∙ by-body
 
 pub told-apart : (r s : Record) → Fits r → Fits s → packed r ≡ packed s → r ≡ s
 told-apart r s f g e = sym (back r f) ∙ ap unpacked e ∙ back s g

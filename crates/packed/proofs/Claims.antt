@@ -3,6 +3,7 @@ use mathlib.Core.Path.{_≡_}
 use lib.ListN.{length}
 use Rattle.report.specs.declared.record.Record.{Record}
 use Rattle.packed.specs.Packed.{packed}
+use Rattle.packed.specs.Unpacked.{unpacked}
 use Rattle.packed.proofs.Whole as Whole
 use Rattle.packed.proofs.Back as Back
 
@@ -13,3 +14,7 @@ packed-has-145-bytes = Whole.length-packed
 -- Nothing is lost: records whose numbers fit their bytes are told apart by the bytes.
 pub bytes-tell-records-apart : (r s : Record) → Back.Fits r → Back.Fits s → packed r ≡ packed s → r ≡ s
 bytes-tell-records-apart = Back.told-apart
+
+-- The way there and back: such a record is given back by its bytes.
+pub packed-then-unpacked : (r : Record) → Back.Fits r → unpacked (packed r) ≡ r
+packed-then-unpacked = Back.back

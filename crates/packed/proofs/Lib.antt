@@ -3,4 +3,5 @@ pub mod Writing
 pub mod Wide
 pub mod Slots
 pub mod Whole
+pub mod Stray
 pub mod Back
