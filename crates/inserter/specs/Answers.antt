@@ -10,7 +10,9 @@ use Rattle.report.specs.declared.refusal.Verdict.the-variants.{Fine, Refused}
 use Rattle.report.specs.declared.record.Record.{Record}
 use Rattle.report.specs.Refusals.{Said, plain, answers}
 use Rattle.report.specs.Reading.{readOf}
+use Rattle.report.specs.Writing.{writeAnswer, writeOf}
 use Rattle.packed.specs.Packed.{packed}
+use Rattle.packed.specs.Unpacked.{unpacked}
 
 -- a parity has 24 bits; above them stands the number of the refusal, which is 1 where the slice is not 32 bytes long
 unfoldable pub parityAnswer : List ℕ → ℕ
@@ -39,3 +41,10 @@ handed (Refused x) r buffer = left (word (answers (Refused x))) buffer
 unfoldable pub readInto : List ℕ → List ℕ → Left
 readInto frame buffer =
     cond (eqb (length buffer) 145) (handed (readOf frame .answer) (readOf frame .«record») buffer) (left (word (plain 255)) buffer)
+
+-- ---- writing
+
+-- record bytes that are not 145 are 255, whatever the buffer is; a refusal leaves the buffer as it was
+unfoldable pub writeFrom : List ℕ → List ℕ → Left
+writeFrom bytes buffer =
+    cond (eqb (length bytes) 145) (left (word (answers (writeAnswer (unpacked bytes) (length buffer)))) (writeOf (unpacked bytes) buffer)) (left (word (plain 255)) buffer)

@@ -3,8 +3,8 @@
 // on every input.
 ghost use mathlib.Core.Path.{_≡_};
 ghost use Prim.Native.Nat.{_+_, _*_, _^_};
-ghost use Rattle.report.specs.Refusals.{says};
-ghost use Rattle.inserter.specs.Answers.{parityAnswer, word, left, readInto};
+ghost use Rattle.report.specs.Refusals.{says, answers};
+ghost use Rattle.inserter.specs.Answers.{parityAnswer, word, left, readInto, writeFrom};
 use report::refusal::Refusal;
 use report::refusal::Verdict;
 
@@ -72,4 +72,27 @@ pub extern "C" fn lz_read(frame: &[u8], record_bytes: &mut [u8]) -> u32
         }
         Verdict::Refused(refusal) => refusal_word(refusal),
     }
+}
+
+fn verdict_word(verdict: Verdict) -> u32
+    ensures { λ r. ⌜ r ≡ word (answers verdict) ⌝ }
+{
+    match verdict {
+        Verdict::Fine => 0,
+        Verdict::Refused(refusal) => refusal_word(refusal),
+    }
+}
+
+// Writes the record of lent bytes to a lent frame. The answer is as that of `lz_read`; where
+// something is refused the frame stays as it was. Record bytes that are not 145 are answered 255 in
+// the high byte, before the frame is looked at.
+#[no_mangle]
+pub extern "C" fn lz_write(record_bytes: &[u8], frame: &mut [u8]) -> u32
+    ensures { λ r. ⌜ left r (now (frame .exit)) ≡ writeFrom (now (record_bytes .entry)) (now (frame .entry)) ⌝ }
+{
+    if record_bytes.len() != 145 {
+        return word(255, 0, 0, 0);
+    }
+    let record = packed::unpack(record_bytes);
+    verdict_word(report::write::write(record, frame))
 }

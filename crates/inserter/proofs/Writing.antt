@@ -1,0 +1,28 @@
+-- The way through writing from 145 bytes. Assumes nothing.
+use mathlib.Core.Path.{_≡_, sym, ap, _∙_}
+use mathlib.Core.Bool.{Bool, cond}
+use Prim.Native.Nat.{ℕ}
+use mathlib.Core.List.{List}
+use lib.ListN.{length}
+use borrow.Author.Tests.{eq-eqb}
+use Rattle.report.specs.declared.refusal.Verdict.{Verdict}
+use Rattle.report.specs.declared.record.Record.{Record}
+use Rattle.report.specs.Refusals.{plain, answers}
+use Rattle.report.specs.Writing.{writeAnswer, writeOf}
+use Rattle.packed.specs.Unpacked.{unpacked}
+use Rattle.inserter.specs.Answers.{Left, word, left, writeFrom}
+
+module _ (bytes buffer : List ℕ) where
+  -- what is left where the bytes are of the right length
+  abbrev right : Record → Left
+  right r = left (word (answers (writeAnswer r (length buffer)))) (writeOf r buffer)
+
+  taken : length bytes ≡ 145 → writeFrom bytes buffer ≡ right (unpacked bytes)
+  unfolding writeFrom
+  taken long = ap (λ (b : Bool). cond b (right (unpacked bytes)) (left (word (plain 255)) buffer)) (eq-eqb (length bytes) 145 long)
+
+  pub written : (out : List ℕ) (r : Record) (v : Verdict) (answer : ℕ) → length bytes ≡ 145 → r ≡ unpacked bytes → v ≡ writeAnswer r (length buffer)
+      → out ≡ writeOf r buffer → answer ≡ word (answers v) → left answer out ≡ writeFrom bytes buffer
+  written out r v answer long is found wrote said =
+      let told : answer ≡ word (answers (writeAnswer r (length buffer))) = said ∙ ap (λ (x : Verdict). word (answers x)) found in
+      (λ i. left (told i) (wrote i)) ∙ ap right is ∙ sym (taken long)

@@ -1,0 +1,45 @@
+-- `inserter::lz_write` meets its contract. Assumes nothing.
+use borrow.Author.Tests.{ne-eqb}
+use Rattle.inserter.specs.Answers.{writeFrom}
+use Rattle.inserter.proofs.Writing.{written}
+use borrow.Author.Needs.{needs}
+use Rattle.inserter.proofs.lz_write.Statement.{statement}
+use Rattle.inserter.proofs.lz_write.Tie as tie
+
+word-requires : tie.Need-word-requires
+word-requires c κs = search needs
+
+returns : tie.Need-returns
+unfolding writeFrom
+returns c = simp (ne-eqb _ 145 (c .before .if1 .taken), c .word .ensures)
+
+unpack-requires : tie.Need-unpack-requires
+unpack-requires c κs = search needs
+
+write-requires : tie.Need-write-requires
+write-requires c κs = search needs
+
+verdict-word-requires : tie.Need-verdict-word-requires
+verdict-word-requires c κs = search needs
+
+same-length : tie.Need-same-length
+same-length c = search needs
+
+returns-2 : tie.Need-returns-2
+returns-2 c =
+    let write = c .before .before .before in
+    let unpack = write .before .before in
+    let long = unpack .before .if1 .left in
+    written _ _ _ (unpack .unpack .result) (write .write .result) _ long (unpack .unpack .ensures) (write .write .ensures .0) (write .write .ensures .1) (c .verdict-word .ensures)
+
+pub lz-write-spec : {M : Type 1} → statement M
+lz-write-spec =
+    tie.close
+    (tie.spec
+    word-requires
+    returns
+    unpack-requires
+    write-requires
+    verdict-word-requires
+    same-length
+    returns-2)

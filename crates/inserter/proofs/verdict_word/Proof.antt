@@ -1,0 +1,23 @@
+-- `inserter::verdict_word` meets its contract. Assumes nothing.
+use borrow.Author.Needs.{needs}
+use Rattle.inserter.proofs.verdict_word.Statement.{statement}
+use Rattle.inserter.proofs.verdict_word.Tie as tie
+
+enum-told : tie.Need-enum-told
+enum-told c = search needs
+
+enum-known-verdict : tie.Need-enum-known-verdict
+enum-known-verdict c = search needs
+
+refusal-word-requires : tie.Need-refusal-word-requires
+refusal-word-requires c κs = search needs
+
+returns : tie.Need-returns
+returns c = simp (c .enum-told .given .1)
+
+returns-2 : tie.Need-returns-2
+returns-2 c = simp (c .before .before .verdict .given .1, c .refusal-word .ensures)
+
+pub verdict-word-spec : {M : Type 1} → statement M
+verdict-word-spec =
+    tie.close (tie.spec enum-told enum-known-verdict refusal-word-requires returns returns-2)
