@@ -10,6 +10,12 @@ mod raw {
             record_bytes: *mut u8,
             record_length: usize,
         ) -> u32;
+        pub fn lz_write(
+            record_bytes: *const u8,
+            record_length: usize,
+            frame: *mut u8,
+            length: usize,
+        ) -> u32;
     }
 }
 
@@ -31,6 +37,15 @@ pub fn read(frame: &[u8], record_bytes: &mut [u8]) -> [u8; 4] {
     // lent for writing, so the two cannot overlap.
     let answer = unsafe {
         raw::lz_read(frame.as_ptr(), frame.len(), record_bytes.as_mut_ptr(), record_bytes.len())
+    };
+    answer.to_be_bytes()
+}
+
+/// Writes the record of the bytes to a frame. The answer is as that of `read`.
+pub fn write(record_bytes: &[u8], frame: &mut [u8]) -> [u8; 4] {
+    // As above: two slices that cannot overlap, each with its own length.
+    let answer = unsafe {
+        raw::lz_write(record_bytes.as_ptr(), record_bytes.len(), frame.as_mut_ptr(), frame.len())
     };
     answer.to_be_bytes()
 }

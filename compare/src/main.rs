@@ -8,6 +8,7 @@ mod measure;
 mod packed;
 mod parity;
 mod reading;
+mod writing;
 
 use std::fmt::Debug;
 
@@ -29,6 +30,12 @@ impl Count {
     }
 }
 
+/// What a buffer holds before a call. It differs from place to place, so that
+/// no byte can be written unseen.
+pub fn pattern(length: usize) -> Vec<u8> {
+    (0..length).map(|place| 0xA5 ^ place as u8).collect()
+}
+
 fn run(name: &str, compare: fn(&mut Count)) {
     let mut count = Count::default();
     compare(&mut count);
@@ -45,4 +52,13 @@ fn main() {
     run("reading, slices of 0 to 40 bytes", reading::slice_lengths);
     run("reading, buffers of other lengths", reading::buffer_lengths);
     run("reading, document 004", reading::document_004);
+    run("writing, records of all kinds", writing::any_records);
+    run("writing, fields at their bounds", writing::boundaries);
+    run("writing, document 004", writing::document_004);
+    run("writing, frames of other lengths", writing::frame_lengths);
+    run("writing, record bytes of other lengths", writing::record_lengths);
+    run("writing, a bit behind the category's bytes", writing::stray_bits);
+    run("writing, bytes behind the category's bytes", writing::stray_records);
+    run("writing, no category", writing::no_category);
+    run("written and read again", writing::there_and_back);
 }

@@ -2,7 +2,7 @@
 //! answer, place and every field, and what a refusal leaves in the buffer.
 
 use crate::packed::{packed, Bytes, LENGTH, SLOTS, SLOT_LENGTH, TEXT};
-use crate::{door, Count};
+use crate::{door, pattern, Count};
 use reference::bits::Frame;
 use reference::generate::{any_frame, boundary_frames, slices, valid_frame};
 use reference::random::Random;
@@ -75,12 +75,6 @@ pub fn document_004(count: &mut Count) {
         let text = joined(delivery);
         count.same(&text, &text.as_slice(), &samples::NANKAI_TEXT.as_bytes());
     }
-}
-
-/// What the buffer holds before a call. It differs from place to place, so
-/// that no byte can be written unseen.
-fn pattern(length: usize) -> Vec<u8> {
-    (0..length).map(|place| 0xA5 ^ place as u8).collect()
 }
 
 fn agree(count: &mut Count, frame: &[u8]) {

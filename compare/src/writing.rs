@@ -1,0 +1,193 @@
+//! Writing the bytes of a record to a frame, against the reference writer:
+//! answer, place and all 32 bytes, and what a refusal leaves in the frame.
+
+use crate::packed::{packed, Bytes, LENGTH, SLOTS};
+use crate::{door, pattern, Count};
+use reference::generate::{any_record, boundary_records, valid_record};
+use reference::random::Random;
+use reference::record::{Body, Category, Record};
+use reference::samples;
+use reference::write::write;
+
+const ANY_RECORDS: usize = 1_000_000;
+const STRAY_RECORDS: usize = 200_000;
+const FRAME_LENGTH: usize = 32;
+
+/// Where what a category has beside slots and text begins.
+const BODY: usize = 9;
+
+/// What a call answers, and the frame after it.
+type Outcome = ([u8; 4], Vec<u8>);
+
+/// Records of every kind that the reference builds, right ones and wrong ones.
+pub fn any_records(count: &mut Count) {
+    let mut random = Random::new(53);
+    for _ in 0..ANY_RECORDS {
+        agree(count, &any_record(&mut random), FRAME_LENGTH);
+    }
+}
+
+/// Each field of each category at its bounds, just outside and far outside.
+pub fn boundaries(count: &mut Count) {
+    for record in all_boundary_records() {
+        agree(count, &record, FRAME_LENGTH);
+    }
+}
+
+/// The values of document 004.
+pub fn document_004(count: &mut Count) {
+    for record in samples::all() {
+        agree(count, &record, FRAME_LENGTH);
+    }
+}
+
+/// A frame of another length is 1, whatever the record is, and stays as it
+/// was.
+pub fn frame_lengths(count: &mut Count) {
+    let mut random = Random::new(54);
+    for category in Category::ALL {
+        for length in [0, 31, 33, 40] {
+            agree(count, &valid_record(&mut random, category), length);
+            agree(count, &any_record(&mut random), length);
+            let page = valid_record(&mut random, Category::Nankai);
+            let stray = with_stray(&mut random, &page);
+            count.same(&stray, &outcome(&stray, length), &refused(1, length));
+        }
+    }
+}
+
+/// Record bytes of another length are 255, whatever the frame's length is.
+pub fn record_lengths(count: &mut Count) {
+    let mut random = Random::new(55);
+    for category in Category::ALL {
+        let record = valid_record(&mut random, category);
+        for length in [0, LENGTH - 1, LENGTH + 1] {
+            let mut bytes = packed(&record).to_vec();
+            bytes.resize(length, 0);
+            for frame_length in [FRAME_LENGTH, 0, 31] {
+                let expected = refused(255, frame_length);
+                count.same(&bytes, &outcome(&bytes, frame_length), &expected);
+            }
+        }
+    }
+}
+
+/// Every bit behind what a category has, set in a valid record: that is 11.
+pub fn stray_bits(count: &mut Count) {
+    let mut random = Random::new(56);
+    for category in Category::ALL {
+        let record = valid_record(&mut random, category);
+        for place in end_of(&record.body)..SLOTS {
+            for bit in 0..8 {
+                let mut bytes = packed(&record);
+                bytes[place] = 1 << bit;
+                count.same(&bytes, &outcome(&bytes, FRAME_LENGTH), &refused(11, FRAME_LENGTH));
+            }
+        }
+    }
+}
+
+/// The same in records of every kind: 3 and 7 come before 11, and 11 before
+/// all else.
+pub fn stray_records(count: &mut Count) {
+    let mut random = Random::new(57);
+    for _ in 0..STRAY_RECORDS {
+        let record = any_record(&mut random);
+        if end_of(&record.body) == SLOTS {
+            continue;
+        }
+        let bytes = with_stray(&mut random, &record);
+        let number = match expected(&record, FRAME_LENGTH).0[0] {
+            earlier @ (3 | 7) => earlier,
+            _ => 11,
+        };
+        count.same(&bytes, &outcome(&bytes, FRAME_LENGTH), &refused(number, FRAME_LENGTH));
+    }
+}
+
+/// Every first byte that is no category is 7, behind a bad preamble 3.
+pub fn no_category(count: &mut Count) {
+    let mut random = Random::new(58);
+    for category in Category::ALL {
+        for code in (0..=255).filter(|&code| Category::of_code(code.into()).is_none()) {
+            let mut bytes = packed(&valid_record(&mut random, category));
+            bytes[0] = code;
+            count.same(&bytes, &outcome(&bytes, FRAME_LENGTH), &refused(7, FRAME_LENGTH));
+            bytes[1] = 0;
+            count.same(&bytes, &outcome(&bytes, FRAME_LENGTH), &refused(3, FRAME_LENGTH));
+        }
+    }
+}
+
+/// Every record of the comparisons above that is written is read again as
+/// the same bytes.
+pub fn there_and_back(count: &mut Count) {
+    let mut random = Random::new(53);
+    for _ in 0..ANY_RECORDS {
+        back(count, &any_record(&mut random));
+    }
+    for record in all_boundary_records().iter().chain(&samples::all()) {
+        back(count, record);
+    }
+}
+
+fn back(count: &mut Count, record: &Record) {
+    let bytes = packed(record);
+    let (answer, frame) = outcome(&bytes, FRAME_LENGTH);
+    if answer == [0; 4] {
+        let mut read = pattern(LENGTH);
+        let answer = door::read(&frame, &mut read);
+        count.same(&bytes, &(answer, read), &([0; 4], bytes.to_vec()));
+    }
+}
+
+fn all_boundary_records() -> Vec<Record> {
+    let mut random = Random::new(59);
+    Category::ALL.into_iter().flat_map(|one| boundary_records(&mut random, one)).collect()
+}
+
+fn agree(count: &mut Count, record: &Record, length: usize) {
+    let bytes = packed(record);
+    count.same(&bytes, &outcome(&bytes, length), &expected(record, length));
+}
+
+/// What the proved writer does.
+fn outcome(bytes: &[u8], length: usize) -> Outcome {
+    let mut frame = pattern(length);
+    (door::write(bytes, &mut frame), frame)
+}
+
+/// What the reference writer does.
+fn expected(record: &Record, length: usize) -> Outcome {
+    let mut frame = pattern(length);
+    match write(record, &mut frame) {
+        Ok(()) => ([0; 4], frame),
+        Err(refusal) => ([refusal.number, refusal.place, 0, 0], pattern(length)),
+    }
+}
+
+/// A refusal that names no bit leaves the frame as it was.
+fn refused(number: u8, length: usize) -> Outcome {
+    ([number, 0, 0, 0], pattern(length))
+}
+
+/// The byte behind what a body has, at most the first byte of the slots.
+fn end_of(body: &Body) -> usize {
+    match body {
+        Body::Nothing => BODY,
+        Body::Hypocenter(_) => SLOTS,
+        Body::Intensity(_) | Body::Nankai { .. } => BODY + 3,
+        Body::AshFall { .. } => BODY + 6,
+    }
+}
+
+/// The bytes of a record with something in one place or more behind what its
+/// body has.
+fn with_stray(random: &mut Random, record: &Record) -> Bytes {
+    let mut bytes = packed(record);
+    let end = end_of(&record.body);
+    for _ in 0..1 + random.below(3) {
+        bytes[end + random.below(SLOTS - end)] = 1 + random.below(255) as u8;
+    }
+    bytes
+}
