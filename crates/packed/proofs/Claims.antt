@@ -1,11 +1,20 @@
 -- What this crate claims of its definitions. Each is proved in the file that its last line names. Assumes nothing.
 use mathlib.Core.Path.{_≡_}
-use lib.ListN.{length}
+use mathlib.Core.Bool.{true}
+use Prim.Native.Nat.{ℕ}
+use mathlib.Core.List.{List}
+use lib.ListN.{length, getD}
+use Rattle.report.specs.declared.refusal.Verdict.the-variants.{Refused}
+use Rattle.report.specs.declared.refusal.Refusal.the-variants.{Unused}
 use Rattle.report.specs.declared.record.Record.{Record}
+use Rattle.report.specs.Verdict.{allowed}
+use Rattle.report.specs.Reading.{preambles}
+use Rattle.report.specs.Writing.{known, writeAnswer}
 use Rattle.packed.specs.Packed.{packed}
-use Rattle.packed.specs.Unpacked.{unpacked}
+use Rattle.packed.specs.Unpacked.{bodyFrom, stray, unpacked}
 use Rattle.packed.proofs.Whole as Whole
 use Rattle.packed.proofs.Back as Back
+use Rattle.packed.proofs.Refused as Refusing
 
 -- A record with "sixteen slots (hour, strength or intensity, place) and 18 text bytes" has 145 bytes, whatever its category.
 pub packed-has-145-bytes : (r : Record) → length (r .slots) ≡ 16 → length (r .text) ≡ 18 → length (packed r) ≡ 145
@@ -18,3 +27,8 @@ bytes-tell-records-apart = Back.told-apart
 -- The way there and back: such a record is given back by its bytes.
 pub packed-then-unpacked : (r : Record) → Back.Fits r → unpacked (packed r) ≡ r
 packed-then-unpacked = Back.back
+
+-- Something in bytes 9 to 30 behind what the category has is 11, and in its turn: "1, 3, 7, 11, then 8 and 10 by lowest bit".
+pub stray-bytes-are-refused : (l : List ℕ) → stray (bodyFrom l) l ≡ true → allowed preambles (getD l 1 0) ≡ true → known (bodyFrom l) ≡ true
+    → writeAnswer (unpacked l) 32 ≡ Refused Unused
+stray-bytes-are-refused = Refusing.stray-refused

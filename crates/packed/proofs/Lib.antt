@@ -5,3 +5,4 @@ pub mod Slots
 pub mod Whole
 pub mod Stray
 pub mod Back
+pub mod Refused
