@@ -1,0 +1,68 @@
+-- `packed::from_bytes::text_of` meets its contract: the bytes passed are the text's. Assumes nothing.
+use mathlib.Core.Path.{_≡_, refl, ap, _∙_}
+use mathlib.Core.List.{List, _++_}
+use Prim.Native.Nat.{ℕ, _+_, _-_, _≤_}
+use native.Mathlib.Omega.{arith}
+use lib.ListN.{length, getD, replicate, length-set}
+use Rattle.report.specs.Records.{each}
+use Rattle.report.proofs.Filling.{fill, filled}
+use Rattle.packed.proofs.from_bytes.text_of.Statement.{statement}
+use Rattle.packed.proofs.from_bytes.text_of.Tie as tie
+
+-- byte i of the text
+abbrev byte : List ℕ → ℕ → ℕ
+byte l i = getD l (127 + i) 0
+
+abbrev Inv-loop : tie.InvT-loop
+Inv-loop bytes text₀ k₀ text k = (k ≤ 18) × ((length text ≡ 18) × (text ≡ each k (byte bytes) ++ replicate (18 - k) 0))
+
+abbrev μ-loop : tie.MeasureT-loop
+μ-loop bytes text₀ k₀ text k = 18 - k
+
+loop-holds : tie.Need-loop-holds Inv-loop μ-loop
+loop-holds c = (omega arith, (refl, refl))
+
+add-text : tie.Need-add-text Inv-loop μ-loop
+add-text c = omega arith
+
+shared-slice-read-text : tie.Need-shared-slice-read-text Inv-loop μ-loop
+shared-slice-read-text c = omega arith
+
+array-write-text : tie.Need-array-write-text Inv-loop μ-loop
+array-write-text c = omega arith
+
+add-k : tie.Need-add-k Inv-loop μ-loop
+add-k c = omega arith
+
+loop-less : tie.Need-loop-less Inv-loop μ-loop
+loop-less c = omega arith
+
+loop-again : tie.Need-loop-again Inv-loop μ-loop
+loop-again c =
+    let l = c .before .before .loop in
+    let s = c .before .before .before .args .bytes .now in (
+      omega arith,
+      (length-set (l .text) (l .k) (byte s (l .k)) ∙ l .inv .1 .0, fill 18 (l .k) (byte s) 0 (byte s (l .k)) (l .text) (omega arith) (l .inv .1 .1) refl),
+    )
+
+returns : tie.Need-returns Inv-loop μ-loop
+returns c =
+    let l = c .before .loop in
+    let s = c .before .before .args .bytes .now in
+    let last : l .k ≡ 18 = omega arith in
+    filled 18 (byte s) 0 (l .text) (l .inv .1 .1 ∙ ap (λ (k : ℕ). each k (byte s) ++ replicate (18 - k) 0) last)
+
+pub text-of-spec : {M : Type 1} → statement M
+text-of-spec =
+    tie.close
+    (tie.spec
+    Inv-loop
+    μ-loop
+    loop-holds
+    add-text
+    shared-slice-read-text
+    array-write-text
+    add-k
+    loop-less
+    loop-again
+    returns)

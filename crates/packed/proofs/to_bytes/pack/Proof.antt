@@ -1,0 +1,45 @@
+-- `packed::to_bytes::pack` meets its contract. Assumes nothing.
+use mathlib.Core.Path.{_≡_, sym, _∙_}
+use lib.ListN.{length, length-map}
+use Rattle.packed.proofs.Whole.{packed-in-parts}
+use borrow.Author.Needs.{needs}
+use Rattle.packed.proofs.to_bytes.pack.Statement.{statement}
+use Rattle.packed.proofs.to_bytes.pack.Tie as tie
+
+put-head-requires : tie.Need-put-head-requires
+put-head-requires c κs = search needs
+
+put-body-requires : tie.Need-put-body-requires
+put-body-requires c κs = search needs
+
+put-slots-requires : tie.Need-put-slots-requires
+put-slots-requires c κs = search needs
+
+put-text-requires : tie.Need-put-text-requires
+put-text-requires c κs = search needs
+
+same-length : tie.Need-same-length
+same-length c = search needs
+
+returns : tie.Need-returns
+returns c =
+    let text = c .before .before in
+    let slots = text .before .before .before .before in
+    let body = slots .before .before .before .before in
+    let head = body .before .before .before .before in
+    let s = head .before .before .before .before .before in
+    let r = s .args .r in
+    let n : length (r .slots) ≡ 16 = sym (length-map (r .slots) _) ∙ s .good .0 .1 .1 .1 .1 .1 .1 .0 .1 .0 .1 in
+    let m : length (r .text) ≡ 18 = sym (length-map (r .text) _) ∙ s .good .0 .1 .1 .1 .1 .1 .1 .1 .0 .1 .0 .1 in
+    packed-in-parts r n m (s .pre) (head .put-head .ensures) (body .put-body .ensures) (slots .put-slots .ensures) (text .put-text .ensures)
+
+pub pack-spec : {M : Type 1} → statement M
+pack-spec =
+    tie.close
+    (tie.spec
+    put-head-requires
+    put-body-requires
+    put-slots-requires
+    put-text-requires
+    same-length
+    returns)
