@@ -1,0 +1,5 @@
+pub mod Texts
+pub mod Opened
+pub mod Admitted
+pub mod Shapes
+pub mod PageTurns

@@ -1,0 +1,97 @@
+-- `bulletin::store::Store::is_sound` meets its contract: the pages that are left decide. Assumes nothing.
+use mathlib.Core.Path.{_≡_, refl, _∙_, sym}
+use Prim.Native.Nat.{_≤_, _-_}
+use native.Mathlib.Omega.{arith}
+use borrow.Author.Needs.{needs}
+use borrow.Author.Tests.{not-true, not-false}
+use lib.ListN.{length, drop}
+use Rattle.bulletin.specs.Pages.{soundFrom}
+use Rattle.bulletin.specs.Stores.{soundStore, ShapedStore}
+use Rattle.bulletin.proofs.Texts.{unmapped}
+use Rattle.bulletin.proofs.Shapes.{shapes}
+use Rattle.bulletin.proofs.PageTurns.{sound-more, sound-stop, sound-end}
+use Rattle.bulletin.proofs.store.Store.is_sound.Statement.{statement}
+use Rattle.bulletin.proofs.store.Store.is_sound.Tie as tie
+
+abbrev Inv-loop : tie.InvT-loop
+Inv-loop self name i₀ i = (i ≤ 63) × (soundFrom (name .total) i (drop i (self .pages)) ≡ soundFrom (name .total) 0 (self .pages))
+
+abbrev μ-loop : tie.MeasureT-loop
+μ-loop self name i₀ i = 63 - i
+
+shaped : (c : tie.Start Inv-loop μ-loop) → ShapedStore (c .args .t1)
+shaped c =
+    let a = c .good .0 .1 .1 .1 .0 .1 in
+    let ll : length (c .args .t1 .pages) ≡ 63 = unmapped _ (c .args .t1 .pages) 63 (a .0 .1) in
+    record { long = ll; pages = λ i h. shapes (c .args .t1 .pages) _ (a .1) i (omega arith) }
+
+is-in-range-requires : tie.Need-is-in-range-requires Inv-loop μ-loop
+is-in-range-requires c κs = search needs
+
+returns : tie.Need-returns Inv-loop μ-loop
+unfolding soundStore
+returns c = (simp (sym (c .before .is-in-range .ensures) ∙ not-true _ (c .if1 .taken)), shaped (c .before .before .before))
+
+loop-holds : tie.Need-loop-holds Inv-loop μ-loop
+loop-holds c = (omega arith, refl)
+
+mul-page : tie.Need-mul-page Inv-loop μ-loop
+mul-page c = search needs
+
+element-copy-out-page : tie.Need-element-copy-out-page Inv-loop μ-loop
+element-copy-out-page c = search needs
+
+is-sound-at-requires : tie.Need-is-sound-at-requires Inv-loop μ-loop
+is-sound-at-requires c κs = search needs
+
+returns-2 : tie.Need-returns-2 Inv-loop μ-loop
+unfolding soundStore
+returns-2 c = let l = c .before .before .before .before in
+    let e = l .before in
+    let s = e .before .before .before in
+    let long = shaped s .long in (
+      simp (sym (e .before .is-in-range .ensures) ∙ not-false _ (e .if1 .left))
+          (sym (sound-stop (s .args .t1 .name .total) (s .args .t1 .pages) (l .loop .i) (omega arith) (sym (c .before .is-sound-at .ensures) ∙ not-true _ (c .if2 .taken))) ∙ l .loop .inv .1),
+      shaped s,
+    )
+
+add-i : tie.Need-add-i Inv-loop μ-loop
+add-i c = search needs
+
+loop-less : tie.Need-loop-less Inv-loop μ-loop
+loop-less c = search needs
+
+loop-again : tie.Need-loop-again Inv-loop μ-loop
+loop-again c = let l = c .before .before .before .before in
+    let s = l .before .before .before .before in
+    let long = shaped s .long in
+    (omega arith, sym (sound-more (s .args .t1 .name .total) (s .args .t1 .pages) (l .loop .i) (omega arith) (sym (c .before .is-sound-at .ensures) ∙ not-false _ (c .if2 .left))) ∙ l .loop .inv .1)
+
+returns-3 : tie.Need-returns-3 Inv-loop μ-loop
+unfolding soundStore
+returns-3 c = let l = c .before in
+    let e = l .before in
+    let s = e .before .before .before in
+    let long = shaped s .long in (
+      simp (sym (e .before .is-in-range .ensures) ∙ not-false _ (e .if1 .left))
+          (sym (sound-end (s .args .t1 .name .total) (s .args .t1 .pages) (l .loop .i) (omega arith)) ∙ l .loop .inv .1),
+      shaped s,
+    )
+
+pub is-sound-spec : {M : Type 1} → statement M
+is-sound-spec =
+    tie.close
+    (tie.spec
+    Inv-loop
+    μ-loop
+    is-in-range-requires
+    returns
+    loop-holds
+    mul-page
+    element-copy-out-page
+    is-sound-at-requires
+    returns-2
+    add-i
+    loop-less
+    loop-again
+    returns-3)

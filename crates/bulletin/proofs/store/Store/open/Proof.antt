@@ -1,0 +1,41 @@
+-- `bulletin::store::Store::open` meets its contract. Assumes nothing.
+use mathlib.Core.Path.{_≡_, sym, ap, _∙_}
+use Rattle.bulletin.proofs.Opened.{opened-fine, opened-refused}
+use borrow.Author.Needs.{needs}
+use Rattle.bulletin.proofs.store.Store.open.Statement.{statement}
+use Rattle.bulletin.proofs.store.Store.open.Tie as tie
+
+verdict-requires : tie.Need-verdict-requires
+verdict-requires c κs = search needs
+
+enum-told : tie.Need-enum-told
+enum-told c = search needs
+
+without-pages-requires : tie.Need-without-pages-requires
+without-pages-requires c κs = search needs
+
+enum-told-2 : tie.Need-enum-told-2
+enum-told-2 c = search needs
+
+of-zeros-requires : tie.Need-of-zeros-requires
+of-zeros-requires c κs = search needs
+
+returns : tie.Need-returns
+returns c = let v = c .before .before .before in
+    opened-fine _ _ _ (v .verdict .ensures) (c .before .enum-told .given .1) (c .without-pages .ensures)
+
+returns-2 : tie.Need-returns-2
+returns-2 c = let v = c .before .before .before in
+    opened-refused _ _ _ _ (v .verdict .ensures) (c .before .enum-told2 .given .1) (c .of-zeros .ensures)
+
+pub open-spec : {M : Type 1} → statement M
+open-spec =
+    tie.close
+    (tie.spec
+    verdict-requires
+    enum-told
+    without-pages-requires
+    enum-told-2
+    of-zeros-requires
+    returns
+    returns-2)

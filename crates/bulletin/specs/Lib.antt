@@ -1,0 +1,4 @@
+pub mod Pages
+pub mod Names
+pub mod Stores
+pub mod Takings

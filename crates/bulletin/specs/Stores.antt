@@ -1,0 +1,42 @@
+-- A store: opened, and sound.
+use mathlib.Core.Path.{_≡_}
+use mathlib.Core.Bool.{Bool, true, false, cond}
+use mathlib.Core.List.{List, [], _∷_}
+use Prim.Native.Nat.{ℕ, _<_}
+use lib.ListN.{length, getD, replicate}
+use Rattle.report.specs.declared.refusal.Verdict.{Verdict}
+use Rattle.report.specs.declared.refusal.Verdict.the-variants.{Fine, Refused}
+use Rattle.bulletin.specs.declared.page.Page.{Page}
+use Rattle.bulletin.specs.declared.name.Name.{Name}
+use Rattle.bulletin.specs.declared.store.Store.{Store}
+use Rattle.bulletin.specs.declared.store.Opening.{Opening}
+use Rattle.bulletin.specs.Pages.{absentPage, noPage, soundFrom, Shaped}
+use Rattle.bulletin.specs.Names.{nameVerdict, nameInRange}
+
+-- "it starts with no page"
+abbrev pub noPages : Name → Store
+noPages n = record { name = n; pages = replicate 63 absentPage }
+
+-- "a refused opening [gives] a store of zeros"
+abbrev pub zeroStore : Store
+zeroStore = noPages (record { common = record { rc = 0; month = 0; day = 0; hour = 0; minute = 0; it = 0 }; serial = 0; total = 0 })
+
+abbrev pub opening : Verdict → Name → Opening
+opening Fine n = record { answer = Fine; store = noPages n }
+opening (Refused x) n = record { answer = Refused x; store = zeroStore }
+
+abbrev pub openOf : Name → Opening
+openOf n = opening (nameVerdict n) n
+
+-- "A store is sound when its name is in range", and its pages are
+unfoldable pub soundStore : Store → Bool
+soundStore s = cond (nameInRange (s .name)) (soundFrom (s .name .total) 0 (s .pages)) false
+
+-- the page behind i others
+abbrev pub at : Store → ℕ → Page
+at s i = getD (s .pages) i noPage
+
+-- what the type of a store tells: 63 pages of 18 bytes
+pub record ShapedStore (s : Store) : Type 0 where
+  pub long : length (s .pages) ≡ 63
+  pub pages : (i : ℕ) → i < 63 → Shaped (at s i)

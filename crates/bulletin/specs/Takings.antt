@@ -1,0 +1,66 @@
+-- Taking a record: "14, then what writing that record to 32 bytes would refuse, 12, 13".
+use mathlib.Core.Bool.{Bool, true, false, cond}
+use mathlib.Core.List.{List}
+use Prim.Native.Nat.{ℕ, _-_}
+use lib.ListN.{set}
+use lib.Dec.{eqb}
+use Rattle.report.specs.declared.record.Common.{Common}
+use Rattle.report.specs.declared.record.Body.{Body}
+use Rattle.report.specs.declared.record.Body.the-variants.{Nothing, Hypocenter, Intensity, Nankai, AshFall}
+use Rattle.report.specs.declared.record.Record.{Record}
+use Rattle.report.specs.declared.record.Page.{Page as Numbers}
+use Rattle.report.specs.declared.refusal.Verdict.{Verdict}
+use Rattle.report.specs.declared.refusal.Verdict.the-variants.{Fine, Refused as Refuses}
+use Rattle.report.specs.declared.refusal.Refusal.the-variants.{NoPage, OtherBulletin, Unsound}
+use Rattle.report.specs.Writing.{writeAnswer}
+use Rattle.bulletin.specs.declared.page.Page.{Page}
+use Rattle.bulletin.specs.declared.name.Name.{Name}
+use Rattle.bulletin.specs.declared.store.Store.{Store}
+use Rattle.bulletin.specs.declared.take.Taken.{Taken}
+use Rattle.bulletin.specs.declared.take.Taken.the-variants.{New, Same, Disputed, Refused}
+use Rattle.bulletin.specs.declared.take.Taking.{Taking}
+use Rattle.bulletin.specs.declared.take.Admission.{Admission}
+use Rattle.bulletin.specs.declared.take.Admission.the-variants.{Number, Refused as NotAdmitted}
+use Rattle.bulletin.specs.Pages.{join, heldPage}
+use Rattle.bulletin.specs.Names.{sameName}
+use Rattle.bulletin.specs.Stores.{soundStore, at}
+
+-- "new where it was absent, same where it was held with those 18 bytes, and disputed otherwise": by the page before and after
+unfoldable pub told : Page → Page → Taken
+told before after = cond (eqb (before .mark) 0) New (cond (eqb (after .mark) 1) Same Disputed)
+
+-- the bulletin that a page names
+abbrev pub nameOf : Common → Numbers → Name
+nameOf c p = record { common = c; serial = p .serial; total = p .total }
+
+-- 12, then 13
+unfoldable pub belongs : Name → Common → Body → Admission
+belongs n c (Nankai p) = cond (sameName (nameOf c p) n) (Number (p .number)) (NotAdmitted OtherBulletin)
+belongs n c Nothing = NotAdmitted NoPage
+belongs n c (Hypocenter q) = NotAdmitted NoPage
+belongs n c (Intensity t) = NotAdmitted NoPage
+belongs n c (AshFall e) = NotAdmitted NoPage
+
+abbrev pub writable : Verdict → Admission → Admission
+writable Fine a = a
+writable (Refuses x) a = NotAdmitted x
+
+unfoldable pub admission : Store → Record → Admission
+admission s r = cond (soundStore s) (writable (writeAnswer r 32) (belongs (s .name) (r .common) (r .body))) (NotAdmitted Unsound)
+
+abbrev pub withPage : Store → ℕ → Page → Store
+withPage s i p = record { name = s .name; pages = set (s .pages) i p }
+
+-- the page behind i others is joined with one held with the text
+unfoldable pub putPage : Store → ℕ → List ℕ → Taking
+putPage s i t =
+    let after = join (at s i) (heldPage t) in
+    record { answer = told (at s i) after; store = withPage s i after }
+
+-- "A refused taking leaves the store as given"
+unfoldable pub taking : Admission → Store → List ℕ → Taking
+taking (Number k) s t = putPage s (k - 1) t
+taking (NotAdmitted x) s t = record { answer = Refused x; store = s }
+
+abbrev pub takeOf : Store → Record → Taking
+takeOf s r = taking (admission s r) s (r .text)

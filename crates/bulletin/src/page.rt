@@ -1,0 +1,108 @@
+// One page: absent, held with its bytes, or disputed.
+ghost use mathlib.Core.Path.{_≡_};
+ghost use Rattle.bulletin.specs.Pages.{sameBytes, absentPage, heldPage, disputedPage, join, soundPage, soundAt};
+
+// Mark 0 is absent, 1 held, 2 disputed. Only a held page has bytes.
+pub struct Page {
+    pub mark: u8,
+    pub text: [u8; 18],
+}
+
+fn same_bytes(a: [u8; 18], b: [u8; 18]) -> bool
+    ensures { λ r. ⌜ r ≡ sameBytes a b ⌝ }
+{
+    let mut i = 0;
+    while i < 18 {
+        if a[i] != b[i] {
+            return false;
+        }
+        i += 1;
+    }
+    true
+}
+
+impl Page {
+    pub fn absent() -> Page
+        ensures { λ r. ⌜ r ≡ absentPage ⌝ }
+    {
+        let text = [0u8; 18];
+        Page {
+            mark: 0,
+            text: text,
+        }
+    }
+
+    pub fn held(text: [u8; 18]) -> Page
+        ensures { λ r. ⌜ r ≡ heldPage text ⌝ }
+    {
+        Page {
+            mark: 1,
+            text: text,
+        }
+    }
+
+    pub fn disputed() -> Page
+        ensures { λ r. ⌜ r ≡ disputedPage ⌝ }
+    {
+        let text = [0u8; 18];
+        Page {
+            mark: 2,
+            text: text,
+        }
+    }
+
+    // What two receivers have of a page.
+    pub fn join(self, other: Page) -> Page
+        ensures { λ r. ⌜ r ≡ join self other ⌝ }
+    {
+        if self.mark == 0 {
+            return other;
+        }
+        if other.mark == 0 {
+            return self;
+        }
+        if self.mark != 1 {
+            return Page::disputed();
+        }
+        if other.mark != 1 {
+            return Page::disputed();
+        }
+        let a = self.text;
+        let b = other.text;
+        if same_bytes(a, b) {
+            return self;
+        }
+        Page::disputed()
+    }
+
+    // One of the three, and without bytes unless it is held.
+    pub fn is_sound(self) -> bool
+        ensures { λ r. ⌜ r ≡ soundPage self ⌝ }
+    {
+        if self.mark == 1 {
+            return true;
+        }
+        let text = self.text;
+        let none = [0u8; 18];
+        if self.mark == 0 {
+            return same_bytes(text, none);
+        }
+        if self.mark == 2 {
+            return same_bytes(text, none);
+        }
+        false
+    }
+
+    // The same of the page behind i others, which is absent past the total.
+    pub fn is_sound_at(self, i: usize, total: u8) -> bool
+        ensures { λ r. ⌜ r ≡ soundAt total i self ⌝ }
+    {
+        if !self.is_sound() {
+            return false;
+        }
+        if i < (total as usize) {
+            return true;
+        }
+        self.mark == 0
+    }
+}

@@ -1,0 +1,121 @@
+// Taking a record into a store.
+ghost use mathlib.Core.Path.{_≡_};
+ghost use Prim.Native.Nat.{_-_, _≤_};
+ghost use Rattle.report.specs.Writing.{writeAnswer};
+ghost use Rattle.bulletin.specs.Takings.{told, belongs, admission, putPage, takeOf};
+use crate::name::Name;
+use crate::page::Page;
+use crate::store::Store;
+use report::record::Body;
+use report::record::Record;
+use report::refusal::Refusal;
+use report::refusal::Verdict;
+
+// What a taking answers.
+pub enum Taken {
+    New,
+    Same,
+    Disputed,
+    Refused(Refusal),
+}
+
+// A store after a taking: where that is refused, the store as it was.
+pub struct Taking {
+    pub answer: Taken,
+    pub store: Store,
+}
+
+// Which page of the bulletin a record brings.
+enum Admission {
+    Number(u8),
+    Refused(Refusal),
+}
+
+// What writing the record to 32 bytes would answer.
+fn writing(came: Record) -> Verdict
+    ensures { λ r. ⌜ r ≡ writeAnswer came 32 ⌝ }
+{
+    let mut frame = [0u8; 32];
+    report::write::write(came, &mut frame)
+}
+
+impl Page {
+    // What a taking answers, by the page before and after it.
+    fn told(self, after: Page) -> Taken
+        ensures { λ r. ⌜ r ≡ told self after ⌝ }
+    {
+        if self.mark == 0 {
+            return Taken::New;
+        }
+        if after.mark == 1 {
+            return Taken::Same;
+        }
+        Taken::Disputed
+    }
+}
+
+impl Name {
+    // 12, then 13.
+    fn admit(self, came: Record) -> Admission
+        ensures { λ r. ⌜ r ≡ belongs self (came .common) (came .body) ⌝ }
+    {
+        let common = came.common;
+        let body = came.body;
+        let Body::Nankai(page) = body else {
+            return Admission::Refused(Refusal::NoPage);
+        };
+        let found = Name {
+            common: common,
+            serial: page.serial,
+            total: page.total,
+        };
+        if found.is(self) {
+            return Admission::Number(page.number);
+        }
+        Admission::Refused(Refusal::OtherBulletin)
+    }
+}
+
+impl Store {
+    // 14, then what writing refuses, then 12 and 13.
+    fn admit(self, came: Record) -> Admission
+        ensures { λ r. ⌜ r ≡ admission self came ⌝ }
+    {
+        let name = self.name;
+        if !self.is_sound() {
+            return Admission::Refused(Refusal::Unsound);
+        }
+        match writing(came) {
+            Verdict::Fine => name.admit(came),
+            Verdict::Refused(refusal) => Admission::Refused(refusal),
+        }
+    }
+
+    fn put(mut self, number: u8, text: [u8; 18]) -> Taking
+        requires { ⌜ (1 ≤ number) × (number ≤ 63) ⌝ }
+        ensures { λ r. ⌜ r ≡ putPage self (number - 1) text ⌝ }
+    {
+        let i = (number - 1) as usize;
+        let before = self.pages[i];
+        let after = before.join(Page::held(text));
+        let answer = before.told(after);
+        self.pages[i] = after;
+        Taking {
+            answer: answer,
+            store: self,
+        }
+    }
+
+    pub fn take(self, came: Record) -> Taking
+        ensures { λ r. ⌜ r ≡ takeOf self came ⌝ }
+    {
+        let text = came.text;
+        match self.admit(came) {
+            Admission::Number(number) => self.put(number, text),
+            Admission::Refused(refusal) => Taking {
+                answer: Taken::Refused(refusal),
+                store: self,
+            },
+        }
+    }
+}
