@@ -3,3 +3,4 @@ pub mod Opened
 pub mod Admitted
 pub mod Shapes
 pub mod PageTurns
+pub mod Joins

@@ -8,7 +8,9 @@ use native.Mathlib.Numerals.{add-one}
 use lib.ListN.{length, getD, drop, drop-of-length-le}
 use lib.Seq.{drop-cons}
 use Rattle.bulletin.specs.declared.page.Page.{Page}
+use borrow.Author.Tests.{eq-eqb, ne-eqb, lt-ltb, le-ltb}
 use Rattle.bulletin.specs.Pages.{noPage, soundAt, soundFrom}
+use Rattle.bulletin.specs.Counts.{marked, lowest}
 
 pub sound-more : (t : ℕ) (l : List Page) (i : ℕ) → i < length l → soundAt t i (getD l i noPage) ≡ true → soundFrom t i (drop i l) ≡ soundFrom t (i + 1) (drop (i + 1) l)
 unfolding soundFrom
@@ -21,3 +23,36 @@ sound-stop t l i h e = rw (drop-cons l i noPage, e)
 pub sound-end : (t : ℕ) (l : List Page) (i : ℕ) → length l ≤ i → soundFrom t i (drop i l) ≡ true
 unfolding soundFrom
 sound-end t l i h = rw (drop-of-length-le l h)
+
+-- ---- counts
+
+pub marked-here : (k : ℕ) (l : List Page) (i : ℕ) → i < length l → getD l i noPage .mark ≡ k → marked k (drop i l) ≡ suc (marked k (drop (i + 1) l))
+unfolding marked
+marked-here k l i h e = rw (add-one, drop-cons l i noPage, eq-eqb _ _ e)
+
+pub marked-not : (k : ℕ) (l : List Page) (i : ℕ) → i < length l → (getD l i noPage .mark ≡ k → ⊥) → marked k (drop i l) ≡ marked k (drop (i + 1) l)
+unfolding marked
+marked-not k l i h e = rw (add-one, drop-cons l i noPage, ne-eqb _ _ e)
+
+pub marked-end : (k : ℕ) (l : List Page) (i : ℕ) → length l ≤ i → marked k (drop i l) ≡ 0
+unfolding marked
+marked-end k l i h = rw (drop-of-length-le l h)
+
+-- ---- the lowest page that is not held
+
+pub lowest-past : (t : ℕ) (l : List Page) (i : ℕ) → t ≤ i → lowest t i l ≡ 0
+unfolding lowest
+lowest-past t [] i h = refl
+lowest-past t (p ∷ l) i h = rw (le-ltb i t h)
+
+pub lowest-more : (t : ℕ) (l : List Page) (i : ℕ) → i < t → i < length l → getD l i noPage .mark ≡ 1 → lowest t i (drop i l) ≡ lowest t (i + 1) (drop (i + 1) l)
+unfolding lowest
+lowest-more t l i h k e = rw (add-one, drop-cons l i noPage, lt-ltb i t h, eq-eqb _ _ e)
+
+pub lowest-here : (t : ℕ) (l : List Page) (i : ℕ) → i < t → i < length l → (getD l i noPage .mark ≡ 1 → ⊥) → lowest t i (drop i l) ≡ i + 1
+unfolding lowest
+lowest-here t l i h k e = rw (add-one, drop-cons l i noPage, lt-ltb i t h, ne-eqb _ _ e)
+
+pub lowest-end : (t : ℕ) (l : List Page) (i : ℕ) → length l ≤ i → lowest t i (drop i l) ≡ 0
+unfolding lowest
+lowest-end t l i h = rw (drop-of-length-le l h)

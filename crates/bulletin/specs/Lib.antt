@@ -2,3 +2,5 @@ pub mod Pages
 pub mod Names
 pub mod Stores
 pub mod Takings
+pub mod Merges
+pub mod Counts

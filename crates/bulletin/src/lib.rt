@@ -5,3 +5,5 @@ pub mod page; // one page, and two receivers' pages joined
 pub mod name; // which bulletin
 pub mod store; // a store, opened
 pub mod take; // a record taken into a store
+pub mod merge; // two stores made one
+pub mod count; // what a store has

@@ -1,0 +1,47 @@
+-- `bulletin::store::Store::merge_verdict` meets its contract. Assumes nothing.
+use mathlib.Core.Path.{_∙_}
+use Rattle.report.proofs.Outcomes.{fine-then}
+use Rattle.report.proofs.Walks.{asked, link}
+use Rattle.bulletin.specs.Merges.{mergeVerdict}
+use borrow.Author.Needs.{needs}
+use Rattle.bulletin.proofs.store.Store.merge_verdict.Statement.{statement}
+use Rattle.bulletin.proofs.store.Store.merge_verdict.Tie as tie
+
+is-sound-requires : tie.Need-is-sound-requires
+is-sound-requires c κs = search needs
+
+unless-requires : tie.Need-unless-requires
+unless-requires c κs = search needs
+
+is-sound-requires-2 : tie.Need-is-sound-requires-2
+is-sound-requires-2 c κs = search needs
+
+unless-requires-2 : tie.Need-unless-requires-2
+unless-requires-2 c κs = search needs
+
+is-requires : tie.Need-is-requires
+is-requires c κs = search needs
+
+unless-requires-3 : tie.Need-unless-requires-3
+unless-requires-3 c κs = search needs
+
+returns : tie.Need-returns
+unfolding mergeVerdict
+returns c = let u2 = c .before .before in
+    let u1 = u2 .before .before in
+    link _ _ _ _ _ (asked _ _ _ _ _ (u1 .unless .ensures) (u1 .before .is-sound .ensures .0))
+    (link _ _ _ _ _ (asked _ _ _ _ _ (u2 .unless2 .ensures) (u2 .before .is-sound2 .ensures .0))
+    (asked _ _ _ _ _ (c .unless3 .ensures) (c .before .is .ensures)))
+    ∙ fine-then _
+
+pub merge-verdict-spec : {M : Type 1} → statement M
+merge-verdict-spec =
+    tie.close
+    (tie.spec
+    is-sound-requires
+    unless-requires
+    is-sound-requires-2
+    unless-requires-2
+    is-requires
+    unless-requires-3
+    returns)

@@ -1,0 +1,38 @@
+-- `bulletin::store::Store::report` meets its contract. Assumes nothing.
+use mathlib.Core.Path.{sym, _∙_}
+use Rattle.bulletin.specs.Counts.{reportOf}
+use borrow.Author.Needs.{needs}
+use Rattle.bulletin.proofs.store.Store.report.Statement.{statement}
+use Rattle.bulletin.proofs.store.Store.report.Tie as tie
+
+is-sound-requires : tie.Need-is-sound-requires
+is-sound-requires c κs = search needs
+
+marked-requires : tie.Need-marked-requires
+marked-requires c κs = search needs
+
+marked-requires-2 : tie.Need-marked-requires-2
+marked-requires-2 c κs = search needs
+
+lowest-requires : tie.Need-lowest-requires
+lowest-requires c κs = search needs
+
+returns : tie.Need-returns
+unfolding reportOf
+returns c = let t = c .before .before .before in
+    simp (sym (t .before .is-sound .ensures .0) ∙ t .if1 .taken, c .before .before .marked .ensures, c .before .marked2 .ensures, c .lowest .ensures .0)
+
+returns-2 : tie.Need-returns-2
+unfolding reportOf
+returns-2 c = simp (sym (c .before .is-sound .ensures .0) ∙ c .if1 .left)
+
+pub report-spec : {M : Type 1} → statement M
+report-spec =
+    tie.close
+    (tie.spec
+    is-sound-requires
+    marked-requires
+    marked-requires-2
+    lowest-requires
+    returns
+    returns-2)

@@ -1,0 +1,28 @@
+-- "A store reports how many pages are held, how many are disputed, and the lowest page that is not held (0 if none)."
+use mathlib.Core.Bool.{cond}
+use mathlib.Core.List.{List, [], _∷_}
+use Prim.Native.Nat.{ℕ, suc}
+use lib.Dec.{eqb, ltb}
+use Rattle.report.specs.declared.refusal.Verdict.the-variants.{Fine, Refused}
+use Rattle.report.specs.declared.refusal.Refusal.the-variants.{Unsound}
+use Rattle.bulletin.specs.declared.page.Page.{Page}
+use Rattle.bulletin.specs.declared.store.Store.{Store}
+use Rattle.bulletin.specs.declared.count.Count.{Count}
+use Rattle.bulletin.specs.Stores.{soundStore}
+
+-- how many pages have the mark
+unfoldable pub marked : ℕ → List Page → ℕ
+marked k [] = 0
+marked k (p ∷ ps) = cond (eqb (p .mark) k) (suc (marked k ps)) (marked k ps)
+
+-- the lowest page that is not held, of those up to the total, looked for behind i others
+unfoldable pub lowest : ℕ → ℕ → List Page → ℕ
+lowest total i [] = 0
+lowest total i (p ∷ ps) = cond (ltb i total) (cond (eqb (p .mark) 1) (lowest total (suc i) ps) (suc i)) 0
+
+-- "The reports of a store: 14"; "A refused report gives zeros"
+unfoldable pub reportOf : Store → Count
+reportOf s =
+    cond (soundStore s)
+    (record { answer = Fine; held = marked 1 (s .pages); disputed = marked 2 (s .pages); lowest = lowest (s .name .total) 0 (s .pages) })
+    (record { answer = Refused Unsound; held = 0; disputed = 0; lowest = 0 })

@@ -1,0 +1,32 @@
+-- Merging: "14, 13", then page by page.
+use mathlib.Core.List.{List, [], _∷_}
+use Rattle.report.specs.declared.refusal.Verdict.{Verdict}
+use Rattle.report.specs.declared.refusal.Verdict.the-variants.{Fine, Refused}
+use Rattle.report.specs.declared.refusal.Refusal.the-variants.{OtherBulletin, Unsound}
+use Rattle.report.specs.Refusals.{_then_, unless}
+use Rattle.bulletin.specs.declared.page.Page.{Page}
+use Rattle.bulletin.specs.declared.store.Store.{Store}
+use Rattle.bulletin.specs.declared.merge.Merging.{Merging}
+use Rattle.bulletin.specs.Pages.{join}
+use Rattle.bulletin.specs.Names.{sameName}
+use Rattle.bulletin.specs.Stores.{soundStore}
+
+unfoldable pub mergeVerdict : Store → Store → Verdict
+mergeVerdict s o =
+    unless (soundStore s) Unsound then unless (soundStore o) Unsound then unless (sameName (s .name) (o .name)) OtherBulletin
+
+unfoldable pub joins : List Page → List Page → List Page
+joins [] qs = []
+joins (p ∷ ps) [] = p ∷ ps
+joins (p ∷ ps) (q ∷ qs) = join p q ∷ joins ps qs
+
+abbrev pub joined : Store → Store → Store
+joined s o = record { name = s .name; pages = joins (s .pages) (o .pages) }
+
+-- "a refused merge [gives] the first store as given"
+abbrev pub merging : Verdict → Store → Store → Merging
+merging Fine s o = record { answer = Fine; store = joined s o }
+merging (Refused x) s o = record { answer = Refused x; store = s }
+
+abbrev pub mergeOf : Store → Store → Merging
+mergeOf s o = merging (mergeVerdict s o) s o
