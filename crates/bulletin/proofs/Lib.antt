@@ -4,3 +4,6 @@ pub mod Admitted
 pub mod Shapes
 pub mod PageTurns
 pub mod Joins
+pub mod Flat
+pub mod Ranges
+pub mod Told

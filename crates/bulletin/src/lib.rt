@@ -7,3 +7,4 @@ pub mod store; // a store, opened
 pub mod take; // a record taken into a store
 pub mod merge; // two stores made one
 pub mod count; // what a store has
+pub mod text; // the bulletin's text

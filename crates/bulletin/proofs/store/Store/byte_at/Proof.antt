@@ -1,0 +1,30 @@
+-- `bulletin::store::Store::byte_at` meets its contract. Assumes nothing.
+use mathlib.Core.Path.{_≡_}
+use native.Mathlib.Omega.{arith}
+use lib.ListN.{length}
+use Rattle.bulletin.proofs.Texts.{unmapped}
+use Rattle.bulletin.proofs.Flat.{Eighteen, getD-flat}
+use Rattle.bulletin.proofs.Shapes.{shapes}
+use borrow.Author.Needs.{needs}
+use Rattle.bulletin.proofs.store.Store.byte_at.Statement.{statement}
+use Rattle.bulletin.proofs.store.Store.byte_at.Tie as tie
+
+mul-page : tie.Need-mul-page
+mul-page c = search needs
+
+element-copy-out-page : tie.Need-element-copy-out-page
+element-copy-out-page c = search needs
+
+array-read-result : tie.Need-array-read-result
+array-read-result c = search needs
+
+returns : tie.Need-returns
+returns c = let s = c .before .before in
+    let g = s .good .0 .1 .1 .1 .0 .1 in
+    let l = s .args .t1 .pages in
+    let long : length l ≡ 63 = unmapped _ l 63 (g .0 .1) in
+    let eighteen : Eighteen l = λ i h. shapes l _ (g .1) i h .long in
+    getD-flat l (s .args .k) eighteen (omega arith)
+
+pub byte-at-spec : {M : Type 1} → statement M
+byte-at-spec = tie.close (tie.spec mul-page element-copy-out-page array-read-result returns)

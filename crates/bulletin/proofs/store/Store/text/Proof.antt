@@ -1,0 +1,58 @@
+-- `bulletin::store::Store::text` meets its contract. Assumes nothing.
+use mathlib.Core.Path.{sym, _∙_}
+use Rattle.bulletin.proofs.Ranges.{total-most, sound-parts, fine-sound}
+use Rattle.bulletin.proofs.Told.{told-refused, told-short, told-whole}
+use borrow.Author.Needs.{needs}
+use Rattle.bulletin.proofs.store.Store.text.Statement.{statement}
+use Rattle.bulletin.proofs.store.Store.text.Tie as tie
+
+text-verdict-requires : tie.Need-text-verdict-requires
+text-verdict-requires c κs = search needs
+
+enum-told : tie.Need-enum-told
+enum-told c = search needs
+
+enum-told-2 : tie.Need-enum-told-2
+enum-told-2 c = search needs
+
+text-length-requires : tie.Need-text-length-requires
+text-length-requires c κs = let v = c .before .before in
+    total-most _ (sound-parts _ (fine-sound _ (sym (v .text-verdict .ensures) ∙ c .enum-told2 .given .1)) .0)
+
+returns : tie.Need-returns
+returns c = let n = c .before in
+    let t = n .before in
+    let v = t .before .before in
+    told-short _ _ (v .text-verdict .result) _ (v .text-verdict .ensures) (t .enum-told2 .given .1) (n .text-length .ensures .0) (c .if1 .taken)
+
+copy-text-requires : tie.Need-copy-text-requires
+copy-text-requires c κs = search needs
+
+returns-2 : tie.Need-returns-2
+returns-2 c = let v = c .before .before in
+    told-refused _ _ (v .text-verdict .result) _ (v .text-verdict .ensures) (c .enum-told .given .1)
+
+same-length : tie.Need-same-length
+same-length c = search needs
+
+returns-3 : tie.Need-returns-3
+returns-3 c = let y = c .before .before in
+    let e = y .before .before in
+    let n = e .before in
+    let t = n .before in
+    let v = t .before .before in
+    told-whole _ _ _ (v .text-verdict .result) _ (v .text-verdict .ensures) (t .enum-told2 .given .1) (n .text-length .ensures .0) (e .if1 .left) (y .copy-text .ensures)
+
+pub text-spec : {M : Type 1} → statement M
+text-spec =
+    tie.close
+    (tie.spec
+    text-verdict-requires
+    enum-told
+    enum-told-2
+    text-length-requires
+    returns
+    copy-text-requires
+    returns-2
+    same-length
+    returns-3)
