@@ -1,3 +1,4 @@
+pub mod Claims
 pub mod Texts
 pub mod Opened
 pub mod Admitted
@@ -7,3 +8,5 @@ pub mod Joins
 pub mod Flat
 pub mod Ranges
 pub mod Told
+pub mod Marks
+pub mod Merged
