@@ -1,0 +1,115 @@
+-- What is proved of a store from its opening on, through takings and merges, each claim with the sentence of document 01 that
+-- it settles. Assumes nothing.
+use mathlib.Core.Path.{_≡_}
+use mathlib.Core.Bool.{true}
+use mathlib.Core.List.{List, _++_}
+use mathlib.Core.Logic.{_↔_}
+use Prim.Native.Nat.{ℕ, _≤_}
+use Rattle.report.specs.declared.refusal.Verdict.the-variants.{Fine}
+use Rattle.report.specs.declared.refusal.Refusal.{Refusal}
+use Rattle.report.specs.declared.record.Record.{Record}
+use Rattle.bulletin.specs.declared.name.Name.{Name}
+use Rattle.bulletin.specs.declared.store.Store.{Store}
+use Rattle.bulletin.specs.declared.take.Taken.the-variants.{New, Same, Disputed as AnswersDisputed, Refused}
+use Rattle.bulletin.specs.Pages.{absentPage, heldPage, disputedPage}
+use Rattle.bulletin.specs.Names.{nameVerdict}
+use Rattle.bulletin.specs.Stores.{soundStore, ShapedStore}
+use Rattle.bulletin.specs.Takings.{takeOf}
+use Rattle.bulletin.specs.Merges.{joined, mergeOf}
+use Rattle.bulletin.proofs.Marks.{absent, held, disputed}
+use Rattle.histories.specs.Soundness.{InRange, Sound}
+use Rattle.histories.specs.Frames.{Frame, after, page, SameFrames, Brings, Came, Absent, Held, Disputed}
+use Rattle.histories.specs.Merging.{Tree, merged, allFrames}
+use Rattle.histories.proofs.NameRanges.{fine-in-range, in-range-fine}
+use Rattle.histories.proofs.Tested.{tested-sound, sound-tested}
+use Rattle.histories.proofs.Told.{told-page, page-told, same-frames}
+use Rattle.histories.proofs.Answers.{taken-brings, brings-not-refused, answers-new, answers-same, answers-disputed}
+use Rattle.histories.proofs.Merges.{merge-joins, joined-sound, commutes, associates, repeats, merge-after, tree-after, same-trees}
+
+-- ---- sound
+
+-- "every name in range is opened", and no other: the test of a name asks each value for its range
+pub opened-exactly-when-in-range : (n : Name) → nameVerdict n ≡ Fine ↔ InRange n
+opened-exactly-when-in-range n = (fine-in-range n, in-range-fine n)
+
+-- "A store is sound when its name is in range, each page's state is one of the three, absent and disputed pages hold zero
+-- bytes, and pages past the total are absent": the test of a store, whatever stands in it, asks just that.
+pub sound-exactly-when-tested : (s : Store) → soundStore s ≡ true ↔ Sound s
+sound-exactly-when-tested s = (tested-sound s, sound-tested s)
+
+-- ---- taken
+
+-- "a sound store takes every valid page of its bulletin", and nothing else
+pub taken-exactly-when-a-page-of-the-bulletin : (s : Store) (r : Record) → Sound s
+    → ((x : Refusal) → takeOf s r .answer ≡ Refused x → ⊥) ↔ ((p : ℕ) × Brings (s .name) r p (r .text))
+taken-exactly-when-a-page-of-the-bulletin s r h = (taken-brings s r, λ b. brings-not-refused s r (b .0) (r .text) h (b .1))
+
+-- "Each page from 1 to the total is absent, held with its 18 bytes, or disputed": absent exactly when no frame brought it ..
+pub absent-exactly-when-none-came : (n : Name) (frames : List Frame) (p : ℕ) → InRange n → 1 ≤ p → p ≤ n .total
+    → page (after n frames) p ≡ absentPage ↔ Absent n frames p
+absent-exactly-when-none-came n frames p r low high = (told-page n r frames p absent low high, page-told n r frames p absent low high)
+
+-- .. held with a text exactly when a frame brought it with that text, and every frame that brought it did ..
+pub held-exactly-when-one-text-came : (n : Name) (frames : List Frame) (p : ℕ) (t : List ℕ) → InRange n → 1 ≤ p → p ≤ n .total
+    → page (after n frames) p ≡ heldPage t ↔ Held n frames p t
+held-exactly-when-one-text-came n frames p t r low high = (told-page n r frames p (held t) low high, page-told n r frames p (held t) low high)
+
+-- .. and disputed exactly when two frames brought it with texts that differ: neither does the second text replace the first,
+-- nor is it "dropped unseen".
+pub disputed-exactly-when-two-differ : (n : Name) (frames : List Frame) (p : ℕ) → InRange n → 1 ≤ p → p ≤ n .total
+    → page (after n frames) p ≡ disputedPage ↔ Disputed n frames p
+disputed-exactly-when-two-differ n frames p r low high = (told-page n r frames p disputed low high, page-told n r frames p disputed low high)
+
+-- "Taking a page answers new where it was absent" ..
+pub new-where-none-came : (n : Name) (frames : List Frame) (f : Frame) (p : ℕ) (t : List ℕ) → InRange n → Brings n (f .came) p t
+    → Absent n frames p → takeOf (after n frames) (f .came) .answer ≡ New
+new-where-none-came n frames f p t r b h = answers-new n r frames f p t b h
+
+-- .. "same where it was held with those 18 bytes" ..
+pub same-where-that-text-came : (n : Name) (frames : List Frame) (f : Frame) (p : ℕ) (t : List ℕ) → InRange n → Brings n (f .came) p t
+    → Held n frames p t → takeOf (after n frames) (f .came) .answer ≡ Same
+same-where-that-text-came n frames f p t r b h = answers-same n r frames f p t b h
+
+-- .. "and disputed otherwise": where another text had come
+pub disputed-where-another-came : (n : Name) (frames : List Frame) (f : Frame) (p : ℕ) (t u : List ℕ) → InRange n → Brings n (f .came) p t
+    → Came n frames p u → (u ≡ t → ⊥) → takeOf (after n frames) (f .came) .answer ≡ AnswersDisputed
+disputed-where-another-came n frames f p t u r b c d = answers-disputed n r frames f p t b u c d
+
+-- Pages "come in any order and more than once": the same frames give the same store.
+pub order-and-repeats-do-not-matter : (n : Name) (a b : List Frame) → InRange n → SameFrames a b → after n a ≡ after n b
+order-and-repeats-do-not-matter n a b r same = same-frames n a b r same
+
+-- ---- merged
+
+-- "a merged store counts as having taken the frames of both"
+pub merging-takes-the-frames-of-both : (n : Name) (a b : List Frame) → InRange n
+    → mergeOf (after n a) (after n b) ≡ record { answer = Fine; store = after n (a ++ b) }
+merging-takes-the-frames-of-both n a b r = merge-after n r a b
+
+-- .. however many receivers there are, and however their stores are merged ..
+pub a-tree-of-merges-takes-all-frames : (n : Name) (t : Tree) → InRange n → merged n t ≡ after n (allFrames t)
+a-tree-of-merges-takes-all-frames n t r = tree-after n r t
+
+-- .. so two ways of merging the same frames give the same store
+pub ways-of-merging-agree : (n : Name) (a b : Tree) → InRange n → SameFrames (allFrames a) (allFrames b) → merged n a ≡ merged n b
+ways-of-merging-agree n a b r same = same-trees n r a b same
+
+-- "Merging: 14, 13": two sound stores of one bulletin are merged, page by page, and what they give is sound
+pub sound-stores-are-merged : (a b : Store) → Sound a → Sound b → a .name ≡ b .name → mergeOf a b ≡ record { answer = Fine; store = joined a b }
+sound-stores-are-merged a b p q e = merge-joins a b p q e
+
+pub merging-keeps-soundness : (a b : Store) → Sound a → Sound b → ShapedStore a → ShapedStore b → a .name ≡ b .name → Sound (joined a b)
+merging-keeps-soundness a b p q x y e = joined-sound a b p q (x .long) (y .long) e
+
+-- "The laws of merging": it does not matter which store is the first ..
+pub merging-is-commutative : (a b : Store) → Sound a → Sound b → ShapedStore a → ShapedStore b → a .name ≡ b .name → mergeOf a b ≡ mergeOf b a
+merging-is-commutative a b p q x y e = commutes a b p q (x .long) (y .long) e
+
+-- .. nor which two are merged first ..
+pub merging-is-associative : (a b c : Store) → Sound a → Sound b → Sound c → ShapedStore a → ShapedStore b → ShapedStore c
+    → a .name ≡ b .name → b .name ≡ c .name → mergeOf (mergeOf a b .store) c ≡ mergeOf a (mergeOf b c .store)
+merging-is-associative a b c p q r x y z e f = associates a b c p q r (x .long) (y .long) (z .long) e f
+
+-- .. nor how often
+pub merging-is-idempotent : (a : Store) → Sound a → ShapedStore a → mergeOf a a ≡ record { answer = Fine; store = a }
+merging-is-idempotent a p x = repeats a p (x .long)

@@ -1,0 +1,9 @@
+pub mod NameRanges
+pub mod Tested
+pub mod Standing
+pub mod Brought
+pub mod Takings
+pub mod Told
+pub mod Merges
+pub mod Answers
+pub mod Claims

@@ -1,0 +1,21 @@
+-- Stores that several receivers filled, merged two at a time (document 01: "a merged store counts as having taken the frames
+-- of both").
+use mathlib.Core.List.{List, _++_}
+use Rattle.bulletin.specs.declared.name.Name.{Name}
+use Rattle.bulletin.specs.declared.store.Store.{Store}
+use Rattle.bulletin.specs.Merges.{mergeOf}
+use Rattle.histories.specs.Frames.{Frame, after}
+
+-- one receiver's frames, or two stores merged
+pub data Tree : Type 0 where
+  receiver : List Frame → Tree
+  merge : Tree → Tree → Tree
+
+abbrev pub merged : Name → Tree → Store
+merged n (receiver frames) = after n frames
+merged n (merge a b) = mergeOf (merged n a) (merged n b) .store
+
+-- all frames, one receiver's behind the other's
+abbrev pub allFrames : Tree → List Frame
+allFrames (receiver frames) = frames
+allFrames (merge a b) = allFrames a ++ allFrames b
