@@ -108,7 +108,7 @@ brings-page n f p t b =
     (k .low, k .high)
 
 -- a record is one page, with one text
-same-page : (n : Name) (r : Record) (p q : ℕ) (t u : Text) → Brings n r p t → Brings n r q u → p ≡ q
+pub same-page : (n : Name) (r : Record) (p q : ℕ) (t u : Text) → Brings n r p t → Brings n r q u → p ≡ q
 same-page n r p q t u a b = ap (λ (x : Numbers). x .number) (same-numbers _ _ (sym (a .body) ∙ b .body))
   where
     same-numbers : (x y : Numbers) → Nankai x ≡ Nankai y → x ≡ y

@@ -3,8 +3,8 @@
 use mathlib.Core.Path.{_≡_}
 use mathlib.Core.Bool.{true}
 use mathlib.Core.List.{List, _++_}
-use mathlib.Core.Logic.{_↔_}
-use Prim.Native.Nat.{ℕ, _≤_}
+use mathlib.Core.Logic.{_↔_, _⊎_}
+use Prim.Native.Nat.{ℕ, _≤_, _<_}
 use Rattle.report.specs.declared.refusal.Verdict.the-variants.{Fine}
 use Rattle.report.specs.declared.refusal.Refusal.{Refusal}
 use Rattle.report.specs.declared.record.Record.{Record}
@@ -13,18 +13,21 @@ use Rattle.bulletin.specs.declared.store.Store.{Store}
 use Rattle.bulletin.specs.declared.take.Taken.the-variants.{New, Same, Disputed as AnswersDisputed, Refused}
 use Rattle.bulletin.specs.Pages.{absentPage, heldPage, disputedPage}
 use Rattle.bulletin.specs.Names.{nameVerdict}
-use Rattle.bulletin.specs.Stores.{soundStore, ShapedStore}
+use Rattle.bulletin.specs.Stores.{soundStore, at, ShapedStore}
 use Rattle.bulletin.specs.Takings.{takeOf}
 use Rattle.bulletin.specs.Merges.{joined, mergeOf}
 use Rattle.bulletin.proofs.Marks.{absent, held, disputed}
 use Rattle.histories.specs.Soundness.{InRange, Sound}
-use Rattle.histories.specs.Frames.{Frame, after, page, SameFrames, Brings, Came, Absent, Held, Disputed}
+use Rattle.histories.specs.Frames.{Frame, after, page, SameFrames, Brings, Came, Absent, Held, Disputed, AllTaken}
 use Rattle.histories.specs.Merging.{Tree, merged, allFrames}
+use Rattle.histories.specs.Histories.{History, storeOf, framesOf}
 use Rattle.histories.proofs.NameRanges.{fine-in-range, in-range-fine}
 use Rattle.histories.proofs.Tested.{tested-sound, sound-tested}
 use Rattle.histories.proofs.Told.{told-page, page-told, same-frames}
 use Rattle.histories.proofs.Answers.{taken-brings, brings-not-refused, answers-new, answers-same, answers-disputed}
-use Rattle.histories.proofs.Merges.{merge-joins, joined-sound, commutes, associates, repeats, merge-after, tree-after, same-trees}
+use Rattle.histories.proofs.Merges.{merge-joins, joined-sound, commutes, associates, repeats, held-kept, after-sound, merge-after, tree-after, same-trees}
+use Rattle.histories.proofs.Given.{sound-given, after-shaped}
+use Rattle.histories.proofs.Reached.{history-after, history-sound, history-shaped, any-store}
 
 -- ---- sound
 
@@ -113,3 +116,33 @@ merging-is-associative a b c p q r x y z e f = associates a b c p q r (x .long) 
 -- .. nor how often
 pub merging-is-idempotent : (a : Store) → Sound a → ShapedStore a → mergeOf a a ≡ record { answer = Fine; store = a }
 merging-is-idempotent a p x = repeats a p (x .long)
+
+-- "all else is disputed": the text of a held page is never replaced by another, in whatever store it is merged with
+pub a-held-text-is-not-replaced : (a b : Store) → ShapedStore a → ShapedStore b → (i : ℕ) (t : List ℕ) → i < 63 → at a i ≡ heldPage t
+    → (at (mergeOf a b .store) i ≡ heldPage t) ⊎ (at (mergeOf a b .store) i ≡ disputedPage)
+a-held-text-is-not-replaced a b x y i t h e = held-kept a b (x .long) (y .long) i t h e
+
+-- ---- from its opening on
+
+-- "Every sound store is one that some list of frames gives": of frames that are all taken ..
+pub every-sound-store-is-given-by-frames : (s : Store) → Sound s → ShapedStore s
+    → (frames : List Frame) × AllTaken (s .name) frames × (s ≡ after (s .name) frames)
+every-sound-store-is-given-by-frames s p x = sound-given s p x
+
+-- .. and every store that frames give is sound, and can be passed on
+pub what-frames-give-is-sound : (n : Name) (frames : List Frame) → InRange n → Sound (after n frames) × ShapedStore (after n frames)
+what-frames-give-is-sound n frames r = (after-sound n r frames, after-shaped n r frames)
+
+-- "Condition 3 speaks of a store from its opening on, through takings and merges": whatever has happened to it, it is the store
+-- that its frames give ..
+pub a-history-comes-to-its-frames : (n : Name) (h : History n) → InRange n → storeOf h ≡ after n (framesOf h)
+a-history-comes-to-its-frames n h r = history-after n r h
+
+-- .. and sound ..
+pub a-history-comes-to-a-sound-store : (n : Name) (h : History n) → InRange n → Sound (storeOf h) × ShapedStore (storeOf h)
+a-history-comes-to-a-sound-store n h r = (history-sound n r h, history-shaped n r h)
+
+-- .. and goes on with whatever store it is merged with next: "a sound store from elsewhere counts as having taken such a list"
+pub any-store-may-be-merged : (n : Name) (h : History n) (s : Store) → InRange n → ShapedStore s
+    → (k : History n) × (storeOf k ≡ mergeOf (storeOf h) s .store)
+any-store-may-be-merged n h s r x = any-store n r h s x

@@ -6,4 +6,7 @@ pub mod Takings
 pub mod Told
 pub mod Merges
 pub mod Answers
+pub mod PageFrames
+pub mod Given
+pub mod Reached
 pub mod Claims

@@ -1,17 +1,20 @@
 -- Merging is taking the frames of both. Assumes nothing.
 use mathlib.Core.Path.{_≡_, refl, ap, sym, _∙_, subst}
 use mathlib.Core.List.{List, _++_}
-use Prim.Native.Nat.{suc}
+use mathlib.Core.Logic.{_⊎_, inl}
+use Prim.Native.Nat.{ℕ, suc, _<_}
 use lib.ListN.{length}
 use Rattle.report.specs.declared.refusal.Verdict.{Verdict}
-use Rattle.report.specs.declared.refusal.Verdict.the-variants.{Fine}
-use Rattle.report.proofs.Outcomes.{both-fine, unless-true}
+use Rattle.report.specs.declared.refusal.Verdict.the-variants.{Fine, Refused}
+use Rattle.report.proofs.Outcomes.{both-fine, fine-both, unless-true, unless-fine}
 use Rattle.bulletin.specs.declared.name.Name.{Name}
 use Rattle.bulletin.specs.declared.store.Store.{Store}
 use Rattle.bulletin.specs.declared.merge.Merging.{Merging}
+use Rattle.bulletin.specs.Pages.{heldPage, disputedPage}
 use Rattle.bulletin.specs.Names.{sameName}
 use Rattle.bulletin.specs.Stores.{soundStore, at}
 use Rattle.bulletin.specs.Merges.{mergeVerdict, joined, merging, mergeOf}
+use Rattle.bulletin.proofs.Claims.{a-held-text-is-not-replaced-by-a-merge}
 use Rattle.bulletin.proofs.Marks.{markOf, markOf-append}
 use Rattle.bulletin.proofs.Merged.{Whole, merge-comm, merge-assoc, merge-idem}
 use Rattle.histories.specs.Soundness.{InRange, Sound}
@@ -60,6 +63,18 @@ associates a b c p q r la lb lc e f =
 
 pub repeats : (a : Store) → Sound a → length (a .pages) ≡ 63 → mergeOf a a ≡ fineMerge a
 repeats a p la = merge-joins a a p p refl ∙ ap fineMerge (merge-idem a (whole a p la))
+
+-- a held text stays, or is disputed: also where the merge is refused
+pub held-kept : (a b : Store) → length (a .pages) ≡ 63 → length (b .pages) ≡ 63 → (i : ℕ) (t : List ℕ) → i < 63 → at a i ≡ heldPage t
+    → (at (mergeOf a b .store) i ≡ heldPage t) ⊎ (at (mergeOf a b .store) i ≡ disputedPage)
+unfolding mergeVerdict
+held-kept a b la lb i t h e = by (mergeVerdict a b) refl
+  where
+    by : (v : Verdict) → mergeVerdict a b ≡ v → (at (merging v a b .store) i ≡ heldPage t) ⊎ (at (merging v a b .store) i ≡ disputedPage)
+    by (Refused x) f = inl e
+    by Fine f =
+        let parts = fine-both _ _ f in
+        a-held-text-is-not-replaced-by-a-merge a b (record { long = la; sound = unless-fine _ _ (parts .0) }) (record { long = lb; sound = unless-fine _ _ (fine-both _ _ (parts .1) .0) }) i t h e
 
 -- ---- over frames
 

@@ -17,7 +17,7 @@ use Rattle.histories.specs.Soundness.{InRange}
 two-codes : (a b v : ℕ) → In (a to a ∷ b to b ∷ []) v → (v ≡ a) ⊎ (v ≡ b)
 two-codes a b v h = ⊎-elim (λ p. inl (omega arith)) (λ q. ⊎-elim (λ p. inr (omega arith)) (λ n. absurd n) q) h
 
-codes-two : (a b v : ℕ) → (v ≡ a) ⊎ (v ≡ b) → In (a to a ∷ b to b ∷ []) v
+pub codes-two : (a b v : ℕ) → (v ≡ a) ⊎ (v ≡ b) → In (a to a ∷ b to b ∷ []) v
 codes-two a b v h = ⊎-elim (λ e. inl (omega arith, omega arith)) (λ e. inr (inl (omega arith, omega arith))) h
 
 pub fine-in-range : (n : Name) → nameVerdict n ≡ Fine → InRange n

@@ -35,7 +35,7 @@ module _ (n : Name) (range : InRange n) (fs : List Frame) where
   tells-says p disputed h = (h .one, h .other, came-in n range p fs (h .one) (h .came), came-in n range p fs (h .other) (h .came-too), h .differ)
 
   -- the mark of a page, which the frames tell
-  pub markFor : ℕ → Mark
+  unfoldable pub markFor : ℕ → Mark
   markFor p = markOf (texts n range p fs)
 
   pub tells : (p : ℕ) → Tells p (markFor p)

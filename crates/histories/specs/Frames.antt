@@ -71,3 +71,7 @@ pub record Disputed (n : Name) (frames : List Frame) (p : ℕ) : Type 0 where
   pub came : Came n frames p one
   pub came-too : Came n frames p other
   pub differ : one ≡ other → ⊥
+
+-- each of the frames is a page of the bulletin, so each is taken
+abbrev pub AllTaken : Name → List Frame → Type 0
+AllTaken n frames = (r : Record) → Among r frames → (p : ℕ) × Brings n r p (r .text)

@@ -1,3 +1,4 @@
 pub mod Soundness
 pub mod Frames
 pub mod Merging
+pub mod Histories

@@ -1,0 +1,36 @@
+-- "Condition 3 speaks of a store from its opening on, through takings and merges" (document 01, "The page store").
+use mathlib.Core.Path.{_≡_}
+use mathlib.Core.List.{List, [], _∷_, _++_}
+use Rattle.bulletin.specs.declared.name.Name.{Name}
+use Rattle.bulletin.specs.declared.store.Store.{Store}
+use Rattle.bulletin.specs.Stores.{openOf}
+use Rattle.bulletin.specs.Takings.{takeOf}
+use Rattle.bulletin.specs.Merges.{mergeOf}
+use Rattle.histories.specs.Soundness.{Sound}
+use Rattle.histories.specs.Frames.{Frame, after}
+
+-- the store was opened; it took a frame, or refused it; it was merged with a store that has a history of its own, with a store
+-- from elsewhere that some list of frames gives, or with a store that is not sound or of another bulletin, which is refused
+pub data History (n : Name) : Type 0 where
+  opened : History n
+  took : History n → Frame → History n
+  merged : History n → History n → History n
+  met : History n → (s : Store) (frames : List Frame) → s ≡ after n frames → History n
+  refused : History n → (s : Store) → (Sound s → s .name ≡ n → ⊥) → History n
+
+-- the store that it has come to
+abbrev pub storeOf : {n : Name} → History n → Store
+storeOf {n} opened = openOf n .store
+storeOf (took h f) = takeOf (storeOf h) (f .came) .store
+storeOf (merged h k) = mergeOf (storeOf h) (storeOf k) .store
+storeOf (met h s frames e) = mergeOf (storeOf h) s .store
+storeOf (refused h s no-sound-store) = mergeOf (storeOf h) s .store
+
+-- the frames that came: "a merged store counts as having taken the frames of both", and "a sound store from elsewhere counts
+-- as having taken such a list"
+abbrev pub framesOf : {n : Name} → History n → List Frame
+framesOf opened = []
+framesOf (took h f) = framesOf h ++ (f ∷ [])
+framesOf (merged h k) = framesOf h ++ framesOf k
+framesOf (met h s frames e) = framesOf h ++ frames
+framesOf (refused h s no-sound-store) = framesOf h
