@@ -1,26 +1,32 @@
 -- What is proved of a store from its opening on, through takings and merges, each claim with the sentence of document 01 that
 -- it settles. Assumes nothing.
-use mathlib.Core.Path.{_≡_}
+use mathlib.Core.Path.{_≡_, refl, sym, subst}
 use mathlib.Core.Bool.{true}
 use mathlib.Core.List.{List, _++_}
 use mathlib.Core.Logic.{_↔_, _⊎_}
 use Prim.Native.Nat.{ℕ, _≤_, _<_}
+use lib.ListN.{length}
 use Rattle.report.specs.declared.refusal.Verdict.the-variants.{Fine}
 use Rattle.report.specs.declared.refusal.Refusal.{Refusal}
+use Rattle.report.specs.declared.refusal.Refusal.the-variants.{NotHeld}
 use Rattle.report.specs.declared.record.Record.{Record}
 use Rattle.bulletin.specs.declared.name.Name.{Name}
 use Rattle.bulletin.specs.declared.store.Store.{Store}
+use Rattle.bulletin.specs.declared.count.Count.{Count}
 use Rattle.bulletin.specs.declared.take.Taken.the-variants.{New, Same, Disputed as AnswersDisputed, Refused}
 use Rattle.bulletin.specs.Pages.{absentPage, heldPage, disputedPage}
 use Rattle.bulletin.specs.Names.{nameVerdict}
 use Rattle.bulletin.specs.Stores.{soundStore, at, ShapedStore}
 use Rattle.bulletin.specs.Takings.{takeOf}
+use Rattle.bulletin.specs.Counts.{reportOf}
 use Rattle.bulletin.specs.Merges.{joined, mergeOf}
 use Rattle.bulletin.proofs.Marks.{absent, held, disputed}
 use Rattle.histories.specs.Soundness.{InRange, Sound}
 use Rattle.histories.specs.Frames.{Frame, after, page, SameFrames, Brings, Came, Absent, Held, Disputed, AllTaken}
 use Rattle.histories.specs.Merging.{Tree, merged, allFrames}
 use Rattle.histories.specs.Histories.{History, storeOf, framesOf}
+use Rattle.histories.specs.Reports.{LowestWithout, IsHeld, Reports, inOrder, Trimmed, Tells, TellsNothing, NotHeldBecause}
+use Rattle.histories.specs.Examples.{ofTwoPages, cameTwice}
 use Rattle.histories.proofs.NameRanges.{fine-in-range, in-range-fine}
 use Rattle.histories.proofs.Tested.{tested-sound, sound-tested}
 use Rattle.histories.proofs.Told.{told-page, page-told, same-frames}
@@ -28,6 +34,10 @@ use Rattle.histories.proofs.Answers.{taken-brings, brings-not-refused, 
 use Rattle.histories.proofs.Merges.{merge-joins, joined-sound, commutes, associates, repeats, held-kept, after-sound, merge-after, tree-after, same-trees}
 use Rattle.histories.proofs.Given.{sound-given, after-shaped}
 use Rattle.histories.proofs.Reached.{history-after, history-sound, history-shaped, any-store}
+use Rattle.histories.proofs.Reported.{reported, reported-once}
+use Rattle.histories.proofs.Trimming.{trimmed-once}
+use Rattle.histories.proofs.Spoken.{whole-text, at-most, no-text, missed}
+use Rattle.histories.proofs.Twice.{all-taken, twice-reported, twice-told}
 
 -- ---- sound
 
@@ -146,3 +156,50 @@ a-history-comes-to-a-sound-store n h r = (history-sound n r h, history-shaped n 
 pub any-store-may-be-merged : (n : Name) (h : History n) (s : Store) → InRange n → ShapedStore s
     → (k : History n) × (storeOf k ≡ mergeOf (storeOf h) s .store)
 any-store-may-be-merged n h s r x = any-store n r h s x
+
+-- ---- reported and told
+
+-- "A store reports how many pages are held, how many are disputed, and the lowest page that is not held (0 if none)": each of
+-- the three is defined from the frames taken ..
+pub the-report-is-told-by-the-frames : (n : Name) (frames : List Frame) → InRange n → Reports n frames (reportOf (after n frames))
+the-report-is-told-by-the-frames n frames r = reported n r frames
+
+-- .. and no other report is told by them: not "an invented number of held or disputed pages" ..
+pub the-frames-tell-one-report : (n : Name) (frames : List Frame) (c d : Count) → Reports n frames c → Reports n frames d → c ≡ d
+the-frames-tell-one-report n frames c d p q = reported-once n frames c d p q
+
+-- .. also after merges, and with stores from elsewhere
+pub a-history-reports-its-frames : (n : Name) (h : History n) → InRange n → Reports n (framesOf h) (reportOf (storeOf h))
+a-history-reports-its-frames n h r = subst (λ (s : Store). Reports n (framesOf h) (reportOf s)) (sym (history-after n r h)) (reported n r (framesOf h))
+
+-- "The text is the pages' bytes in order, less all zero bytes at its end": where each page is held with its text ..
+pub the-text-is-told-by-the-frames : (n : Name) (frames : List Frame) (t : ℕ → List ℕ) → InRange n
+    → ((p : ℕ) → 1 ≤ p → p ≤ n .total → Held n frames p (t p))
+    → (text : List ℕ) × Trimmed (inOrder t (n .total)) text × Tells (after n frames) text
+the-text-is-told-by-the-frames n frames t r all = whole-text n r frames t all
+
+-- .. and no other text is that, which is "at most 1,134 bytes"
+pub the-text-is-one : (whole t u : List ℕ) → Trimmed whole t → Trimmed whole u → t ≡ u
+the-text-is-one whole t u p q = trimmed-once whole t u p q
+
+pub the-text-is-at-most-1134-bytes : (n : Name) (frames : List Frame) (t : ℕ → List ℕ) (text : List ℕ) → InRange n
+    → ((p : ℕ) → 1 ≤ p → p ≤ n .total → Held n frames p (t p)) → Trimmed (inOrder t (n .total)) text → length text ≤ 1134
+the-text-is-at-most-1134-bytes n frames t text r all h = at-most n r frames t text all h
+
+-- "15: a page is not held; with the lowest such page and whether it is absent or disputed"
+pub no-text-where-a-page-is-not-held : (n : Name) (frames : List Frame) (k : ℕ) → InRange n → LowestWithout (IsHeld n frames) (n .total) k
+    → (mark : ℕ) × NotHeldBecause n frames k mark × TellsNothing (after n frames) (NotHeld k mark)
+no-text-where-a-page-is-not-held n frames k r h = no-text n r frames k h
+
+-- Not "a bulletin called complete because as many frames came as it has pages": a page that no frame brought is missed by the
+-- report and by the text, however many frames came ..
+pub a-page-that-did-not-come-is-missed : (n : Name) (frames : List Frame) (p : ℕ) → InRange n → 1 ≤ p → p ≤ n .total → Absent n frames p
+    → (k : ℕ) × (mark : ℕ) × (reportOf (after n frames) .lowest ≡ k) × NotHeldBecause n frames k mark × TellsNothing (after n frames) (NotHeld k mark)
+a-page-that-did-not-come-is-missed n frames p r low high none = missed n r frames p low high none
+
+-- .. "one may have come twice": a bulletin of two pages, of which the first came twice. Both frames are taken, one page is
+-- held, page 2 is the lowest that is not, and the text is refused with 15, page 2, absent.
+pub one-page-twice-is-not-complete : AllTaken ofTwoPages cameTwice × (length cameTwice ≡ ofTwoPages .total)
+    × (reportOf (after ofTwoPages cameTwice) ≡ record { answer = Fine; held = 1; disputed = 0; lowest = 2 })
+    × TellsNothing (after ofTwoPages cameTwice) (NotHeld 2 1)
+one-page-twice-is-not-complete = (all-taken, refl, twice-reported, twice-told)

@@ -45,7 +45,7 @@ mark-of-texts disputed = rw (ne-same zeros ones apart)
     apart : zeros ≡ ones → ⊥
     apart e = zero-one (ap (λ (l : Text). getD l 0 0) e)
 
-same-bytes : (n v : ℕ) → v < 256 → (k : ℕ) → getD (replicate n v) k 0 < 256
+pub same-bytes : (n v : ℕ) → v < 256 → (k : ℕ) → getD (replicate n v) k 0 < 256
 same-bytes zero v h k = omega arith
 same-bytes (suc n) v h zero = h
 same-bytes (suc n) v h (suc k) = same-bytes n v h k
@@ -170,7 +170,7 @@ sound-given s p shape =
 
 -- ---- and a store that frames give has the shape of a store of the code
 
-came-bytes : (n : Name) (fs : List Frame) (p : ℕ) (t : Text) → Came n fs p t → Bytes18 t
+pub came-bytes : (n : Name) (fs : List Frame) (p : ℕ) (t : Text) → Came n fs p t → Bytes18 t
 came-bytes n [] p t c = absurd (c .1)
 came-bytes n (f ∷ fs) p t c =
     ⊎-elim

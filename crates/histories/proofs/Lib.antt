@@ -9,4 +9,9 @@ pub mod Answers
 pub mod PageFrames
 pub mod Given
 pub mod Reached
+pub mod Counts
+pub mod Reported
+pub mod Trimming
+pub mod Spoken
+pub mod Twice
 pub mod Claims

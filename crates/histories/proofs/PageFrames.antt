@@ -33,7 +33,7 @@ pub record Bytes18 (t : Text) : Type 0 where
 abbrev numbersOf : Name → ℕ → Numbers
 numbersOf n p = record { serial = n .serial; number = p; total = n .total }
 
-abbrev recordOf : Name → ℕ → Text → Record
+abbrev pub recordOf : Name → ℕ → Text → Record
 recordOf n p t = record { preamble = 0x53; reserved = 0; common = n .common; body = Nankai (numbersOf n p); slots = replicate 16 noSlot; text = t }
 
 no-slots : (i : ℕ) → getD (replicate 16 noSlot) i noSlot ≡ noSlot
@@ -98,11 +98,10 @@ module _ (n : Name) (range : InRange n) (p : ℕ) (t : Text) (low : 1 ≤ p) (hi
       none : {i : ℕ} → i < 0 → ⊥
       none h = omega arith
 
-  pub frameOf : Frame
+  abbrev pub frameOf : Frame
   frameOf = record { came = recordOf n p t; slots = refl; text = is .long }
 
   pub frame-brings : Brings n (frameOf .came) p t
-  unfolding frameOf
   frame-brings = record {
     valid = keeping-rules-is-valid (recordOf n p t) (record { slots = refl; text = is .long }) keeps;
     common = refl;

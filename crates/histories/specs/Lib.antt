@@ -2,3 +2,5 @@ pub mod Soundness
 pub mod Frames
 pub mod Merging
 pub mod Histories
+pub mod Reports
+pub mod Examples

@@ -1,0 +1,32 @@
+-- "A bulletin called complete because as many frames came as it has pages: one may have come twice" (document 01, "Readings
+-- that look right").
+use mathlib.Core.Path.{refl}
+use mathlib.Core.List.{List, [], _∷_}
+use lib.ListN.{replicate}
+use Rattle.report.specs.declared.record.Body.the-variants.{Nankai}
+use Rattle.report.specs.Records.{noSlot}
+use Rattle.bulletin.specs.declared.name.Name.{Name}
+use Rattle.histories.specs.Frames.{Frame}
+
+-- a bulletin of two pages
+abbrev pub ofTwoPages : Name
+ofTwoPages = record { common = record { rc = 7; month = 3; day = 11; hour = 14; minute = 46; it = 0 }; serial = 1; total = 2 }
+
+-- the frame of its first page
+abbrev pub firstPage : Frame
+firstPage = record {
+  came = record {
+    preamble = 0x53;
+    reserved = 0;
+    common = ofTwoPages .common;
+    body = Nankai (record { serial = 1; number = 1; total = 2 });
+    slots = replicate 16 noSlot;
+    text = replicate 18 65;
+  };
+  slots = refl;
+  text = refl;
+}
+
+-- it came twice
+abbrev pub cameTwice : List Frame
+cameTwice = firstPage ∷ firstPage ∷ []
