@@ -2,7 +2,7 @@
 use mathlib.Core.Path.{_≡_, refl, ap, sym, _∙_, subst}
 use mathlib.Core.Bool.{Bool, true, false, cond}
 use mathlib.Core.List.{List, [], _∷_, _++_}
-use mathlib.Core.Logic.{_⊎_, inl, inr, ⊎-elim}
+use mathlib.Core.Logic.{⊎-elim}
 use Prim.Native.Nat.{ℕ, zero, suc, _+_, _-_, _≤_}
 use native.Mathlib.Omega.{arith}
 use native.Mathlib.Nat.{suc-ne-zero, suc-inj}
@@ -154,11 +154,3 @@ pub taken-in : (s : Store) (r : Record) (a : Admission) (k : ℕ) (t : Taking) �
     → t ≡ putPage s (k - 1) (r .text) → t ≡ takeOf s r
 unfolding taking
 taken-in s r a k t e f g = g ∙ sym (ap (λ (w : Admission). taking w s (r .text)) (sym e ∙ f))
-
--- one of the two, told without the admission, which is the store's own
-pub taken-or-refused : (s : Store) (r : Record) → ((k : ℕ) × Admits s r k) ⊎ ((x : Refusal) × (takeOf s r ≡ record { answer = RefusedTaking x; store = s }))
-taken-or-refused s r = by (admission s r) refl
-  where
-    by : (a : Admission) → admission s r ≡ a → ((k : ℕ) × Admits s r k) ⊎ ((x : Refusal) × (takeOf s r ≡ record { answer = RefusedTaking x; store = s }))
-    by (Number k) e = inl (k, admits s r k e)
-    by (Refused x) e = inr (x, sym (taken-refused s r (Refused x) x (sym e) refl))

@@ -2,6 +2,7 @@ pub mod Claims
 pub mod Texts
 pub mod Opened
 pub mod Admitted
+pub mod Decided
 pub mod Shapes
 pub mod PageTurns
 pub mod Joins

@@ -13,7 +13,7 @@ use Rattle.bulletin.specs.declared.take.Taking.{Taking}
 use Rattle.bulletin.specs.Pages.{join, heldPage}
 use Rattle.bulletin.specs.Stores.{at}
 use Rattle.bulletin.specs.Takings.{told, putPage, takeOf}
-use Rattle.bulletin.proofs.Admitted.{taken-or-refused}
+use Rattle.bulletin.proofs.Decided.{taken-or-refused}
 use Rattle.bulletin.proofs.Marks.{Text, Mark, absent, held, disputed, toPage, joinM, join-to}
 use Rattle.bulletin.proofs.Texts.{eq-same, ne-same}
 use Rattle.histories.specs.Soundness.{InRange, Sound}

@@ -22,7 +22,8 @@ use Rattle.bulletin.specs.Names.{sameCommon, sameName}
 use Rattle.bulletin.specs.Stores.{noPages, soundStore, at}
 use Rattle.bulletin.specs.Takings.{nameOf, told, putPage, takeOf}
 use Rattle.bulletin.proofs.Texts.{and-both}
-use Rattle.bulletin.proofs.Admitted.{Admits, numbered, taken-or-refused}
+use Rattle.bulletin.proofs.Admitted.{Admits, numbered}
+use Rattle.bulletin.proofs.Decided.{taken-or-refused}
 use Rattle.bulletin.proofs.Claims.{a-sound-store-takes-every-page}
 use Rattle.bulletin.proofs.Marks.{Text, In}
 use Rattle.histories.specs.Soundness.{InRange}

@@ -18,7 +18,7 @@ use Rattle.bulletin.specs.declared.take.Taking.{Taking}
 use Rattle.bulletin.specs.Pages.{noPage, join, heldPage}
 use Rattle.bulletin.specs.Stores.{noPages, openOf, at}
 use Rattle.bulletin.specs.Takings.{putPage, takeOf}
-use Rattle.bulletin.proofs.Admitted.{taken-or-refused}
+use Rattle.bulletin.proofs.Decided.{taken-or-refused}
 use Rattle.bulletin.proofs.Claims.{every-name-in-range-is-opened}
 use Rattle.bulletin.proofs.Marks.{Text, Mark, absent, held, toPage, joinM, join-to, joinM-none, joinM-assoc, markOf, markOf-append}
 use Rattle.histories.specs.Soundness.{InRange}
