@@ -128,7 +128,7 @@ pub record Numbered (p : Numbers) : Type 0 where
   pub high : p .number ≤ p .total
   pub most : p .total ≤ 63
 
-past-text : (n a b : ℕ) (text : List ℕ) (p : Numbers) → length text ≡ n → Kept b (bytes n a ++ page) (text ++ p .number ∷ p .total ∷ []) → Numbered p
+pub past-text : (n a b : ℕ) (text : List ℕ) (p : Numbers) → length text ≡ n → Kept b (bytes n a ++ page) (text ++ p .number ∷ p .total ∷ []) → Numbered p
 past-text zero a b [] p l h = record { low = ⊎-elim (λ z. z .0) (λ z. absurd z) (h .0); high = h .1 .0 .0; most = h .1 .0 .1 }
 past-text zero a b (t ∷ text) p l h = absurd (suc-ne-zero (length text) l)
 past-text (suc n) a b [] p l h = absurd (suc-ne-zero n (sym l))
