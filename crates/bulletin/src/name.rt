@@ -2,6 +2,7 @@
 // information and page total.
 ghost use mathlib.Core.Path.{_≡_};
 ghost use Rattle.bulletin.specs.Names.{firstPage, nameVerdict, nameInRange, sameCommon, sameName};
+use crate::store::Store;
 use report::check::check;
 use report::record::Body;
 use report::record::Common;
@@ -59,7 +60,7 @@ impl Name {
             common: common,
             body: body,
             slots: [none; 16],
-            text: [0u8; 18],
+            text: [0u8; Store::BYTES],
         }
     }
 

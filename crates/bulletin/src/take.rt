@@ -111,7 +111,7 @@ impl Store {
         }
     }
 
-    fn put(mut self, number: u8, text: [u8; 18]) -> Taking
+    fn put(mut self, number: u8, text: [u8; Self::BYTES]) -> Taking
         requires { ⌜ (1 ≤ number) × (number ≤ 63) ⌝ }
         ensures { λ r. ⌜ r ≡ putPage self (number - 1) text ⌝ }
     {
