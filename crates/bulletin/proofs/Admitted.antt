@@ -22,6 +22,7 @@ use Rattle.report.specs.Layout.{layout, bytes, page}
 use Rattle.report.specs.Records.{values, bodyValues}
 use Rattle.report.specs.Conforms.{Kept}
 use Rattle.report.specs.Writing.{writeAnswer, Valid}
+use Rattle.report.proofs.Outcomes.{unless-fine, unless-refused}
 use Rattle.report.proofs.Shapes.{Shaped}
 use Rattle.report.proofs.Claims.{valid-keeps-rules}
 use Rattle.report.proofs.record.Body as B
@@ -32,8 +33,7 @@ use Rattle.bulletin.specs.declared.store.Store.{Store}
 use Rattle.bulletin.specs.Names.{sameName}
 use Rattle.bulletin.specs.Stores.{soundStore}
 use Rattle.bulletin.specs.declared.take.Taking.{Taking}
-use Rattle.bulletin.specs.declared.take.Taken.the-variants.{Refused as RefusedTaking}
-use Rattle.bulletin.specs.Takings.{nameOf, belongs, writable, admission, putPage, taking, takeOf}
+use Rattle.bulletin.specs.Takings.{nameOf, belongs, writable, admission, putPage, taking, takeOf, soundness, refusing}
 
 no0 : _≡_ {A = ℕ} 3 0 → ⊥
 no0 z = omega arith
@@ -63,9 +63,17 @@ pub of-another : (n : Name) (c : Common) (b : Body) (p : Numbers) → b ≡ Nank
 unfolding belongs
 of-another n c b p e f = simp (e, f)
 
--- ---- by what writing answers
+-- ---- by what each step answers
 
-pub unwritable : (s : Store) (r : Record) (v : Verdict) (x : Refusal) → soundStore s ≡ true → v ≡ writeAnswer r 32 → v ≡ Refuses x → Refused x ≡ admission s r
+pub unsound-store : (s : Store) (r : Record) (v : Verdict) (x : Refusal) → v ≡ soundness s → v ≡ Refuses x → admission s r ≡ Refused x
+unfolding soundness admission
+unsound-store s r v x e f = let u = unless-refused (soundStore s) Unsound x (sym e ∙ f) in simp (u .0, u .1)
+
+pub sound-store : (s : Store) (v : Verdict) → v ≡ soundness s → v ≡ Fine → soundStore s ≡ true
+unfolding soundness
+sound-store s v e f = unless-fine (soundStore s) Unsound (sym e ∙ f)
+
+pub unwritable : (s : Store) (r : Record) (v : Verdict) (x : Refusal) → soundStore s ≡ true → v ≡ writeAnswer r 32 → v ≡ Refuses x → admission s r ≡ Refused x
 unfolding admission
 unwritable s r v x e f g = simp (e, sym f ∙ g)
 
@@ -73,10 +81,6 @@ pub writable-record : (s : Store) (r : Record) (v : Verdict) → soundStore s �
     → belongs (s .name) (r .common) (r .body) ≡ admission s r
 unfolding admission
 writable-record s r v e f g = simp (e, sym f ∙ g)
-
-pub unsound-store : (s : Store) (r : Record) → soundStore s ≡ false → Refused Unsound ≡ admission s r
-unfolding admission
-unsound-store s r e = simp e
 
 -- ---- and back: what an admitted record is
 
@@ -128,7 +132,7 @@ pub record Numbered (p : Numbers) : Type 0 where
   pub high : p .number ≤ p .total
   pub most : p .total ≤ 63
 
-past-text : (n a b : ℕ) (text : List ℕ) (p : Numbers) → length text ≡ n → Kept b (bytes n a ++ page) (text ++ p .number ∷ p .total ∷ []) → Numbered p
+pub past-text : (n a b : ℕ) (text : List ℕ) (p : Numbers) → length text ≡ n → Kept b (bytes n a ++ page) (text ++ p .number ∷ p .total ∷ []) → Numbered p
 past-text zero a b [] p l h = record { low = ⊎-elim (λ z. z .0) (λ z. absurd z) (h .0); high = h .1 .0 .0; most = h .1 .0 .1 }
 past-text zero a b (t ∷ text) p l h = absurd (suc-ne-zero (length text) l)
 past-text (suc n) a b [] p l h = absurd (suc-ne-zero n (sym l))
@@ -142,13 +146,10 @@ numbered r p s v e =
 
 -- ---- the two ways out of taking
 
-abbrev refusedTaking : Refusal → Store → Taking
-refusedTaking x s = record { answer = RefusedTaking x; store = s }
-
-pub taken-refused : (s : Store) (r : Record) (a : Admission) (x : Refusal) → a ≡ admission s r → a ≡ Refused x
-    → refusedTaking x s ≡ takeOf s r
+pub taken-refused : (s : Store) (r : Record) (v : Verdict) (x : Refusal) (t : Taking) → v ≡ Refuses x → t ≡ refusing v s → admission s r ≡ Refused x
+    → t ≡ takeOf s r
 unfolding taking
-taken-refused s r a x e f = sym (ap (λ (w : Admission). taking w s (r .text)) (sym e ∙ f))
+taken-refused s r v x t e f g = f ∙ ap (λ (w : Verdict). refusing w s) e ∙ sym (ap (λ (a : Admission). taking a s (r .text)) g)
 
 pub taken-in : (s : Store) (r : Record) (a : Admission) (k : ℕ) (t : Taking) → a ≡ admission s r → a ≡ Number k
     → t ≡ putPage s (k - 1) (r .text) → t ≡ takeOf s r

@@ -2,38 +2,44 @@
 use mathlib.Core.Path.{_≡_, refl, sym, ap, _∙_}
 use mathlib.Core.Bool.{Bool, true, false, cond}
 use Prim.Native.Nat.{ℕ, _≤_}
-use lib.Dec.{leb}
-use borrow.Author.Tests.{leb-true}
 use Rattle.report.specs.declared.refusal.Verdict.{Verdict}
 use Rattle.report.specs.declared.refusal.Verdict.the-variants.{Fine, Refused}
-use Rattle.report.specs.declared.refusal.Refusal.the-variants.{Unsound, Range}
-use Rattle.report.specs.Refusals.{_then_}
-use Rattle.report.proofs.Outcomes.{not-both, fine-both, unless-fine, and-both, false-not-true}
+use Rattle.report.specs.declared.refusal.Refusal.the-variants.{Unsound}
+use Rattle.report.specs.Layout.{layout, nankai}
+use Rattle.report.specs.Records.{values, bodyValues}
+use Rattle.report.specs.Conforms.{Holds}
+use Rattle.report.proofs.Outcomes.{not-both, false-not-true}
+use Rattle.report.proofs.JudgedFrames.{JudgesAll}
+use Rattle.report.proofs.Validity.{judged-record}
 use Rattle.bulletin.specs.declared.name.Name.{Name}
 use Rattle.bulletin.specs.declared.store.Store.{Store}
-use Rattle.bulletin.specs.Names.{nameVerdict, isFine, nameInRange}
+use Rattle.bulletin.specs.Names.{firstPage, nameVerdict, isFine, nameInRange}
 use Rattle.bulletin.specs.Pages.{soundFrom}
 use Rattle.bulletin.specs.Stores.{soundStore}
 use Rattle.bulletin.specs.Text.{textVerdict}
+use Rattle.bulletin.proofs.Admitted.{past-text}
 
 pub is-fine : (v : Verdict) → isFine v ≡ true → v ≡ Fine
 is-fine Fine e = refl
 is-fine (Refused x) e = absurd (false-not-true e)
 
--- eight questions are fine: the last one is
-last-of-eight : (a b c d e f g z : Verdict) → a then b then c then d then e then f then g then z ≡ Fine → z ≡ Fine
-last-of-eight a b c d e f g z h =
-    let p = fine-both a (b then c then d then e then f then g then z) h .1 in
-    let q = fine-both b (c then d then e then f then g then z) p .1 in
-    let r = fine-both c (d then e then f then g then z) q .1 in
-    let s = fine-both d (e then f then g then z) r .1 in
-    let t = fine-both e (f then g then z) s .1 in
-    let u = fine-both f (g then z) t .1 in
-    fine-both g z u .1
+-- the name is fine where each value of its first page keeps its row's rule, and nowhere else
+judged : (n : Name) → JudgesAll nankai (values (firstPage n) 0 0)
+unfolding layout
+judged n = judged-record (firstPage n) refl
+
+pub fine-holds : (n : Name) → nameVerdict n ≡ Fine → Holds nankai (values (firstPage n) 0 0)
+unfolding nameVerdict
+fine-holds n h = judged n .passed h
+
+pub holds-fine : (n : Name) → Holds nankai (values (firstPage n) 0 0) → nameVerdict n ≡ Fine
+unfolding nameVerdict
+holds-fine n h = judged n .passes h
 
 pub total-most : (n : Name) → nameVerdict n ≡ Fine → n .total ≤ 63
-unfolding nameVerdict
-total-most n h = leb-true (n .total) 63 (and-both (leb 1 (n .total)) (leb (n .total) 63) (unless-fine _ (Range 207) (last-of-eight _ _ _ _ _ _ _ _ h)) .1)
+unfolding values bodyValues layout
+total-most n h =
+    past-text 18 57 (n .serial) (firstPage n .text) (record { serial = n .serial; number = 1; total = n .total }) refl (fine-holds n h .body .1) .most
 
 -- soundness taken apart
 pub sound-parts : (s : Store) → soundStore s ≡ true → (nameVerdict (s .name) ≡ Fine) × (soundFrom (s .name .total) 0 (s .pages) ≡ true)

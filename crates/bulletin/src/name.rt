@@ -1,12 +1,14 @@
 // Which bulletin a store gathers: report classification, issue time, information type, kind of
 // information and page total.
 ghost use mathlib.Core.Path.{_≡_};
-ghost use Rattle.bulletin.specs.Names.{nameVerdict, nameInRange, sameCommon, sameName};
-use report::codes::between;
-use report::codes::is_classification;
-use report::codes::is_uncorrected;
+ghost use Rattle.bulletin.specs.Names.{firstPage, nameVerdict, nameInRange, sameCommon, sameName};
+use crate::store::Store;
+use report::check::check;
+use report::record::Body;
 use report::record::Common;
-use report::refusal::Refusal;
+use report::record::Page;
+use report::record::Record;
+use report::record::Slot;
 use report::refusal::Verdict;
 
 pub struct Name {
@@ -37,20 +39,37 @@ fn same_common(a: Common, b: Common) -> bool
 }
 
 impl Name {
-    // 8 at the first value that is out of range, in the order of a frame.
+    // Page 1 of the bulletin, without text.
+    fn first_page(self) -> Record
+        ensures { λ r. ⌜ r ≡ firstPage self ⌝ }
+    {
+        let common = self.common;
+        let body = Body::Nankai(Page {
+            serial: self.serial,
+            number: 1,
+            total: self.total,
+        });
+        let none = Slot {
+            hour: 0,
+            strength: 0,
+            place: 0,
+        };
+        Record {
+            preamble: 0,
+            reserved: 0,
+            common: common,
+            body: body,
+            slots: [none; 16],
+            text: [0u8; Store::BYTES],
+        }
+    }
+
+    // 8 at the first value that is out of range, in the order of a frame: a name is in range where
+    // its first page is, so the ranges of a frame's fields stand in one place.
     pub fn verdict(self) -> Verdict
         ensures { λ r. ⌜ r ≡ nameVerdict self ⌝ }
     {
-        let c = self.common;
-        Verdict::Fine
-            .unless(is_classification(c.rc), Refusal::Range(14))
-            .unless(between(c.month as u32, 1, 12), Refusal::Range(21))
-            .unless(between(c.day as u32, 1, 31), Refusal::Range(25))
-            .unless(between(c.hour as u32, 0, 23), Refusal::Range(30))
-            .unless(between(c.minute as u32, 0, 59), Refusal::Range(35))
-            .unless(is_uncorrected(c.it), Refusal::Range(41))
-            .unless(between(self.serial as u32, 1, 15), Refusal::Range(53))
-            .unless(between(self.total as u32, 1, 63), Refusal::Range(207))
+        check(self.first_page(), 0, 0)
     }
 
     pub fn is_in_range(self) -> bool

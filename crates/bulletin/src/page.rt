@@ -1,18 +1,19 @@
 // One page: absent, held with its bytes, or disputed.
 ghost use mathlib.Core.Path.{_≡_};
 ghost use Rattle.bulletin.specs.Pages.{sameBytes, absentPage, heldPage, disputedPage, join, soundPage, soundAt};
+use crate::store::Store;
 
 // Mark 0 is absent, 1 held, 2 disputed. Only a held page has bytes.
 pub struct Page {
     pub mark: u8,
-    pub text: [u8; 18],
+    pub text: [u8; Store::BYTES],
 }
 
-fn same_bytes(a: [u8; 18], b: [u8; 18]) -> bool
+fn same_bytes(a: [u8; Store::BYTES], b: [u8; Store::BYTES]) -> bool
     ensures { λ r. ⌜ r ≡ sameBytes a b ⌝ }
 {
     let mut i = 0;
-    while i < 18 {
+    while i < Store::BYTES {
         if a[i] != b[i] {
             return false;
         }
@@ -25,14 +26,14 @@ impl Page {
     pub fn absent() -> Page
         ensures { λ r. ⌜ r ≡ absentPage ⌝ }
     {
-        let text = [0u8; 18];
+        let text = [0u8; Store::BYTES];
         Page {
             mark: 0,
             text: text,
         }
     }
 
-    pub fn held(text: [u8; 18]) -> Page
+    pub fn held(text: [u8; Store::BYTES]) -> Page
         ensures { λ r. ⌜ r ≡ heldPage text ⌝ }
     {
         Page {
@@ -44,7 +45,7 @@ impl Page {
     pub fn disputed() -> Page
         ensures { λ r. ⌜ r ≡ disputedPage ⌝ }
     {
-        let text = [0u8; 18];
+        let text = [0u8; Store::BYTES];
         Page {
             mark: 2,
             text: text,
@@ -83,7 +84,7 @@ impl Page {
             return true;
         }
         let text = self.text;
-        let none = [0u8; 18];
+        let none = [0u8; Store::BYTES];
         if self.mark == 0 {
             return same_bytes(text, none);
         }

@@ -8,7 +8,7 @@ use report::refusal::Verdict;
 
 pub struct Store {
     pub name: Name,
-    pub pages: [Page; 63],
+    pub pages: [Page; Store::PAGES],
 }
 
 // A store that was asked for: where that is refused, a store of zeros.

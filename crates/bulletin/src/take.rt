@@ -2,7 +2,7 @@
 ghost use mathlib.Core.Path.{_≡_};
 ghost use Prim.Native.Nat.{_-_, _≤_};
 ghost use Rattle.report.specs.Writing.{writeAnswer};
-ghost use Rattle.bulletin.specs.Takings.{told, belongs, admission, putPage, takeOf};
+ghost use Rattle.bulletin.specs.Takings.{told, belongs, soundness, found, refusing, putPage, takeOf};
 use crate::name::Name;
 use crate::page::Page;
 use crate::store::Store;
@@ -76,22 +76,42 @@ impl Name {
     }
 }
 
-impl Store {
-    // 14, then what writing refuses, then 12 and 13.
-    fn admit(self, came: Record) -> Admission
-        ensures { λ r. ⌜ r ≡ admission self came ⌝ }
+impl Admission {
+    fn verdict(self) -> Verdict
+        ensures { λ r. ⌜ r ≡ found self ⌝ }
     {
-        let name = self.name;
-        if !self.is_sound() {
-            return Admission::Refused(Refusal::Unsound);
+        match self {
+            Admission::Number(_) => Verdict::Fine,
+            Admission::Refused(refusal) => Verdict::Refused(refusal),
         }
-        match writing(came) {
-            Verdict::Fine => name.admit(came),
-            Verdict::Refused(refusal) => Admission::Refused(refusal),
+    }
+}
+
+impl Store {
+    // 14.
+    fn soundness(self) -> Verdict
+        ensures { λ r. ⌜ r ≡ soundness self ⌝ }
+    {
+        Verdict::Fine.unless(self.is_sound(), Refusal::Unsound)
+    }
+
+    // A refused taking leaves the store as it was. No step hands on `Fine`.
+    fn refused(self, verdict: Verdict) -> Taking
+        ensures { λ r. ⌜ r ≡ refusing verdict self ⌝ }
+    {
+        match verdict {
+            Verdict::Refused(refusal) => Taking {
+                answer: Taken::Refused(refusal),
+                store: self,
+            },
+            Verdict::Fine => Taking {
+                answer: Taken::Same,
+                store: self,
+            },
         }
     }
 
-    fn put(mut self, number: u8, text: [u8; 18]) -> Taking
+    fn put(mut self, number: u8, text: [u8; Self::BYTES]) -> Taking
         requires { ⌜ (1 ≤ number) × (number ≤ 63) ⌝ }
         ensures { λ r. ⌜ r ≡ putPage self (number - 1) text ⌝ }
     {
@@ -106,16 +126,24 @@ impl Store {
         }
     }
 
+    // 14, then what writing refuses, then 12 and 13: a refusal goes out at once.
     pub fn take(self, came: Record) -> Taking
         ensures { λ r. ⌜ r ≡ takeOf self came ⌝ }
     {
+        let name = self.name;
         let text = came.text;
-        match self.admit(came) {
-            Admission::Number(number) => self.put(number, text),
-            Admission::Refused(refusal) => Taking {
-                answer: Taken::Refused(refusal),
-                store: self,
-            },
-        }
+        let sound = self.soundness();
+        let Verdict::Fine = sound else {
+            return self.refused(sound);
+        };
+        let written = writing(came);
+        let Verdict::Fine = written else {
+            return self.refused(written);
+        };
+        let admitted = name.admit(came);
+        let Admission::Number(number) = admitted else {
+            return self.refused(admitted.verdict());
+        };
+        self.put(number, text)
     }
 }

@@ -32,8 +32,8 @@ impl Store {
         requires { ⌜ k < 1134 ⌝ }
         ensures { λ r. ⌜ r ≡ getD (flat (self .pages)) k 0 ⌝ }
     {
-        let i = k / 18;
-        let j = k % 18;
+        let i = k / Self::BYTES;
+        let j = k % Self::BYTES;
         let page = self.pages[i];
         let text = page.text;
         text[j]
@@ -46,7 +46,7 @@ impl Store {
         ensures small { λ r. ⌜ r ≤ 1134 ⌝ }
     {
         let name = self.name;
-        let mut n = 18 * (name.total as usize);
+        let mut n = Self::BYTES * (name.total as usize);
         while n > 0 {
             let m = n - 1;
             if self.byte_at(m) != 0 {

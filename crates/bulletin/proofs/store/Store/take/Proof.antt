@@ -1,10 +1,10 @@
 -- `bulletin::store::Store::take` meets its contract. Assumes nothing.
-use mathlib.Core.Path.{_≡_, sym, _∙_}
+use mathlib.Core.Path.{_≡_, ap, sym, _∙_}
 use native.Mathlib.Omega.{arith}
-use lib.ListN.{length}
 use Rattle.report.proofs.Shapes.{Shaped}
+use Rattle.bulletin.specs.Takings.{found, admission}
 use Rattle.bulletin.proofs.Texts.{unmapped}
-use Rattle.bulletin.proofs.Admitted.{Admits, admits, Numbered, numbered, taken-refused, taken-in}
+use Rattle.bulletin.proofs.Admitted.{admits, numbered, unsound-store, sound-store, unwritable, writable-record, taken-refused, taken-in}
 use borrow.Author.Needs.{needs}
 use Rattle.bulletin.proofs.store.Store.take.Statement.{statement}
 use Rattle.bulletin.proofs.store.Store.take.Tie as tie
@@ -13,38 +13,106 @@ shaped : (c : tie.Start) → Shaped (c .args .came)
 shaped c =
     record { slots = unmapped _ (c .args .came .slots) 16 (c .good .1 .0 .1 .1 .1 .1 .1 .1 .0 .1 .0 .1); text = unmapped _ (c .args .came .text) 18 (c .good .1 .0 .1 .1 .1 .1 .1 .1 .1 .0 .1 .0 .1) }
 
+soundness-requires : tie.Need-soundness-requires
+soundness-requires c κs = search needs
+
+enum-told : tie.Need-enum-told
+enum-told c = search needs
+
+enum-told-2 : tie.Need-enum-told-2
+enum-told-2 c = search needs
+
+refused-requires : tie.Need-refused-requires
+refused-requires c κs = search needs
+
+returns : tie.Need-returns
+returns c = let e = c .before in
+    let s = e .before .before in
+    taken-refused _ _ (s .soundness .result) _ _ (e .enum-told2 .given .1) (c .refused .ensures) (unsound-store _ _ _ _ (s .soundness .ensures) (e .enum-told2 .given .1))
+
+writing-requires : tie.Need-writing-requires
+writing-requires c κs = search needs
+
+enum-told-3 : tie.Need-enum-told-3
+enum-told-3 c = search needs
+
+enum-told-4 : tie.Need-enum-told-4
+enum-told-4 c = search needs
+
+refused-requires-2 : tie.Need-refused-requires-2
+refused-requires-2 c κs = search needs
+
+returns-2 : tie.Need-returns-2
+returns-2 c = let e = c .before in
+    let w = e .before .before in
+    let f = w .before in
+    let sound = sound-store _ _ (f .before .before .soundness .ensures) (f .enum-told .given .1) in
+    taken-refused _ _ (w .writing .result) _ _ (e .enum-told4 .given .1) (c .refused2 .ensures) (unwritable _ _ _ _ sound (w .writing .ensures) (e .enum-told4 .given .1))
+
 admit-requires : tie.Need-admit-requires
 admit-requires c κs = search needs
 
-enum-known-number : tie.Need-enum-known-number
-enum-known-number c = search needs
+enum-known-admitted : tie.Need-enum-known-admitted
+enum-known-admitted c = search needs
+
+enum-told-5 : tie.Need-enum-told-5
+enum-told-5 c = search needs
+
+verdict-requires : tie.Need-verdict-requires
+verdict-requires c κs = search needs
+
+refused-requires-3 : tie.Need-refused-requires-3
+refused-requires-3 c κs = search needs
+
+-- what the last step answers is what admitting is
+admitted : (c : tie.After-admit) → c .admit .result ≡ admission (c .before .before .before .before .before .before .before .before .before .args .self) (c .before .before .before .before .before .before .before .before .before .args .came)
+admitted c = let f = c .before in
+    let w = f .before .before in
+    let g = w .before in
+    let sound = sound-store _ _ (g .before .before .soundness .ensures) (g .enum-told .given .1) in
+    c .admit .ensures ∙ writable-record _ _ _ sound (w .writing .ensures) (f .enum-told3 .given .1)
+
+returns-3 : tie.Need-returns-3
+returns-3 c = let v = c .before in
+    let e = v .before in
+    let a = e .before .before in
+    taken-refused _ _ (v .verdict .result) _ _ (v .verdict .ensures ∙ ap found (e .enum-told5 .given .1)) (c .refused3 .ensures) (sym (admitted a) ∙ e .enum-told5 .given .1)
 
 put-requires : tie.Need-put-requires
 put-requires c κs = let n = c .before in
     let a = n .before .before in
-    let s = a .before .before in
-    let m = admits _ _ _ (sym (a .admit .ensures) ∙ n .number .given .1) in
-    let d = numbered _ _ (shaped s) (m .valid) (m .is) in
+    let m = admits _ _ _ (sym (admitted a) ∙ n .admitted .given .1) in
+    let d = numbered _ _ (shaped (a .before .before .before .before .before .before .before .before .before)) (m .valid) (m .is) in
     let l = d .low in
     let h = d .high in
     let t = d .most in
     let k = m .number in
     (omega arith, omega arith)
 
-enum-known-refusal : tie.Need-enum-known-refusal
-enum-known-refusal c = search needs
-
-returns : tie.Need-returns
-returns c = let n = c .before .before in
+returns-4 : tie.Need-returns-4
+returns-4 c = let n = c .before .before in
     let a = n .before .before in
-    taken-in _ _ (a .admit .result) _ _ (a .admit .ensures) (n .number .given .1) (c .put .ensures)
-
-returns-2 : tie.Need-returns-2
-returns-2 c = let n = c .before in
-    let a = n .before .before in
-    taken-refused _ _ (a .admit .result) _ (a .admit .ensures) (n .refusal .given .1)
+    taken-in _ _ (a .admit .result) _ _ (admitted a) (n .admitted .given .1) (c .put .ensures)
 
 pub take-spec : {M : Type 1} → statement M
 take-spec =
     tie.close
-    (tie.spec admit-requires enum-known-number put-requires enum-known-refusal returns returns-2)
+    (tie.spec
+    soundness-requires
+    enum-told
+    enum-told-2
+    refused-requires
+    returns
+    writing-requires
+    enum-told-3
+    enum-told-4
+    refused-requires-2
+    returns-2
+    admit-requires
+    enum-known-admitted
+    enum-told-5
+    verdict-requires
+    refused-requires-3
+    returns-3
+    put-requires
+    returns-4)

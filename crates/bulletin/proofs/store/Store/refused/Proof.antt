@@ -1,0 +1,19 @@
+-- `bulletin::store::Store::refused` meets its contract. Assumes nothing.
+use borrow.Author.Needs.{needs}
+use Rattle.bulletin.proofs.store.Store.refused.Statement.{statement}
+use Rattle.bulletin.proofs.store.Store.refused.Tie as tie
+
+enum-known-verdict : tie.Need-enum-known-verdict
+enum-known-verdict c = search needs
+
+enum-told : tie.Need-enum-told
+enum-told c = search needs
+
+returns : tie.Need-returns
+returns c = simp (c .before .verdict .given .1)
+
+returns-2 : tie.Need-returns-2
+returns-2 c = simp (c .enum-told .given .1)
+
+pub refused-spec : {M : Type 1} → statement M
+refused-spec = tie.close (tie.spec enum-known-verdict enum-told returns returns-2)

@@ -1,0 +1,21 @@
+-- `bulletin::store::Store::soundness` meets its contract. Assumes nothing.
+use mathlib.Core.Path.{_∙_}
+use Rattle.report.proofs.Outcomes.{fine-then}
+use Rattle.report.proofs.Walks.{asked}
+use Rattle.bulletin.specs.Takings.{soundness}
+use borrow.Author.Needs.{needs}
+use Rattle.bulletin.proofs.store.Store.soundness.Statement.{statement}
+use Rattle.bulletin.proofs.store.Store.soundness.Tie as tie
+
+is-sound-requires : tie.Need-is-sound-requires
+is-sound-requires c κs = search needs
+
+unless-requires : tie.Need-unless-requires
+unless-requires c κs = search needs
+
+returns : tie.Need-returns
+unfolding soundness
+returns c = asked _ _ _ _ _ (c .unless .ensures) (c .before .is-sound .ensures .0) ∙ fine-then _
+
+pub soundness-spec : {M : Type 1} → statement M
+soundness-spec = tie.close (tie.spec is-sound-requires unless-requires returns)
