@@ -21,7 +21,8 @@ use Rattle.histories.specs.Frames.{Frame, after, Among, Brings, Came, Al
 use Rattle.histories.proofs.Standing.{Stands, markIn, stands-same, sound-stands}
 use Rattle.histories.proofs.Brought.{Page?, page?, broughtBy, brought, same-page, texts, texts-append}
 use Rattle.histories.proofs.Takings.{after-stands}
-use Rattle.histories.proofs.PageFrames.{Bytes18, frameOf, frame-brings, brings-bytes}
+use Rattle.histories.proofs.KeptRules.{Bytes18, all-alike}
+use Rattle.histories.proofs.PageFrames.{frameOf, frame-brings, brings-bytes}
 use Rattle.histories.proofs.Told.{Tells, markFor, tells}
 
 -- ---- texts for a mark: two that differ where it is disputed
@@ -45,16 +46,8 @@ mark-of-texts disputed = rw (ne-same zeros ones apart)
     apart : zeros ≡ ones → ⊥
     apart e = zero-one (ap (λ (l : Text). getD l 0 0) e)
 
-pub same-bytes : (n v : ℕ) → v < 256 → (k : ℕ) → getD (replicate n v) k 0 < 256
-same-bytes zero v h k = omega arith
-same-bytes (suc n) v h zero = h
-same-bytes (suc n) v h (suc k) = same-bytes n v h k
-
 pub zeros-bytes : Bytes18 zeros
-zeros-bytes = record { long = refl; bytes = same-bytes 18 0 (omega arith) }
-
-ones-bytes : Bytes18 ones
-ones-bytes = record { long = refl; bytes = same-bytes 18 1 (omega arith) }
+zeros-bytes = all-alike 0 (omega arith)
 
 abbrev AllBytes : List Text → Type 0
 AllBytes [] = Unit
@@ -69,7 +62,7 @@ MarkBytes disputed = Unit
 texts-bytes : (m : Mark) → MarkBytes m → AllBytes (textsFor m)
 texts-bytes absent h = tt
 texts-bytes (held t) h = (h, tt)
-texts-bytes disputed h = (zeros-bytes, (ones-bytes, tt))
+texts-bytes disputed h = (zeros-bytes, (all-alike 1 (omega arith), tt))
 
 -- ---- frames for texts
 

@@ -1,3 +1,4 @@
+pub mod KeptRules
 pub mod NameRanges
 pub mod Tested
 pub mod Standing

@@ -1,56 +1,36 @@
 -- A name is opened exactly where each of its values is in its range. Assumes nothing.
-use mathlib.Core.Path.{_≡_}
-use mathlib.Core.Logic.{_⊎_, inl, inr, ⊎-elim}
-use mathlib.Core.List.{[], _∷_}
-use Prim.Native.Nat.{ℕ}
+use mathlib.Core.Path.{_≡_, refl}
 use native.Mathlib.Omega.{arith}
+use lib.ListN.{replicate}
 use Rattle.report.specs.declared.refusal.Verdict.the-variants.{Fine}
-use Rattle.report.specs.Layout.{_to_}
-use Rattle.report.specs.Conforms.{In}
-use Rattle.report.proofs.Outcomes.{both-fine, fine-both, unless-true, unless-fine}
-use Rattle.report.proofs.Spans.{allowed-in, in-allowed, in-span, span-in}
+use Rattle.report.specs.Layout.{layout}
+use Rattle.report.specs.Records.{noSlot, values, bodyValues}
 use Rattle.bulletin.specs.declared.name.Name.{Name}
-use Rattle.bulletin.specs.Names.{nameVerdict}
+use Rattle.bulletin.specs.Names.{firstPage, nameVerdict}
+use Rattle.bulletin.proofs.Admitted.{past-text}
+use Rattle.bulletin.proofs.Ranges.{fine-holds, holds-fine}
 use Rattle.histories.specs.Soundness.{InRange}
-
--- one of two codes
-two-codes : (a b v : ℕ) → In (a to a ∷ b to b ∷ []) v → (v ≡ a) ⊎ (v ≡ b)
-two-codes a b v h = ⊎-elim (λ p. inl (omega arith)) (λ q. ⊎-elim (λ p. inr (omega arith)) (λ n. absurd n) q) h
-
-pub codes-two : (a b v : ℕ) → (v ≡ a) ⊎ (v ≡ b) → In (a to a ∷ b to b ∷ []) v
-codes-two a b v h = ⊎-elim (λ e. inl (omega arith, omega arith)) (λ e. inr (inl (omega arith, omega arith))) h
+use Rattle.histories.proofs.KeptRules.{all-alike, one-span, two-codes, page-holds}
 
 pub fine-in-range : (n : Name) → nameVerdict n ≡ Fine → InRange n
-unfolding nameVerdict
-fine-in-range n h =
+unfolding values bodyValues layout
+fine-in-range n e =
     let c = n .common in
-    let rc = fine-both _ _ h in
-    let month = fine-both _ _ (rc .1) in
-    let day = fine-both _ _ (month .1) in
-    let hour = fine-both _ _ (day .1) in
-    let minute = fine-both _ _ (hour .1) in
-    let it = fine-both _ _ (minute .1) in
-    let serial = fine-both _ _ (it .1) in
+    let holds = fine-holds n e in
+    let from-rc = holds .head .1 in
+    let from-month = from-rc .1 .1 in
+    let from-hour = from-month .1 .1 in
+    let numbers = past-text 18 57 (n .serial) (firstPage n .text) (record { serial = n .serial; number = 1; total = n .total }) refl (holds .body .1) in
     record {
-      rc = two-codes 2 7 (c .rc) (allowed-in _ _ (unless-fine _ _ (rc .0)));
-      month = in-span 1 12 (c .month) (unless-fine _ _ (month .0));
-      day = in-span 1 31 (c .day) (unless-fine _ _ (day .0));
-      hour = in-span 0 23 (c .hour) (unless-fine _ _ (hour .0)) .1;
-      minute = in-span 0 59 (c .minute) (unless-fine _ _ (minute .0)) .1;
-      it = two-codes 0 2 (c .it) (allowed-in _ _ (unless-fine _ _ (it .0)));
-      serial = in-span 1 15 (n .serial) (unless-fine _ _ (serial .0));
-      total = in-span 1 63 (n .total) (unless-fine _ _ (serial .1));
+      rc = two-codes 2 7 (c .rc) (from-rc .0);
+      month = one-span 1 12 (c .month) (from-month .0);
+      day = one-span 1 31 (c .day) (from-month .1 .0);
+      hour = one-span 0 23 (c .hour) (from-hour .0) .1;
+      minute = one-span 0 59 (c .minute) (from-hour .1 .0) .1;
+      it = two-codes 0 2 (c .it) (from-hour .1 .1 .0);
+      serial = one-span 1 15 (n .serial) (holds .body .0);
+      total = (numbers .high, numbers .most);
     }
 
 pub in-range-fine : (n : Name) → InRange n → nameVerdict n ≡ Fine
-unfolding nameVerdict
-in-range-fine n h =
-    let c = n .common in
-    both-fine _ _ (unless-true _ _ (in-allowed _ _ (codes-two 2 7 (c .rc) (h .rc))))
-    (both-fine _ _ (unless-true _ _ (span-in 1 12 (c .month) (h .month)))
-    (both-fine _ _ (unless-true _ _ (span-in 1 31 (c .day) (h .day)))
-    (both-fine _ _ (unless-true _ _ (span-in 0 23 (c .hour) (omega arith, h .hour)))
-    (both-fine _ _ (unless-true _ _ (span-in 0 59 (c .minute) (omega arith, h .minute)))
-    (both-fine _ _ (unless-true _ _ (in-allowed _ _ (codes-two 0 2 (c .it) (h .it))))
-    (both-fine _ _ (unless-true _ _ (span-in 1 15 (n .serial) (h .serial)))
-    (unless-true _ _ (span-in 1 63 (n .total) (h .total)))))))))
+in-range-fine n h = holds-fine n (page-holds 0 n 1 (replicate 16 noSlot) (replicate 18 0) h (omega arith) (h .total .0) (all-alike 0 (omega arith)))

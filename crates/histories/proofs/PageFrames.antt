@@ -7,13 +7,12 @@ use native.Mathlib.Omega.{arith}
 use native.Mathlib.Nat.{suc-ne-zero, suc-inj}
 use lib.ListN.{length, getD, replicate, getD-replicate, List·getD-eq-default}
 use Rattle.report.specs.declared.record.Body.{Body}
-use Rattle.report.specs.declared.record.Body.the-variants.{Nothing, Nankai}
-use Rattle.report.specs.declared.record.Page.{Page as Numbers}
+use Rattle.report.specs.declared.record.Body.the-variants.{Nothing}
 use Rattle.report.specs.declared.record.Slot.{Slot}
 use Rattle.report.specs.declared.record.Record.{Record}
-use Rattle.report.specs.Layout.{_to_, Row, layout, bytes, page}
+use Rattle.report.specs.Layout.{Row, layout, bytes, page}
 use Rattle.report.specs.Records.{noSlot, values, bodyValues}
-use Rattle.report.specs.Conforms.{In, Kept}
+use Rattle.report.specs.Conforms.{Kept}
 use Rattle.report.specs.Writing.{KeepsRules}
 use Rattle.report.proofs.Claims.{valid-keeps-rules, keeping-rules-is-valid}
 use Rattle.bulletin.specs.declared.name.Name.{Name}
@@ -21,79 +20,33 @@ use Rattle.bulletin.proofs.Marks.{Text}
 use Rattle.bulletin.proofs.Texts.{below?}
 use Rattle.histories.specs.Soundness.{InRange}
 use Rattle.histories.specs.Frames.{Frame, Brings}
-use Rattle.histories.proofs.NameRanges.{codes-two}
-
--- "18 bytes, any"
-pub record Bytes18 (t : Text) : Type 0 where
-  pub long : length t ≡ 18
-  pub bytes : (k : ℕ) → getD t k 0 < 256
+use Rattle.histories.proofs.KeptRules.{Bytes18, pageRecord, page-holds}
 
 -- ---- the frame of a page
 
-abbrev numbersOf : Name → ℕ → Numbers
-numbersOf n p = record { serial = n .serial; number = p; total = n .total }
-
 abbrev pub recordOf : Name → ℕ → Text → Record
-recordOf n p t = record { preamble = 0x53; reserved = 0; common = n .common; body = Nankai (numbersOf n p); slots = replicate 16 noSlot; text = t }
+recordOf n p t = pageRecord 0x53 n p (replicate 16 noSlot) t
 
 no-slots : (i : ℕ) → getD (replicate 16 noSlot) i noSlot ≡ noSlot
 no-slots i = ⊎-elim (λ h. getD-replicate 16 i noSlot noSlot h) (λ h. List·getD-eq-default (replicate 16 noSlot) noSlot h) (below? i 16)
 
--- any bytes, and behind them the page number and the total
-kept-page : (k a before : ℕ) (t : Text) (p total : ℕ) → length t ≡ k → ((j : ℕ) → getD t j 0 < 256) → 1 ≤ p → p ≤ total → total ≤ 63
-    → Kept before (bytes k a ++ page) (t ++ p ∷ total ∷ [])
-kept-page zero a before [] p total l b low high most = (inl (low, omega arith), ((high, most), tt))
-kept-page zero a before (x ∷ t) p total l b low high most = absurd (suc-ne-zero (length t) l)
-kept-page (suc k) a before [] p total l b low high most = absurd (suc-ne-zero k (sym l))
-kept-page (suc k) a before (x ∷ t) p total l b low high most =
-    (inl (omega arith, omega (arith, b 0)), kept-page k (a + 8) x t p total (suc-inj l) (λ j. b (suc j)) low high most)
-
 module _ (n : Name) (range : InRange n) (p : ℕ) (t : Text) (low : 1 ≤ p) (high : p ≤ n .total) (is : Bytes18 t) where
   keeps : KeepsRules (recordOf n p t)
-  unfolding values bodyValues layout
+  unfolding layout
   keeps = record {
     preamble = inl (omega arith, omega arith);
     category = λ e. no-nankai e;
     slots = λ i h. absurd (none h);
     others = λ i h. let e = no-slots i in (ap (λ (x : Slot). x .hour) e, (ap (λ (x : Slot). x .strength) e, (ap (λ (x : Slot). x .place) e, tt)));
     text = tt;
-    rows = record {
-      head = (
-        at-once 43,
-        (
-          codes-two 2 7 (n .common .rc) (range .rc),
-          (
-            at-once 4,
-            (
-              inl (range .month),
-              (
-                inl (range .day),
-                (
-                  inl (omega arith, range .hour),
-                  (
-                    inl (omega arith, range .minute),
-                    (codes-two 0 2 (n .common .it) (range .it), (refl, tt)),
-                  ),
-                ),
-              ),
-            ),
-          ),
-        ),
-      );
-      body = (inl (range .serial), kept-page 18 57 (n .serial) t p (n .total) (is .long) (is .bytes) low high (range .total .1));
-      slots = tt;
-      last = (refl, (at-once 1, (inl (omega arith, omega arith), tt)));
-    };
+    rows = page-holds 0x53 n p (replicate 16 noSlot) t range low high is;
   }
     where
-      no-nankai : Nankai (numbersOf n p) ≡ Nothing → ⊥
+      no-nankai : recordOf n p t .body ≡ Nothing → ⊥
       no-nankai e = let z : _≡_ {A = ℕ} 0 1 = cc in apart z
         where
           apart : _≡_ {A = ℕ} 0 1 → ⊥
           apart z = omega arith
-
-      at-once : (v : ℕ) → In (v to v ∷ []) v
-      at-once v = inl (omega arith, omega arith)
 
       none : {i : ℕ} → i < 0 → ⊥
       none h = omega arith

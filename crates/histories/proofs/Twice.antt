@@ -16,7 +16,7 @@ use Rattle.histories.specs.Reports.{none, one-more, no-more, LowestWitho
 use Rattle.histories.specs.Examples.{ofTwoPages, firstPage, cameTwice}
 use Rattle.histories.proofs.Brought.{same-page}
 use Rattle.histories.proofs.PageFrames.{frame-brings}
-use Rattle.histories.proofs.Given.{same-bytes}
+use Rattle.histories.proofs.KeptRules.{all-alike}
 use Rattle.histories.proofs.Reported.{reported, reported-once}
 use Rattle.histories.proofs.Spoken.{no-text}
 
@@ -36,7 +36,7 @@ abbrev letters : Text
 letters = replicate 18 65
 
 first-brings : Brings ofTwoPages (firstPage .came) 1 letters
-first-brings = frame-brings ofTwoPages in-range 1 letters (omega arith) (omega arith) (record { long = refl; bytes = same-bytes 18 65 (omega arith) })
+first-brings = frame-brings ofTwoPages in-range 1 letters (omega arith) (omega arith) (all-alike 65 (omega arith))
 
 only-first : (r : Record) → Among r cameTwice → r ≡ firstPage .came
 only-first r h = ⊎-elim (λ e. e) (λ k. ⊎-elim (λ e. e) (λ z. absurd z) k) h
