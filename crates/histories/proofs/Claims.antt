@@ -33,7 +33,7 @@ use Rattle.histories.proofs.Told.{told-page, page-told, same-frames}
 use Rattle.histories.proofs.Answers.{taken-brings, brings-not-refused, answers-new, answers-same, answers-disputed}
 use Rattle.histories.proofs.Merges.{merge-joins, joined-sound, commutes, associates, repeats, held-kept, after-sound, merge-after, tree-after, same-trees}
 use Rattle.histories.proofs.Given.{sound-given, after-shaped}
-use Rattle.histories.proofs.Reached.{history-after, history-sound, history-shaped, any-store}
+use Rattle.histories.proofs.Reached.{joined-shaped, history-after, history-sound, history-shaped, any-store}
 use Rattle.histories.proofs.Reported.{reported, reported-once}
 use Rattle.histories.proofs.Trimming.{trimmed-once}
 use Rattle.histories.proofs.Spoken.{whole-text, at-most, no-text, missed}
@@ -88,7 +88,7 @@ pub disputed-where-another-came : (n : Name) (frames : List Frame) (f : Frame) (
     → Came n frames p u → (u ≡ t → ⊥) → takeOf (after n frames) (f .came) .answer ≡ AnswersDisputed
 disputed-where-another-came n frames f p t u r b c d = answers-disputed n r frames f p t b u c d
 
--- Pages "come in any order and more than once": the same frames give the same store.
+-- In whatever order frames come, and however often ("one may have come twice"), the same frames give the same store.
 pub order-and-repeats-do-not-matter : (n : Name) (a b : List Frame) → InRange n → SameFrames a b → after n a ≡ after n b
 order-and-repeats-do-not-matter n a b r same = same-frames n a b r same
 
@@ -111,8 +111,8 @@ ways-of-merging-agree n a b r same = same-trees n r a b same
 pub sound-stores-are-merged : (a b : Store) → Sound a → Sound b → a .name ≡ b .name → mergeOf a b ≡ record { answer = Fine; store = joined a b }
 sound-stores-are-merged a b p q e = merge-joins a b p q e
 
-pub merging-keeps-soundness : (a b : Store) → Sound a → Sound b → ShapedStore a → ShapedStore b → a .name ≡ b .name → Sound (joined a b)
-merging-keeps-soundness a b p q x y e = joined-sound a b p q (x .long) (y .long) e
+pub merging-keeps-soundness : (a b : Store) → Sound a → Sound b → ShapedStore a → ShapedStore b → a .name ≡ b .name → Sound (joined a b) × ShapedStore (joined a b)
+merging-keeps-soundness a b p q x y e = (joined-sound a b p q (x .long) (y .long) e, joined-shaped a b p q x y e)
 
 -- "The laws of merging": it does not matter which store is the first ..
 pub merging-is-commutative : (a b : Store) → Sound a → Sound b → ShapedStore a → ShapedStore b → a .name ≡ b .name → mergeOf a b ≡ mergeOf b a

@@ -85,7 +85,7 @@ module _ (n : Name) (range : InRange n) where
   pub after-name : (fs : List Frame) → after n fs .name ≡ n
   after-name fs = after-stands n range fs .name
 
-  joined-after : (a b : List Frame) → joined (after n a) (after n b) ≡ after n (a ++ b)
+  pub joined-after : (a b : List Frame) → joined (after n a) (after n b) ≡ after n (a ++ b)
   joined-after a b =
       stands-same (joined (after n a) (after n b)) (after n (a ++ b)) n _ _
       (joined-stands (after n a) (after n b) n _ _ (after-stands n range a) (after-stands n range b))

@@ -11,14 +11,14 @@ use Rattle.bulletin.specs.declared.merge.Merging.{Merging}
 use Rattle.bulletin.specs.Names.{sameName}
 use Rattle.bulletin.specs.Stores.{soundStore, ShapedStore}
 use Rattle.bulletin.specs.Takings.{takeOf}
-use Rattle.bulletin.specs.Merges.{mergeVerdict, merging, mergeOf}
+use Rattle.bulletin.specs.Merges.{mergeVerdict, joined, merging, mergeOf}
 use Rattle.bulletin.proofs.Texts.{false-not-true}
 use Rattle.histories.specs.Soundness.{InRange, Sound}
 use Rattle.histories.specs.Frames.{Frame, takes, after}
 use Rattle.histories.specs.Histories.{History, opened, took, merged, met, refused, storeOf, framesOf}
 use Rattle.histories.proofs.Tested.{tested-sound, sound-tested}
 use Rattle.histories.proofs.Brought.{same-name, name-same}
-use Rattle.histories.proofs.Merges.{after-sound, after-name, merge-after}
+use Rattle.histories.proofs.Merges.{after-sound, after-name, joined-after, merge-after}
 use Rattle.histories.proofs.Given.{sound-given, after-shaped}
 
 takes-append : (s : Store) (a b : List Frame) → takes s (a ++ b) ≡ takes (takes s a) b
@@ -36,6 +36,14 @@ merge-refused a b none = by (mergeVerdict a b) refl
         let second = fine-both _ _ e .1 in
         let parts = fine-both _ _ second in
         absurd (none (tested-sound b (unless-fine _ _ (parts .0))) (sym (same-name (a .name) (b .name) (unless-fine _ _ (parts .1)))))
+
+-- what two sound stores of one bulletin give has the shape of a store of the code
+pub joined-shaped : (a b : Store) → Sound a → Sound b → ShapedStore a → ShapedStore b → a .name ≡ b .name → ShapedStore (joined a b)
+joined-shaped a b p q x y e =
+    let f = sound-given a p x in
+    let g = sound-given b q y in
+    let both : joined a b ≡ after (b .name) (f .0 ++ g .0) = (λ j. joined ((f .2 ∙ ap (λ (n : Name). after n (f .0)) e) j) (g .2 j)) ∙ joined-after (b .name) (q .name) (f .0) (g .0) in
+    subst ShapedStore (sym both) (after-shaped (b .name) (q .name) (f .0 ++ g .0))
 
 module _ (n : Name) (range : InRange n) where
   pub history-after : (h : History n) → storeOf h ≡ after n (framesOf h)
