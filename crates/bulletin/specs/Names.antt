@@ -12,6 +12,9 @@ use Rattle.report.specs.Records.{noSlot, values}
 use Rattle.report.specs.Verdict.{verdict}
 use Rattle.bulletin.specs.declared.name.Name.{Name}
 
+abbrev pub zeroName : Name
+zeroName = record { common = record { rc = 0; month = 0; day = 0; hour = 0; minute = 0; it = 0 }; serial = 0; total = 0 }
+
 -- page 1 of the bulletin, without text: what stands in it beside the name passes
 abbrev pub firstPage : Name → Record
 firstPage n = record {

@@ -11,7 +11,7 @@ use Rattle.bulletin.specs.declared.name.Name.{Name}
 use Rattle.bulletin.specs.declared.store.Store.{Store}
 use Rattle.bulletin.specs.declared.store.Opening.{Opening}
 use Rattle.bulletin.specs.Pages.{absentPage, noPage, soundFrom, Shaped}
-use Rattle.bulletin.specs.Names.{nameVerdict, nameInRange}
+use Rattle.bulletin.specs.Names.{zeroName, nameVerdict, nameInRange}
 
 -- "it starts with no page"
 abbrev pub noPages : Name → Store
@@ -19,7 +19,7 @@ noPages n = record { name = n; pages = replicate 63 absentPage }
 
 -- "a refused opening [gives] a store of zeros"
 abbrev pub zeroStore : Store
-zeroStore = noPages (record { common = record { rc = 0; month = 0; day = 0; hour = 0; minute = 0; it = 0 }; serial = 0; total = 0 })
+zeroStore = noPages zeroName
 
 abbrev pub opening : Verdict → Name → Opening
 opening Fine n = record { answer = Fine; store = noPages n }

@@ -1,7 +1,7 @@
 // Which bulletin a store gathers: report classification, issue time, information type, kind of
 // information and page total.
 ghost use mathlib.Core.Path.{_≡_};
-ghost use Rattle.bulletin.specs.Names.{firstPage, nameVerdict, nameInRange, sameCommon, sameName};
+ghost use Rattle.bulletin.specs.Names.{zeroName, firstPage, nameVerdict, nameInRange, sameCommon, sameName};
 use crate::store::Store;
 use report::check::check;
 use report::record::Body;
@@ -39,6 +39,24 @@ fn same_common(a: Common, b: Common) -> bool
 }
 
 impl Name {
+    // A name that no bulletin has.
+    pub fn of_zeros() -> Name
+        ensures { λ r. ⌜ r ≡ zeroName ⌝ }
+    {
+        Name {
+            common: Common {
+                rc: 0,
+                month: 0,
+                day: 0,
+                hour: 0,
+                minute: 0,
+                it: 0,
+            },
+            serial: 0,
+            total: 0,
+        }
+    }
+
     // Page 1 of the bulletin, without text.
     fn first_page(self) -> Record
         ensures { λ r. ⌜ r ≡ firstPage self ⌝ }

@@ -3,7 +3,6 @@ ghost use mathlib.Core.Path.{_≡_};
 ghost use Rattle.bulletin.specs.Stores.{noPages, zeroStore, openOf, soundStore, ShapedStore};
 use crate::name::Name;
 use crate::page::Page;
-use report::record::Common;
 use report::refusal::Verdict;
 
 pub struct Store {
@@ -34,22 +33,11 @@ impl Store {
         }
     }
 
-    fn of_zeros() -> Store
+    // What a refused opening gives. It is not sound.
+    pub fn of_zeros() -> Store
         ensures { λ r. ⌜ r ≡ zeroStore ⌝ }
     {
-        let common = Common {
-            rc: 0,
-            month: 0,
-            day: 0,
-            hour: 0,
-            minute: 0,
-            it: 0,
-        };
-        Store::without_pages(Name {
-            common: common,
-            serial: 0,
-            total: 0,
-        })
+        Store::without_pages(Name::of_zeros())
     }
 
     pub fn open(name: Name) -> Opening
