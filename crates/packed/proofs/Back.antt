@@ -78,11 +78,11 @@ not-stray r (AshFall e) rest = refl
 
 -- ---- one behind the other
 
-each-same : {A : Type 0} (n : ℕ) (f g : ℕ → A) → ((i : ℕ) → f i ≡ g i) → each n f ≡ each n g
+pub each-same : {A : Type 0} (n : ℕ) (f g : ℕ → A) → ((i : ℕ) → f i ≡ g i) → each n f ≡ each n g
 each-same zero f g h = refl
 each-same (suc n) f g h = λ j. h 0 j ∷ each-same n (λ i. f (suc i)) (λ i. g (suc i)) (λ i. h (suc i)) j
 
-byte-behind : (n : ℕ) (l : List ℕ) (j k : ℕ) → j ≡ n + k → getD l j 0 ≡ getD (drop n l) k 0
+pub byte-behind : (n : ℕ) (l : List ℕ) (j k : ℕ) → j ≡ n + k → getD l j 0 ≡ getD (drop n l) k 0
 byte-behind n l j k e = ap (λ (x : ℕ). getD l x 0) e ∙ sym (getD-drop n l k 0)
 
 place-behind : (n : ℕ) (l : List ℕ) (j k : ℕ) → j ≡ n + k → fourAt l j ≡ fourAt (drop n l) k

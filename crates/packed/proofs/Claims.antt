@@ -12,6 +12,10 @@ use Rattle.report.specs.Reading.{preambles}
 use Rattle.report.specs.Writing.{known, writeAnswer}
 use Rattle.packed.specs.Packed.{packed}
 use Rattle.packed.specs.Unpacked.{bodyFrom, stray, unpacked}
+use Rattle.packed.specs.Shelves.{storeBytes, storeFrom}
+use Rattle.bulletin.specs.declared.store.Store.{Store}
+use Rattle.packed.proofs.Pages as Pages
+use Rattle.packed.proofs.Shelved as Shelved
 use Rattle.packed.proofs.Whole as Whole
 use Rattle.packed.proofs.Back as Back
 use Rattle.packed.proofs.Refused as Refusing
@@ -32,3 +36,16 @@ packed-then-unpacked = Back.back
 pub stray-bytes-are-refused : (l : List ℕ) → stray (bodyFrom l) l ≡ true → allowed preambles (getD l 1 0) ≡ true → known (bodyFrom l) ≡ true
     → writeAnswer (unpacked l) 32 ≡ Refused Unused
 stray-bytes-are-refused = Refusing.stray-refused
+
+-- ---- page stores
+
+-- A store of 63 pages of 18 bytes has 1205 bytes.
+pub a-store-has-1205-bytes : (s : Store) → length (s .pages) ≡ 63 → Pages.Eighteen (s .pages) → length (storeBytes s) ≡ 1205
+a-store-has-1205-bytes = Pages.length-store
+
+-- Nothing is lost, either way: such a store is given back by its bytes, and any 1205 bytes by their store.
+pub store-to-bytes-and-back : (s : Store) → length (s .pages) ≡ 63 → Pages.Eighteen (s .pages) → storeFrom (storeBytes s) ≡ s
+store-to-bytes-and-back = Shelved.store-back
+
+pub bytes-to-store-and-back : (l : List ℕ) → length l ≡ 1205 → storeBytes (storeFrom l) ≡ l
+bytes-to-store-and-back = Shelved.bytes-back

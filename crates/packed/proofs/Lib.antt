@@ -6,3 +6,5 @@ pub mod Whole
 pub mod Stray
 pub mod Back
 pub mod Refused
+pub mod Pages
+pub mod Shelved

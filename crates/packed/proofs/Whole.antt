@@ -4,10 +4,11 @@ use Prim.Native.Nat.{ℕ, _+_}
 use native.Mathlib.Omega.{arith}
 use mathlib.Core.List.{List, _++_}
 use lib.ListN.{length, length-append}
+use borrow.Author.Tests.{eq-eqb, ne-eqb}
 use Rattle.report.specs.declared.record.Body.{Body}
 use Rattle.report.specs.declared.record.Body.the-variants.{Nothing, Hypocenter, Intensity, Nankai, AshFall}
 use Rattle.report.specs.declared.record.Record.{Record}
-use Rattle.packed.specs.Packed.{padded, headBytes, bodyBytes, slotsBytes, packed}
+use Rattle.packed.specs.Packed.{padded, headBytes, bodyBytes, slotsBytes, packed, packedInto}
 use Rattle.packed.specs.Writing.{Wrote}
 use Rattle.packed.proofs.Writing.{behind, _then_, whole}
 use Rattle.packed.proofs.Slots.{length-slots}
@@ -44,3 +45,13 @@ module _ (r : Record) where
   unfolding packed
   packed-in-parts n m e x y z w =
       whole (length-packed n m ∙ sym e) (behind (omega (arith, length-most n)) (behind (omega (arith, length-front)) (x then y) z) w)
+
+-- ---- by the length of the buffer
+
+pub into-right : (r : Record) (l : List ℕ) → length l ≡ 145 → packedInto r l ≡ packed r
+unfolding packedInto
+into-right r l e = rw (eq-eqb _ 145 e)
+
+pub into-wrong : (r : Record) (l : List ℕ) → (length l ≡ 145 → ⊥) → packedInto r l ≡ l
+unfolding packedInto
+into-wrong r l n = rw (ne-eqb _ 145 n)

@@ -1,3 +1,4 @@
 pub mod Packed
 pub mod Unpacked
 pub mod Writing
+pub mod Shelves

@@ -16,8 +16,10 @@
 --   31 to 126   sixteen slots of six bytes: hour, strength, place (4)
 --   127 to 144  text
 use Prim.Native.Nat.{ℕ, _-_}
+use mathlib.Core.Bool.{cond}
 use mathlib.Core.List.{List, [], _∷_, _++_}
 use lib.ListN.{length, replicate}
+use lib.Dec.{eqb}
 use Rattle.bits.specs.Layout.{decode}
 use Rattle.report.specs.declared.record.Quake.{Quake}
 use Rattle.report.specs.declared.record.Body.{Body}
@@ -84,3 +86,7 @@ slotsBytes (s ∷ ss) = slotBytes s ++ slotsBytes ss
 
 unfoldable pub packed : Record → List ℕ
 packed r = headBytes r ++ padded 22 (bodyBytes (r .body)) ++ slotsBytes (r .slots) ++ r .text
+
+-- a lent buffer of 145 bytes takes them; one of another length stays as it was
+unfoldable pub packedInto : Record → List ℕ → List ℕ
+packedInto r buffer = cond (eqb (length buffer) 145) (packed r) buffer

@@ -20,7 +20,7 @@ use Rattle.report.specs.declared.record.Body.the-variants.{Nothing, Hypocenter,
 use Rattle.report.specs.declared.record.Slot.{Slot}
 use Rattle.report.specs.declared.record.Record.{Record}
 use Rattle.report.specs.Verdict.{empty}
-use Rattle.report.specs.Records.{each}
+use Rattle.report.specs.Records.{each, zeros}
 use Rattle.packed.specs.Packed.{bodyBytes}
 
 -- ---- from the byte k on
@@ -40,6 +40,9 @@ angleAt l k = record { side = getD l k 0; degrees = getD l (k + 1) 0; minutes = 
 
 abbrev pub slotAt : List ℕ → ℕ → Slot
 slotAt l k = record { hour = getD l k 0; strength = getD l (k + 1) 0; place = fourAt l (k + 2) }
+
+abbrev pub textAt : List ℕ → ℕ → List ℕ
+textAt l k = each 18 (λ i. getD l (k + i) 0)
 
 -- ---- 3 to 8
 
@@ -95,7 +98,7 @@ marked isStray ss = cond isStray (set ss 15 misplaced) ss
 -- ---- 127 to 144
 
 abbrev pub textFrom : List ℕ → List ℕ
-textFrom l = each 18 (λ i. getD l (127 + i) 0)
+textFrom l = textAt l 127
 
 -- ---- all of them
 
@@ -111,3 +114,7 @@ unpackedAs l b = record {
 
 abbrev pub unpacked : List ℕ → Record
 unpacked l = unpackedAs l (bodyFrom l)
+
+-- bytes of another length are a record of zeros
+unfoldable pub recordFrom : List ℕ → Record
+recordFrom l = cond (eqb (length l) 145) (unpacked l) zeros

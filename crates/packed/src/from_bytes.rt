@@ -7,7 +7,9 @@ ghost use lib.ListN.{length, set, take, drop};
 ghost use Rattle.bits.specs.Frame.{number};
 ghost use Rattle.report.specs.Verdict.{empty};
 ghost use Rattle.packed.specs.Packed.{bodyBytes};
-ghost use Rattle.packed.specs.Unpacked.{twoAt, fourAt, timeAt, angleAt, slotAt, commonFrom, quakeFrom, pageFrom, eruptionFrom, bodyFrom, stray, slotsFrom, misplaced, marked, textFrom, unpacked};
+ghost use Rattle.packed.specs.Unpacked.{twoAt, fourAt, timeAt, angleAt, slotAt, commonFrom, quakeFrom, pageFrom, eruptionFrom, bodyFrom, stray, slotsFrom, misplaced, marked, recordFrom};
+use crate::text::text_at;
+use report::decode::record_of_zeros;
 use report::record::Angle;
 use report::record::Body;
 use report::record::Common;
@@ -213,21 +215,6 @@ fn with_misplaced(slots: [Slot; 16]) -> [Slot; 16]
     next
 }
 
-// ---- 127 to 144
-
-fn text_of(bytes: &[u8]) -> [u8; 18]
-    requires { ⌜ length (now bytes) ≡ 145 ⌝ }
-    ensures { λ r. ⌜ r ≡ textFrom (now (bytes .entry)) ⌝ }
-{
-    let mut text = [0u8; 18];
-    let mut k = 0;
-    while k < 18 {
-        text[k] = bytes[127 + k];
-        k += 1;
-    }
-    text
-}
-
 fn marked_slots_of(bytes: &[u8], body: Body) -> [Slot; 16]
     requires { ⌜ length (now bytes) ≡ 145 ⌝ }
     ensures { λ r. ⌜ r ≡ marked (stray body (now (bytes .entry))) (slotsFrom (now (bytes .entry))) ⌝ }
@@ -239,14 +226,16 @@ fn marked_slots_of(bytes: &[u8], body: Body) -> [Slot; 16]
     slots
 }
 
-// The record that 145 lent bytes are, whatever they are.
+// The record that 145 lent bytes are, whatever they are. Bytes of another length are a record of zeros.
 pub fn unpack(bytes: &[u8]) -> Record
-    requires { ⌜ length (now bytes) ≡ 145 ⌝ }
-    ensures { λ r. ⌜ r ≡ unpacked (now (bytes .entry)) ⌝ }
+    ensures { λ r. ⌜ r ≡ recordFrom (now (bytes .entry)) ⌝ }
 {
+    if bytes.len() != 145 {
+        return record_of_zeros();
+    }
     let body = body_of(bytes);
     let slots = marked_slots_of(bytes, body);
-    let text = text_of(bytes);
+    let text = text_at(bytes, 127);
     Record {
         preamble: bytes[1],
         reserved: bytes[2],

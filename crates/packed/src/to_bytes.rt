@@ -4,8 +4,9 @@ ghost use Prim.Native.Nat.{_+_, _≤_};
 ghost use lib.ListN.{length, replicate};
 ghost use Rattle.bits.specs.Frame.{number};
 ghost use Rattle.report.specs.Records.{timeValues, angleValues};
-ghost use Rattle.packed.specs.Packed.{wide, padded, headBytes, notificationBytes, sourceBytes, quakeBytes, bodyBytes, slotBytes, slotsBytes, packed};
+ghost use Rattle.packed.specs.Packed.{wide, padded, headBytes, notificationBytes, sourceBytes, quakeBytes, bodyBytes, slotBytes, slotsBytes, packedInto};
 ghost use Rattle.packed.specs.Writing.{Wrote};
+use crate::text::put_text;
 use report::record::Angle;
 use report::record::Body;
 use report::record::Eruption;
@@ -176,29 +177,17 @@ fn put_slots(out: &mut [u8], slots: [Slot; 16])
     }
 }
 
-// ---- 127 to 144
-
-fn put_text(out: &mut [u8], text: [u8; 18])
-    requires { ⌜ length (now out) ≡ 145 ⌝ }
-    ensures { λ _. ⌜ Wrote (now (out .entry)) (now (out .exit)) 127 text ⌝ }
-{
-    let mut k = 0;
-    while k < 18 {
-        out[127 + k] = text[k];
-        k += 1;
-    }
-}
-
-// The record, into a lent buffer of 145 bytes.
+// The record, into a lent buffer of 145 bytes. A buffer of another length stays as it was.
 pub fn pack(r: Record, out: &mut [u8])
-    requires { ⌜ length (now out) ≡ 145 ⌝ }
-    ensures { λ _. ⌜ now (out .exit) ≡ packed r ⌝ }
+    ensures { λ _. ⌜ now (out .exit) ≡ packedInto r (now (out .entry)) ⌝ }
 {
-    let body = r.body;
-    let slots = r.slots;
-    let text = r.text;
-    put_head(out, r);
-    put_body(out, body);
-    put_slots(out, slots);
-    put_text(out, text);
+    if out.len() == 145 {
+        let body = r.body;
+        let slots = r.slots;
+        let text = r.text;
+        put_head(out, r);
+        put_body(out, body);
+        put_slots(out, slots);
+        put_text(out, 127, text);
+    }
 }

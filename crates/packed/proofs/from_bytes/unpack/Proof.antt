@@ -1,8 +1,16 @@
 -- `packed::from_bytes::unpack` meets its contract. Assumes nothing.
-use Rattle.packed.specs.Unpacked.{unpackedAs}
+use borrow.Author.Tests.{eq-eqb, ne-eqb}
+use Rattle.packed.specs.Unpacked.{unpackedAs, recordFrom}
 use borrow.Author.Needs.{needs}
 use Rattle.packed.proofs.from_bytes.unpack.Statement.{statement}
 use Rattle.packed.proofs.from_bytes.unpack.Tie as tie
+
+record-of-zeros-requires : tie.Need-record-of-zeros-requires
+record-of-zeros-requires c κs = search needs
+
+returns : tie.Need-returns
+unfolding recordFrom
+returns c = simp (ne-eqb _ 145 (c .before .if1 .taken), c .record-of-zeros .ensures)
 
 body-of-requires : tie.Need-body-of-requires
 body-of-requires c κs = search needs
@@ -10,23 +18,24 @@ body-of-requires c κs = search needs
 marked-slots-of-requires : tie.Need-marked-slots-of-requires
 marked-slots-of-requires c κs = search needs
 
-text-of-requires : tie.Need-text-of-requires
-text-of-requires c κs = search needs
-
-shared-slice-read-t6 : tie.Need-shared-slice-read-t6
-shared-slice-read-t6 c = search needs
+text-at-requires : tie.Need-text-at-requires
+text-at-requires c κs = search needs
 
 shared-slice-read-t8 : tie.Need-shared-slice-read-t8
 shared-slice-read-t8 c = search needs
 
+shared-slice-read-t10 : tie.Need-shared-slice-read-t10
+shared-slice-read-t10 c = search needs
+
 common-of-requires : tie.Need-common-of-requires
 common-of-requires c κs = search needs
 
-returns : tie.Need-returns
-unfolding unpackedAs
-returns c = simp (
+returns-2 : tie.Need-returns-2
+unfolding unpackedAs recordFrom
+returns-2 c = simp (
+  eq-eqb _ 145 (c .before .before .before .before .before .before .if1 .left),
   c .common-of .ensures,
-  c .before .before .before .text-of .ensures,
+  c .before .before .before .text-at .ensures,
   c .before .before .before .before .marked-slots-of .ensures,
   c .before .before .before .before .before .body-of .ensures,
 )
@@ -35,10 +44,12 @@ pub unpack-spec : {M : Type 1} → statement M
 unpack-spec =
     tie.close
     (tie.spec
+    record-of-zeros-requires
+    returns
     body-of-requires
     marked-slots-of-requires
-    text-of-requires
-    shared-slice-read-t6
+    text-at-requires
     shared-slice-read-t8
+    shared-slice-read-t10
     common-of-requires
-    returns)
+    returns-2)

@@ -1,7 +1,7 @@
 -- `packed::to_bytes::pack` meets its contract. Assumes nothing.
 use mathlib.Core.Path.{_≡_, sym, _∙_}
 use lib.ListN.{length, length-map}
-use Rattle.packed.proofs.Whole.{packed-in-parts}
+use Rattle.packed.proofs.Whole.{packed-in-parts, into-right, into-wrong}
 use borrow.Author.Needs.{needs}
 use Rattle.packed.proofs.to_bytes.pack.Statement.{statement}
 use Rattle.packed.proofs.to_bytes.pack.Tie as tie
@@ -27,11 +27,16 @@ returns c =
     let slots = text .before .before .before .before in
     let body = slots .before .before .before .before in
     let head = body .before .before .before .before in
-    let s = head .before .before .before .before .before in
+    let t = head .before .before .before .before in
+    let s = t .before .before in
     let r = s .args .r in
     let n : length (r .slots) ≡ 16 = sym (length-map (r .slots) _) ∙ s .good .0 .1 .1 .1 .1 .1 .1 .0 .1 .0 .1 in
     let m : length (r .text) ≡ 18 = sym (length-map (r .text) _) ∙ s .good .0 .1 .1 .1 .1 .1 .1 .1 .0 .1 .0 .1 in
-    packed-in-parts r n m (s .pre) (head .put-head .ensures) (body .put-body .ensures) (slots .put-slots .ensures) (text .put-text .ensures)
+    packed-in-parts r n m (t .if1 .taken) (head .put-head .ensures) (body .put-body .ensures) (slots .put-slots .ensures) (text .put-text .ensures)
+    ∙ sym (into-right r _ (t .if1 .taken))
+
+returns-2 : tie.Need-returns-2
+returns-2 c = sym (into-wrong _ _ (c .if1 .left))
 
 pub pack-spec : {M : Type 1} → statement M
 pack-spec =
@@ -42,4 +47,5 @@ pack-spec =
     put-slots-requires
     put-text-requires
     same-length
-    returns)
+    returns
+    returns-2)

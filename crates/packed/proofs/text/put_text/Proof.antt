@@ -1,4 +1,4 @@
--- `packed::to_bytes::put_text` meets its contract: the bytes passed are the text's. Assumes nothing.
+-- `packed::text::put_text` meets its contract: the bytes passed are the text's. Assumes nothing.
 use mathlib.Core.Path.{_≡_, refl}
 use Prim.Native.Nat.{_-_, _≤_}
 use native.Mathlib.Omega.{arith}
@@ -6,20 +6,20 @@ use lib.ListN.{length, take, length-set}
 use borrow.Author.Needs.{needs}
 use Rattle.packed.specs.Writing.{Wrote}
 use Rattle.packed.proofs.Writing.{nothing, one-more, all-written}
-use Rattle.packed.proofs.to_bytes.put_text.Statement.{statement}
-use Rattle.packed.proofs.to_bytes.put_text.Tie as tie
+use Rattle.packed.proofs.text.put_text.Statement.{statement}
+use Rattle.packed.proofs.text.put_text.Tie as tie
 
 abbrev Inv-loop : tie.InvT-loop
-Inv-loop out₀ text k₀ out k = (k ≤ 18) × ((length out ≡ 145) × Wrote out₀ out 127 (take k text))
+Inv-loop out₀ at text k₀ out k = (k ≤ 18) × ((length out ≡ length out₀) × Wrote out₀ out at (take k text))
 
 abbrev μ-loop : tie.MeasureT-loop
-μ-loop out₀ text k₀ out k = 18 - k
+μ-loop out₀ at text k₀ out k = 18 - k
 
-size : (c : tie.Start Inv-loop μ-loop) → length (c .args .t2) ≡ 18
-size c = c .good .1 .0 .1 .0 .1
+size : (c : tie.Start Inv-loop μ-loop) → length (c .args .t3) ≡ 18
+size c = c .good .1 .1 .0 .1 .0 .1
 
 loop-holds : tie.Need-loop-holds Inv-loop μ-loop
-loop-holds c = (omega arith, (c .pre, nothing _ _))
+loop-holds c = (omega arith, (refl, nothing _ _))
 
 array-read-out : tie.Need-array-read-out Inv-loop μ-loop
 array-read-out c = search needs
@@ -43,7 +43,7 @@ loop-again c =
       omega arith,
       (
         simp length-set (l .inv .1 .0),
-        one-more (s .args .t2) (l .k) _ (omega (arith, size s)) refl (l .inv .1 .1),
+        one-more (s .args .t3) (l .k) _ (omega (arith, size s)) refl (l .inv .1 .1),
       ),
     )
 
@@ -54,7 +54,7 @@ returns : tie.Need-returns Inv-loop μ-loop
 returns c =
     let l = c .before .loop in
     let s = c .before .before in
-    all-written (s .args .t2) (l .k) (omega (arith, size s)) (l .inv .1 .1)
+    all-written (s .args .t3) (l .k) (omega (arith, size s)) (l .inv .1 .1)
 
 pub put-text-spec : {M : Type 1} → statement M
 put-text-spec =

@@ -1,4 +1,4 @@
--- `packed::from_bytes::text_of` meets its contract: the bytes passed are the text's. Assumes nothing.
+-- `packed::text::text_at` meets its contract: the bytes passed are the text's. Assumes nothing.
 use mathlib.Core.Path.{_≡_, refl, ap, _∙_}
 use mathlib.Core.List.{List, _++_}
 use Prim.Native.Nat.{ℕ, _+_, _-_, _≤_}
@@ -6,18 +6,18 @@ use native.Mathlib.Omega.{arith}
 use lib.ListN.{length, getD, replicate, length-set}
 use Rattle.report.specs.Records.{each}
 use Rattle.report.proofs.Filling.{fill, filled}
-use Rattle.packed.proofs.from_bytes.text_of.Statement.{statement}
-use Rattle.packed.proofs.from_bytes.text_of.Tie as tie
+use Rattle.packed.proofs.text.text_at.Statement.{statement}
+use Rattle.packed.proofs.text.text_at.Tie as tie
 
 -- byte i of the text
-abbrev byte : List ℕ → ℕ → ℕ
-byte l i = getD l (127 + i) 0
+abbrev byte : List ℕ → ℕ → ℕ → ℕ
+byte l at i = getD l (at + i) 0
 
 abbrev Inv-loop : tie.InvT-loop
-Inv-loop bytes text₀ k₀ text k = (k ≤ 18) × ((length text ≡ 18) × (text ≡ each k (byte bytes) ++ replicate (18 - k) 0))
+Inv-loop bytes at text₀ k₀ text k = (k ≤ 18) × ((length text ≡ 18) × (text ≡ each k (byte bytes at) ++ replicate (18 - k) 0))
 
 abbrev μ-loop : tie.MeasureT-loop
-μ-loop bytes text₀ k₀ text k = 18 - k
+μ-loop bytes at text₀ k₀ text k = 18 - k
 
 loop-holds : tie.Need-loop-holds Inv-loop μ-loop
 loop-holds c = (omega arith, (refl, refl))
@@ -40,20 +40,22 @@ loop-less c = omega arith
 loop-again : tie.Need-loop-again Inv-loop μ-loop
 loop-again c =
     let l = c .before .before .loop in
-    let s = c .before .before .before .args .bytes .now in (
+    let s = c .before .before .before .args .bytes .now in
+    let a = c .before .before .before .args .at in (
       omega arith,
-      (length-set (l .text) (l .k) (byte s (l .k)) ∙ l .inv .1 .0, fill 18 (l .k) (byte s) 0 (byte s (l .k)) (l .text) (omega arith) (l .inv .1 .1) refl),
+      (length-set (l .text) (l .k) (byte s a (l .k)) ∙ l .inv .1 .0, fill 18 (l .k) (byte s a) 0 (byte s a (l .k)) (l .text) (omega arith) (l .inv .1 .1) refl),
     )
 
 returns : tie.Need-returns Inv-loop μ-loop
 returns c =
     let l = c .before .loop in
     let s = c .before .before .args .bytes .now in
+    let a = c .before .before .args .at in
     let last : l .k ≡ 18 = omega arith in
-    filled 18 (byte s) 0 (l .text) (l .inv .1 .1 ∙ ap (λ (k : ℕ). each k (byte s) ++ replicate (18 - k) 0) last)
+    filled 18 (byte s a) 0 (l .text) (l .inv .1 .1 ∙ ap (λ (k : ℕ). each k (byte s a) ++ replicate (18 - k) 0) last)
 
-pub text-of-spec : {M : Type 1} → statement M
-text-of-spec =
+pub text-at-spec : {M : Type 1} → statement M
+text-at-spec =
     tie.close
     (tie.spec
     Inv-loop
