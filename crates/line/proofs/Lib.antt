@@ -1,0 +1,4 @@
+pub mod Worths
+pub mod Pairs
+pub mod LineTurns
+pub mod LineEnds

@@ -1,0 +1,74 @@
+-- The ways out of reading a line and of writing one. Assumes nothing.
+use mathlib.Core.Path.{_≡_, refl, sym, ap, _∙_}
+use mathlib.Core.Bool.{Bool, true, false, cond}
+use mathlib.Core.List.{List, _++_}
+use Prim.Native.Nat.{ℕ, _≤_, _<_}
+use native.Mathlib.Omega.{arith}
+use lib.ListN.{length, take, drop, take-append-drop}
+use lib.Seq.{take-all}
+use lib.Dec.{eqb, leb}
+use borrow.Author.Tests.{eq-eqb, ne-eqb, le-leb, lt-leb}
+use Rattle.bits.specs.Frame.{fieldOf}
+use Rattle.report.specs.declared.refusal.Verdict.{Verdict}
+use Rattle.report.specs.declared.refusal.Verdict.the-variants.{Fine, Refused}
+use Rattle.report.specs.declared.refusal.Refusal.{Refusal}
+use Rattle.report.specs.declared.refusal.Refusal.the-variants.{Length, Padding, Short, Line}
+use Rattle.report.specs.declared.record.Record.{Record}
+use Rattle.report.specs.declared.read.Reading.{Reading}
+use Rattle.report.specs.Refusals.{_then_, unless}
+use Rattle.report.specs.Records.{zeros}
+use Rattle.report.specs.Reading.{reading, readOf}
+use Rattle.report.proofs.Outcomes.{not-both}
+use Rattle.line.specs.declared.from_line.Framing.{Framing}
+use Rattle.line.specs.Lines.{isLine, frameOfLine, noLine, framing, lineReading, lineOf, lineAnswer, lineWritten, lineInto}
+use Rattle.line.proofs.Pairs.{line-length}
+
+-- ---- reading
+
+a-line : (l : List ℕ) → isLine l ≡ true → framing l ≡ record { answer = Fine; frame = frameOfLine l }
+unfolding framing
+a-line l h = rw h
+
+no-line : (l : List ℕ) → isLine l ≡ false → framing l ≡ noLine
+unfolding framing
+no-line l h = rw h
+
+pub read-on : (l : List ℕ) (f : Framing) (out : Reading) → f ≡ framing l → f .answer ≡ Fine → out ≡ readOf (f .frame) → out ≡ lineReading l
+unfolding lineReading
+read-on l f out e a q = by (isLine l) refl
+  where
+    by : (t : Bool) → isLine l ≡ t → out ≡ cond (isLine l) (readOf (frameOfLine l)) (reading (Refused Line) zeros)
+    by true h = q ∙ ap (λ (g : Framing). readOf (g .frame)) (e ∙ a-line l h) ∙ rw h
+    by false h = absurd (not-both (f .answer) Line a (ap (λ (g : Framing). g .answer) (e ∙ no-line l h)))
+
+pub read-no-more : (l : List ℕ) (f : Framing) (x : Refusal) (z : Record) → f ≡ framing l → f .answer ≡ Refused x → z ≡ zeros
+    → record { answer = f .answer; «record» = z } ≡ lineReading l
+unfolding lineReading
+read-no-more l f x z e a q = by (isLine l) refl
+  where
+    by : (t : Bool) → isLine l ≡ t → record { answer = f .answer; «record» = z } ≡ cond (isLine l) (readOf (frameOfLine l)) (reading (Refused Line) zeros)
+    by true h = absurd (not-both (f .answer) x (ap (λ (g : Framing). g .answer) (e ∙ a-line l h)) a)
+    by false h = simp (ap (λ (g : Framing). g .answer) (e ∙ no-line l h), q, h)
+
+-- ---- writing
+
+pub no-frame : (s b : List ℕ) → (length s ≡ 32 → ⊥) → (Refused Length ≡ lineAnswer s (length b)) × (b ≡ lineInto s b)
+unfolding lineAnswer unless _then_
+no-frame s b n = simp (ne-eqb (length s) 32 n) (refl, refl)
+
+pub padded : (s b : List ℕ) → length s ≡ 32 → (fieldOf s 250 6 ≡ 0 → ⊥) → (Refused Padding ≡ lineAnswer s (length b)) × (b ≡ lineInto s b)
+unfolding lineAnswer unless _then_
+padded s b n p = simp (eq-eqb (length s) 32 n, ne-eqb (fieldOf s 250 6) 0 p) (refl, refl)
+
+pub no-room : (s b : List ℕ) → length s ≡ 32 → fieldOf s 250 6 ≡ 0 → length b < 63 → (Refused Short ≡ lineAnswer s (length b)) × (b ≡ lineInto s b)
+unfolding lineAnswer unless _then_
+no-room s b n p h = simp (eq-eqb (length s) 32 n, eq-eqb (fieldOf s 250 6) 0 p, lt-leb 63 (length b) h) (refl, refl)
+
+-- all digits are there, and what stood behind them
+whole : (s b o : List ℕ) → length s ≡ 32 → take 63 o ≡ take 63 (lineOf s) → drop 63 o ≡ drop 63 b → o ≡ lineOf s ++ drop 63 b
+whole s b o n t d = sym (take-append-drop 63 o) ∙ rw (t, d, take-all 63 (lineOf s) (omega (arith, line-length s n)))
+
+pub written : (s b o : List ℕ) → length s ≡ 32 → fieldOf s 250 6 ≡ 0 → 63 ≤ length b → take 63 o ≡ take 63 (lineOf s) → drop 63 o ≡ drop 63 b
+    → (Fine ≡ lineAnswer s (length b)) × (o ≡ lineInto s b)
+unfolding lineAnswer unless _then_
+written s b o n p h t d = simp (eq-eqb (length s) 32 n, eq-eqb (fieldOf s 250 6) 0 p, le-leb 63 (length b) h) (refl, whole s b o n t d)

@@ -1,0 +1,77 @@
+-- Two digits a byte. Assumes nothing.
+use mathlib.Core.Path.{_≡_, refl, ap, _∙_}
+use mathlib.Core.Bool.{Bool, true, false, cond}
+use Prim.Native.Nat.{ℕ, zero, suc, _+_, _*_, _/_, _%_, _<_}
+use native.Mathlib.Omega.{arith}
+use mathlib.Core.List.{List, [], _∷_, map}
+use lib.ListN.{length, getD, take, length-map, List·getD-map}
+use lib.Seq.{getD-take, length-take-le}
+use lib.Dec.{eqb}
+use Rattle.line.specs.Lines.{worth, capital, paired, frameOfLine, half, halves, lineOf}
+
+even : (i : ℕ) → 2 * suc i ≡ suc (suc (2 * i))
+even i = omega arith
+
+odd : (i : ℕ) → 2 * suc i + 1 ≡ suc (suc (2 * i + 1))
+odd i = omega arith
+
+pub paired-at : (ds : List ℕ) (i : ℕ) → getD (paired ds) i 0 ≡ getD ds (2 * i) 0 * 16 + getD ds (2 * i + 1) 0
+unfolding paired
+paired-at [] i = omega arith
+paired-at (a ∷ []) zero = omega arith
+paired-at (a ∷ []) (suc i) = rw (odd i, even i)
+paired-at (a ∷ b ∷ ds) zero = refl
+paired-at (a ∷ b ∷ ds) (suc i) = rw (odd i, even i) (paired-at ds i)
+
+pub length-paired : (ds : List ℕ) → length (paired ds) ≡ (length ds + 1) / 2
+unfolding paired
+length-paired [] = refl
+length-paired (a ∷ []) = refl
+length-paired (a ∷ b ∷ ds) = omega (arith, length-paired ds)
+
+-- byte i of a line's frame; behind the line stands nothing, which is worth nothing
+pub byte-at : (l : List ℕ) (i : ℕ) → getD (frameOfLine l) i 0 ≡ worth (getD l (2 * i) 0) * 16 + worth (getD l (2 * i + 1) 0)
+unfolding frameOfLine
+byte-at l i = rw (paired-at, List·getD-map worth l (2 * i) 0, List·getD-map worth l (2 * i + 1) 0)
+
+pub frame-length : (l : List ℕ) → length l ≡ 63 → length (frameOfLine l) ≡ 32
+unfolding frameOfLine
+frame-length l e = rw (length-paired, length-map, e)
+
+-- ---- and back
+
+next-half : (k b : ℕ) → half (suc (suc k)) b ≡ half k b
+next-half k b = let e : suc (suc k) % 2 ≡ k % 2 = omega arith in rw e
+
+pub halves-at : (s : List ℕ) (k : ℕ) → getD (halves s) k 0 ≡ half k (getD s (k / 2) 0)
+unfolding halves
+halves-at [] k = none (eqb (k % 2) 0)
+  where
+    none : (t : Bool) → 0 ≡ cond t (0 / 16) (0 % 16)
+    none true = refl
+    none false = refl
+halves-at (b ∷ s) zero = refl
+halves-at (b ∷ s) (suc zero) = refl
+halves-at (b ∷ s) (suc (suc k)) = let e : suc (suc k) / 2 ≡ suc (k / 2) = omega arith in rw (e, next-half) (halves-at s k)
+
+pub length-halves : (s : List ℕ) → length (halves s) ≡ 2 * length s
+unfolding halves
+length-halves [] = refl
+length-halves (b ∷ s) = omega (arith, length-halves s)
+
+map-at : (f : ℕ → ℕ) (l : List ℕ) (k d e : ℕ) → k < length l → getD (map f l) k d ≡ f (getD l k e)
+map-at f [] k d e h = absurd (omega arith)
+map-at f (x ∷ l) zero d e h = refl
+map-at f (x ∷ l) (suc k) d e h = map-at f l k d e (omega arith)
+
+module _ (s : List ℕ) (n : length s ≡ 32) where
+  digits-length : length (take 63 (halves s)) ≡ 63
+  digits-length = length-take-le 63 (halves s) (omega (arith, length-halves s))
+
+  pub line-length : length (lineOf s) ≡ 63
+  unfolding lineOf
+  line-length = length-map (take 63 (halves s)) capital ∙ digits-length
+
+  pub digit-at : (k : ℕ) → k < 63 → getD (lineOf s) k 0 ≡ capital (half k (getD s (k / 2) 0))
+  unfolding lineOf
+  digit-at k h = map-at capital (take 63 (halves s)) k 0 0 (omega (arith, digits-length)) ∙ ap capital (getD-take 63 (halves s) k 0 h ∙ halves-at s k)

@@ -1,0 +1,91 @@
+-- A frame as text (document 01, "The frame on the wire"): "As text it is 63 hexadecimal digits, one frame a line; the last two
+-- bits of the last digit are padding." 63 digits are 252 bits: the last four bits of the 32 bytes have no digit.
+use Prim.Native.Nat.{ℕ, _+_, _-_, _*_, _/_, _%_}
+use mathlib.Core.Bool.{Bool, true, _&&_, cond}
+use mathlib.Core.List.{List, [], _∷_, _++_, map}
+use lib.ListN.{length, take, drop, replicate}
+use lib.Dec.{eqb, ltb, leb}
+use Rattle.bits.specs.Frame.{fieldOf}
+use Rattle.report.specs.declared.refusal.Verdict.{Verdict}
+use Rattle.report.specs.declared.refusal.Verdict.the-variants.{Fine, Refused}
+use Rattle.report.specs.declared.refusal.Refusal.the-variants.{Length, Padding, Short, Line}
+use Rattle.report.specs.declared.read.Reading.{Reading}
+use Rattle.report.specs.Refusals.{_then_, unless}
+use Rattle.report.specs.Layout.{Span, _to_}
+use Rattle.report.specs.Verdict.{allowed}
+use Rattle.report.specs.Records.{zeros}
+use Rattle.report.specs.Reading.{reading, readOf}
+use Rattle.line.specs.declared.from_line.Framing.{Framing}
+
+-- ---- one digit
+
+-- "hexadecimal digits, either case": 0 to 9, A to F, a to f
+abbrev pub digits : List Span
+digits = 0x30 to 0x39 ∷ 0x41 to 0x46 ∷ 0x61 to 0x66 ∷ []
+
+-- the number that a digit stands for
+abbrev pub worth : ℕ → ℕ
+worth b = cond (ltb b 0x3A) (b - 0x30) (cond (ltb b 0x47) (b - 0x37) (b - 0x57))
+
+-- the digit of a number below 16, a capital letter from ten on
+abbrev pub capital : ℕ → ℕ
+capital n = cond (ltb n 10) (0x30 + n) (0x37 + n)
+
+-- ---- from a line to a frame
+
+unfoldable pub allDigits : List ℕ → Bool
+allDigits [] = true
+allDigits (b ∷ l) = allowed digits b && allDigits l
+
+-- "17: line not of 63 hexadecimal digits, either case"
+unfoldable pub isLine : List ℕ → Bool
+isLine l = eqb (length l) 63 && allDigits l
+
+-- two numbers below 16 a byte, the first in the byte's high half; where the last one stands alone the low half is zero
+unfoldable pub paired : List ℕ → List ℕ
+paired [] = []
+paired (a ∷ []) = a * 16 ∷ []
+paired (a ∷ b ∷ r) = (a * 16 + b) ∷ paired r
+
+unfoldable pub frameOfLine : List ℕ → List ℕ
+frameOfLine l = paired (map worth l)
+
+abbrev pub noLine : Framing
+noLine = record { answer = Refused Line; frame = replicate 32 0 }
+
+-- the frame of a line, or 17 and zeros
+unfoldable pub framing : List ℕ → Framing
+framing l = cond (isLine l) (record { answer = Fine; frame = frameOfLine l }) noLine
+
+-- "A line: 17, then as its frame."
+unfoldable pub lineReading : List ℕ → Reading
+lineReading l = cond (isLine l) (readOf (frameOfLine l)) (reading (Refused Line) zeros)
+
+-- ---- from a frame to a line
+
+-- digit k of a line, from the byte that has it
+abbrev pub half : ℕ → ℕ → ℕ
+half k b = cond (eqb (k % 2) 0) (b / 16) (b % 16)
+
+-- the two halves of each byte
+unfoldable pub halves : List ℕ → List ℕ
+halves [] = []
+halves (b ∷ s) = b / 16 ∷ b % 16 ∷ halves s
+
+unfoldable pub lineOf : List ℕ → List ℕ
+lineOf s = map capital (take 63 (halves s))
+
+-- what writing a line answers: 1, 2, then 16
+unfoldable pub lineAnswer : List ℕ → ℕ → Verdict
+lineAnswer s room =
+    unless (eqb (length s) 32) Length
+    then unless (eqb (fieldOf s 250 6) 0) Padding
+    then unless (leb 63 room) Short
+
+-- a refused writing leaves the buffer as it was, any other leaves the bytes behind the line
+abbrev pub lineWritten : Verdict → List ℕ → List ℕ → List ℕ
+lineWritten Fine s buffer = lineOf s ++ drop 63 buffer
+lineWritten (Refused x) s buffer = buffer
+
+abbrev pub lineInto : List ℕ → List ℕ → List ℕ
+lineInto s buffer = lineWritten (lineAnswer s (length buffer)) s buffer

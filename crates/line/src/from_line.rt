@@ -1,0 +1,72 @@
+// From a line to a frame, and to what the frame says.
+ghost use mathlib.Core.Path.{_≡_};
+ghost use Rattle.line.specs.Lines.{noLine, framing, lineReading};
+use crate::digits::DIGITS;
+use report::decode::record_of_zeros;
+use report::read::Reading;
+use report::refusal::Refusal;
+use report::refusal::Verdict;
+
+// The frame of a line, or 17: then the frame is that of zeros.
+pub struct Framing {
+    pub answer: Verdict,
+    pub frame: [u8; 32],
+}
+
+fn no_line() -> Framing
+    ensures { λ r. ⌜ r ≡ noLine ⌝ }
+{
+    Framing {
+        answer: Verdict::Refused(Refusal::Line),
+        frame: [0u8; 32],
+    }
+}
+
+// The frame of a line, whatever it holds. Each byte is looked at once.
+pub fn frame_of_line(line: &[u8]) -> Framing
+    ensures { λ r. ⌜ r ≡ framing (now (line .entry)) ⌝ }
+{
+    if line.len() != 63 {
+        return no_line();
+    }
+    let digits = DIGITS;
+    let mut frame = [0u8; 32];
+    let mut i = 0;
+    while i < 31 {
+        let high = digits[line[2 * i] as usize];
+        let low = digits[line[2 * i + 1] as usize];
+        if high > 15 {
+            return no_line();
+        }
+        if low > 15 {
+            return no_line();
+        }
+        frame[i] = high * 16 + low;
+        i += 1;
+    }
+    let last = digits[line[62] as usize];
+    if last > 15 {
+        return no_line();
+    }
+    frame[31] = last * 16;
+    Framing {
+        answer: Verdict::Fine,
+        frame,
+    }
+}
+
+// What a line says, whatever it holds.
+pub fn read_line(line: &[u8]) -> Reading
+    ensures { λ r. ⌜ r ≡ lineReading (now (line .entry)) ⌝ }
+{
+    let framing = frame_of_line(line);
+    let answer = framing.answer;
+    let frame = framing.frame;
+    match answer {
+        Verdict::Fine => report::read::read(&frame),
+        Verdict::Refused(_) => Reading {
+            answer,
+            record: record_of_zeros(),
+        },
+    }
+}
