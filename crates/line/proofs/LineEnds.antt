@@ -6,10 +6,8 @@ use Prim.Native.Nat.{ℕ, _≤_, _<_}
 use native.Mathlib.Omega.{arith}
 use lib.ListN.{length, take, drop, take-append-drop}
 use lib.Seq.{take-all}
-use lib.Dec.{eqb, leb}
 use borrow.Author.Tests.{eq-eqb, ne-eqb, le-leb, lt-leb}
 use Rattle.bits.specs.Frame.{fieldOf}
-use Rattle.report.specs.declared.refusal.Verdict.{Verdict}
 use Rattle.report.specs.declared.refusal.Verdict.the-variants.{Fine, Refused}
 use Rattle.report.specs.declared.refusal.Refusal.{Refusal}
 use Rattle.report.specs.declared.refusal.Refusal.the-variants.{Length, Padding, Short, Line}
@@ -20,7 +18,7 @@ use Rattle.report.specs.Records.{zeros}
 use Rattle.report.specs.Reading.{reading, readOf}
 use Rattle.report.proofs.Outcomes.{not-both}
 use Rattle.line.specs.declared.from_line.Framing.{Framing}
-use Rattle.line.specs.Lines.{isLine, frameOfLine, noLine, framing, lineReading, lineOf, lineAnswer, lineWritten, lineInto}
+use Rattle.line.specs.Lines.{isLine, frameOfLine, noLine, framing, lineReading, lineOf, lineAnswer, lineInto}
 use Rattle.line.proofs.Pairs.{line-length}
 
 -- ---- reading

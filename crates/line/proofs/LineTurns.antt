@@ -1,8 +1,8 @@
 -- The loop over a line's digits: one digit, one turn, and the ways out. Assumes nothing.
-use mathlib.Core.Path.{_≡_, refl, sym, ap, _∙_}
-use mathlib.Core.Bool.{Bool, true, false, cond, _&&_}
-use mathlib.Core.List.{List, [], _∷_}
-use Prim.Native.Nat.{ℕ, zero, suc, _+_, _*_, _≤_, _<_}
+use mathlib.Core.Path.{_≡_, sym, ap, _∙_}
+use mathlib.Core.Bool.{true, false}
+use mathlib.Core.List.{List}
+use Prim.Native.Nat.{ℕ, _+_, _*_, _≤_, _<_}
 use native.Mathlib.Omega.{arith}
 use native.Mathlib.Numerals.{add-one}
 use lib.ListN.{length, getD, drop, take, set, length-set, drop-of-length-le, List·getD-eq-default}
@@ -11,9 +11,8 @@ use borrow.Author.Tests.{eq-eqb, ne-eqb}
 use Rattle.bits.proofs.Turns.{copy-more, copied}
 use Rattle.report.specs.Verdict.{allowed}
 use Rattle.report.specs.declared.refusal.Verdict.the-variants.{Fine}
-use Rattle.line.specs.declared.from_line.Framing.{Framing}
 use Rattle.line.specs.Lines.{digits, worth, allDigits, isLine, frameOfLine, noLine, framing}
-use Rattle.line.proofs.Worths.{marks, no-digit, a-digit}
+use Rattle.line.proofs.Worths.{marks, a-digit}
 use Rattle.line.proofs.Pairs.{byte-at, frame-length}
 
 -- ---- one digit

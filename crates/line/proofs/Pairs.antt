@@ -12,7 +12,7 @@ use Rattle.line.specs.Lines.{worth, capital, paired, frameOfLine, half, 
 even : (i : ℕ) → 2 * suc i ≡ suc (suc (2 * i))
 even i = omega arith
 
-odd : (i : ℕ) → 2 * suc i + 1 ≡ suc (suc (2 * i + 1))
+pub odd : (i : ℕ) → 2 * suc i + 1 ≡ suc (suc (2 * i + 1))
 odd i = omega arith
 
 pub paired-at : (ds : List ℕ) (i : ℕ) → getD (paired ds) i 0 ≡ getD ds (2 * i) 0 * 16 + getD ds (2 * i + 1) 0

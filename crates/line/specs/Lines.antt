@@ -31,6 +31,13 @@ worth b = cond (ltb b 0x3A) (b - 0x30) (cond (ltb b 0x47) (b - 0x37) (b - 0x57))
 abbrev pub capital : ℕ → ℕ
 capital n = cond (ltb n 10) (0x30 + n) (0x37 + n)
 
+-- the same digit as a capital
+abbrev pub upper : ℕ → ℕ
+upper b = cond (allowed (0x61 to 0x66 ∷ []) b) (b - 0x20) b
+
+abbrev pub capitals : List ℕ → List ℕ
+capitals = map upper
+
 -- ---- from a line to a frame
 
 unfoldable pub allDigits : List ℕ → Bool
