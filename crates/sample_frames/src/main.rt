@@ -1,5 +1,6 @@
-// Writes reports of document 004, the first delivery's, as lines of 63 digits. What an independent
-// program makes of the same values is this program's `stdout`.
+// The sample reports of document 004 in the four categories, of both deliveries, as lines. What an
+// independent program makes of the same values is this program's `stdout`.
+ghost use Prim.Native.Nat.{_≤_};
 use libc::STDOUT_FILENO;
 use report::record::Angle;
 use report::record::Body;
@@ -11,38 +12,60 @@ use report::record::Record;
 use report::record::Slot;
 use report::record::Time;
 
-fn digit(number: u8) -> u8 {
-    let value = number % 16;
-    if value < 10 { 48 + value } else { 55 + value }
-}
+// Tables 2-4-2 and 2-5-1: Aso city, Takamori town and Minamiaso village in Kumamoto.
+const ASO: u32 = 4321400;
 
-// The half of a byte that digit k of a frame is: the upper half first.
-fn half(byte: u8, k: usize) -> u8 {
-    if k % 2 == 0 { byte / 16 } else { byte }
-}
+const TAKAMORI: u32 = 4342800;
 
-// The 64th digit of a frame is padding and is not sent.
+const MINAMIASO: u32 = 4343300;
+
+// Table 2-3-1: the text of the Nankai bulletin in UTF-8, one page of 18 bytes a line, the last one
+// filled up with zeros.
+const TEXT: [u8; 486] = *b"\
+    \xE5\x8D\x97\xE6\xB5\xB7\xE3\x83\x88\xE3\x83\xA9\xE3\x83\x95\xE6\xB2\xBF\
+    \xE3\x81\x84\xE3\x81\xAE\xE3\x83\x97\xE3\x83\xAC\xE3\x83\xBC\xE3\x83\x88\
+    \xE5\xA2\x83\xE7\x95\x8C\xE3\x81\xA7\xE9\x80\x9A\xE5\xB8\xB8\xE3\x81\xA8\
+    \xE3\x81\xAF\xE7\x95\xB0\xE3\x81\xAA\xE3\x82\x8B\xE3\x82\x86\xE3\x81\xA3\
+    \xE3\x81\x8F\xE3\x82\x8A\xE3\x81\x99\xE3\x81\xB9\xE3\x82\x8A\xE3\x81\x8C\
+    \xE7\x99\xBA\xE7\x94\x9F\xE3\x81\x97\xE3\x81\xA6\xE3\x81\x84\xE3\x82\x8B\
+    \xE3\x81\x93\xE3\x81\xA8\xE3\x81\x8C\xE6\x8E\xA8\xE5\xAE\x9A\xE3\x81\x95\
+    \xE3\x82\x8C\xE3\x81\xBE\xE3\x81\x99\xE3\x80\x82\xE3\x81\x93\xE3\x81\xAE\
+    \xE9\x80\x9A\xE5\xB8\xB8\xE3\x81\xA8\xE3\x81\xAF\xE7\x95\xB0\xE3\x81\xAA\
+    \xE3\x82\x8B\xE3\x82\x86\xE3\x81\xA3\xE3\x81\x8F\xE3\x82\x8A\xE3\x81\x99\
+    \xE3\x81\xB9\xE3\x82\x8A\xE3\x81\xAE\xE7\x99\xBA\xE7\x94\x9F\xE3\x81\xAB\
+    \xE3\x82\x88\xE3\x82\x8A\xE3\x80\x81\xE5\x8D\x97\xE6\xB5\xB7\xE3\x83\x88\
+    \xE3\x83\xA9\xE3\x83\x95\xE5\x9C\xB0\xE9\x9C\x87\xE3\x81\xAE\xE6\x83\xB3\
+    \xE5\xAE\x9A\xE9\x9C\x87\xE6\xBA\x90\xE5\x9F\x9F\xE3\x81\xA7\xE3\x81\xAF\
+    \xE3\x80\x81\xE5\xA4\xA7\xE8\xA6\x8F\xE6\xA8\xA1\xE5\x9C\xB0\xE9\x9C\x87\
+    \xE3\x81\xAE\xE7\x99\xBA\xE7\x94\x9F\xE5\x8F\xAF\xE8\x83\xBD\xE6\x80\xA7\
+    \xE3\x81\x8C\xE5\xB9\xB3\xE5\xB8\xB8\xE6\x99\x82\xE3\x81\xAB\xE6\xAF\x94\
+    \xE3\x81\xB9\xE3\x81\xA6\xE7\x9B\xB8\xE5\xAF\xBE\xE7\x9A\x84\xE3\x81\xAB\
+    \xE9\xAB\x98\xE3\x81\xBE\xE3\x81\xA3\xE3\x81\xA6\xE3\x81\x84\xE3\x82\x8B\
+    \xE3\x81\xA8\xE8\x80\x83\xE3\x81\x88\xE3\x82\x89\xE3\x82\x8C\xE3\x81\xBE\
+    \xE3\x81\x99\xE3\x80\x82\xE4\xBB\x8A\xE5\xBE\x8C\xE3\x81\xAE\xE6\x94\xBF\
+    \xE5\xBA\x9C\xE3\x82\x84\xE8\x87\xAA\xE6\xB2\xBB\xE4\xBD\x93\xE3\x81\xAA\
+    \xE3\x81\xA9\xE3\x81\x8B\xE3\x82\x89\xE3\x81\xAE\xE5\x91\xBC\xE3\x81\xB3\
+    \xE3\x81\x8B\xE3\x81\x91\xE7\xAD\x89\xE3\x81\xAB\xE5\xBF\x9C\xE3\x81\x98\
+    \xE3\x81\x9F\xE9\x98\xB2\xE7\x81\xBD\xE5\xAF\xBE\xE5\xBF\x9C\xE3\x82\x92\
+    \xE3\x81\xA8\xE3\x81\xA3\xE3\x81\xA6\xE3\x81\x8F\xE3\x81\xA0\xE3\x81\x95\
+    \xE3\x81\x84\xE3\x80\x82\x00\x00\x00\x00\x00\x00\x00\x00\x00\x00\x00\x00";
+
 fn show(r: Record) {
     let mut frame = [0u8; 32];
     report::write::write(r, &mut frame);
     let mut line = [10u8; 64];
-    let mut k: usize = 0;
-    while k < 63 {
-        let byte = frame[k / 2];
-        line[k] = digit(half(byte, k));
-        k += 1;
-    }
+    line::write_line(&frame, &mut line);
     io::write_all(STDOUT_FILENO, &line);
 }
 
-// A training report of 11 March.
-fn issued(hour: u8, minute: u8, body: Body, slots: [Slot; 16], text: [u8; 18]) -> Record {
+// A training report of March.
+fn issued(at: Time, body: Body, slots: [Slot; 16], text: [u8; 18]) -> Record {
     let common = Common {
         rc: 7,
         month: 3,
-        day: 11,
-        hour: hour,
-        minute: minute,
+        day: at.day,
+        hour: at.hour,
+        minute: at.minute,
         it: 0,
     };
     Record {
@@ -55,14 +78,6 @@ fn issued(hour: u8, minute: u8, body: Body, slots: [Slot; 16], text: [u8; 18]) -
     }
 }
 
-fn at(hour: u8, minute: u8) -> Time {
-    Time {
-        day: 11,
-        hour: hour,
-        minute: minute,
-    }
-}
-
 fn slot(hour: u8, strength: u8, place: u32) -> Slot {
     Slot {
         hour: hour,
@@ -71,13 +86,18 @@ fn slot(hour: u8, strength: u8, place: u32) -> Slot {
     }
 }
 
-// Table 2-1-2: off Hyuganada, 40 km deep, 6.4.
-fn hypocenter() -> Record {
+fn no_slots() -> [Slot; 16] {
+    [slot(0, 0, 0); 16]
+}
+
+// Table 2-1-2: off Hyuganada, 40 km deep, 6.4. As in every table, the time of the event is that of
+// the issue.
+fn hypocenter(at: Time) -> Record {
     let quake = Quake {
         notification1: 226,
         notification2: 0,
         notification3: 0,
-        time: at(4, 5),
+        time: at,
         depth: 40,
         magnitude: 64,
         epicenter: 791,
@@ -94,18 +114,12 @@ fn hypocenter() -> Record {
             seconds: 0,
         },
     };
-    issued(
-        4,
-        5,
-        Body::Hypocenter(quake),
-        [slot(0, 0, 0); 16],
-        [0u8; 18],
-    )
+    issued(at, Body::Hypocenter(quake), no_slots(), [0u8; 18])
 }
 
 // Table 2-1-3: nine prefectures of the west.
-fn intensity() -> Record {
-    let mut slots = [slot(0, 0, 0); 16];
+fn intensity(at: Time) -> Record {
+    let mut slots = no_slots();
     slots[0] = slot(0, 4, 44);
     slots[1] = slot(0, 4, 45);
     slots[2] = slot(0, 3, 39);
@@ -115,44 +129,125 @@ fn intensity() -> Record {
     slots[6] = slot(0, 2, 40);
     slots[7] = slot(0, 2, 41);
     slots[8] = slot(0, 2, 46);
-    issued(4, 5, Body::Intensity(at(4, 5)), slots, [0u8; 18])
+    issued(at, Body::Intensity(at), slots, [0u8; 18])
 }
 
-// Table 2-3-1: a page of the Nankai bulletin.
-fn page(number: u8, text: [u8; 18]) -> Record {
-    let page = Page {
-        serial: 5,
-        number: number,
-        total: 27,
-    };
-    issued(4, 35, Body::Nankai(page), [slot(0, 0, 0); 16], text)
+fn page_text(number: u8) -> [u8; 18]
+    requires { ⌜ (1 ≤ number) × (number ≤ 27) ⌝ }
+{
+    let all = TEXT;
+    let first = 18 * (number as usize - 1);
+    let mut text = [0u8; 18];
+    let mut k = 0;
+    while k < 18 {
+        text[k] = all[first + k];
+        k += 1;
+    }
+    text
 }
 
-// Table 2-5-1: the first of five detailed reports; Aso stands in it twice.
-fn ash_fall() -> Record {
-    let mut slots = [slot(0, 0, 0); 16];
-    slots[0] = slot(1, 2, 4321400);
-    slots[1] = slot(1, 2, 4342800);
-    slots[2] = slot(1, 1, 4343300);
-    slots[3] = slot(2, 1, 4321400);
-    let eruption = Eruption {
-        time: at(5, 20),
-        warning: 2,
+// Table 2-3-1: the pages of the bulletin.
+fn show_pages(at: Time) {
+    let mut number = 1;
+    while number <= 27 {
+        let page = Page {
+            serial: 5,
+            number: number,
+            total: 27,
+        };
+        show(issued(at, Body::Nankai(page), no_slots(), page_text(number)));
+        number += 1;
+    }
+}
+
+// Mount Aso.
+fn aso(at: Time, warning: u8) -> Eruption {
+    Eruption {
+        time: at,
+        warning: warning,
         volcano: 503,
-    };
-    issued(5, 20, Body::AshFall(eruption), slots, [0u8; 18])
+    }
 }
 
+fn show_ash(eruption: Eruption, a: Slot, b: Slot, c: Slot, d: Slot) {
+    let mut slots = no_slots();
+    slots[0] = a;
+    slots[1] = b;
+    slots[2] = c;
+    slots[3] = d;
+    let at = eruption.time;
+    show(issued(at, Body::AshFall(eruption), slots, [0u8; 18]));
+}
+
+// Table 2-4-2: the preliminary report.
+fn show_preliminary(at: Time) {
+    show_ash(
+        aso(at, 1),
+        slot(1, 1, ASO),
+        slot(1, 1, TAKAMORI),
+        slot(1, 1, MINAMIASO),
+        slot(0, 0, 0),
+    );
+}
+
+// Table 2-5-1: eighteen places in five reports; a place may stand in one twice.
+fn show_detailed(at: Time) {
+    let eruption = aso(at, 2);
+    show_ash(
+        eruption,
+        slot(1, 2, ASO),
+        slot(1, 2, TAKAMORI),
+        slot(1, 1, MINAMIASO),
+        slot(2, 1, ASO),
+    );
+    show_ash(
+        eruption,
+        slot(2, 1, TAKAMORI),
+        slot(2, 1, MINAMIASO),
+        slot(3, 1, ASO),
+        slot(3, 1, TAKAMORI),
+    );
+    show_ash(
+        eruption,
+        slot(3, 1, MINAMIASO),
+        slot(4, 1, ASO),
+        slot(4, 1, TAKAMORI),
+        slot(4, 1, MINAMIASO),
+    );
+    show_ash(
+        eruption,
+        slot(5, 1, ASO),
+        slot(5, 1, TAKAMORI),
+        slot(5, 1, MINAMIASO),
+        slot(6, 1, ASO),
+    );
+    show_ash(
+        eruption,
+        slot(6, 1, TAKAMORI),
+        slot(6, 1, MINAMIASO),
+        slot(0, 0, 0),
+        slot(0, 0, 0),
+    );
+}
+
+fn at(day: u8, hour: u8, minute: u8) -> Time {
+    Time {
+        day: day,
+        hour: hour,
+        minute: minute,
+    }
+}
+
+// The first delivery is on the 11th from 4:00 on, the second on the 27th from 1:00 on.
 fn main() {
-    show(hypocenter());
-    show(intensity());
-    show(page(
-        1,
-        *b"\xE5\x8D\x97\xE6\xB5\xB7\xE3\x83\x88\xE3\x83\xA9\xE3\x83\x95\xE6\xB2\xBF",
-    ));
-    show(page(
-        27,
-        *b"\xE3\x81\x84\xE3\x80\x82\x00\x00\x00\x00\x00\x00\x00\x00\x00\x00\x00\x00",
-    ));
-    show(ash_fall());
+    show(hypocenter(at(11, 4, 5)));
+    show(hypocenter(at(27, 1, 5)));
+    show(intensity(at(11, 4, 5)));
+    show(intensity(at(27, 1, 5)));
+    show_pages(at(11, 4, 35));
+    show_pages(at(27, 1, 35));
+    show_preliminary(at(11, 5, 10));
+    show_preliminary(at(27, 2, 10));
+    show_detailed(at(11, 5, 20));
+    show_detailed(at(27, 2, 20));
 }
