@@ -1,4 +1,4 @@
--- One turn of the loops over the pages of a store, as laws of lists. Assumes nothing.
+-- What makes a page sound, and one turn of the loops over the pages of a store, as laws of lists. Assumes nothing.
 use mathlib.Core.Path.{_≡_, refl, ap, sym, _∙_}
 use mathlib.Core.Bool.{Bool, true, false, cond}
 use mathlib.Core.List.{List, [], _∷_}
@@ -8,9 +8,36 @@ use native.Mathlib.Numerals.{add-one}
 use lib.ListN.{length, getD, drop, drop-of-length-le}
 use lib.Seq.{drop-cons}
 use Rattle.bulletin.specs.declared.page.Page.{Page}
-use borrow.Author.Tests.{eq-eqb, ne-eqb, lt-ltb, le-ltb}
-use Rattle.bulletin.specs.Pages.{noPage, soundAt, soundFrom}
+use lib.Dec.{eqb}
+use borrow.Author.Tests.{eq-eqb, ne-eqb, eqb-true, eqb-false, lt-ltb, le-ltb}
+use Rattle.bulletin.specs.Pages.{sameBytes, zeros, noPage, soundPage, soundAt, soundFrom}
 use Rattle.bulletin.specs.Counts.{marked, lowest}
+
+-- ---- one page
+
+pub no-state : (p : Page) → 2 < p .mark → soundPage p ≡ false
+unfolding soundPage
+no-state p h =
+    simp (ne-eqb (p .mark) 1 (λ e. omega arith), ne-eqb (p .mark) 0 (λ e. omega arith), ne-eqb (p .mark) 2 (λ e. omega arith))
+
+-- absent or disputed
+is-absent : (p : Page) → p .mark ≡ 0 → soundPage p ≡ sameBytes (p .text) zeros
+unfolding soundPage
+is-absent p e = simp e
+
+is-disputed : (p : Page) → p .mark ≡ 2 → soundPage p ≡ sameBytes (p .text) zeros
+unfolding soundPage
+is-disputed p e = simp e
+
+pub without-bytes : (p : Page) → p .mark ≤ 2 → (p .mark ≡ 1 → ⊥) → soundPage p ≡ sameBytes (p .text) zeros
+without-bytes p h n = go (eqb (p .mark) 0) refl
+  where
+    go : (b : Bool) → eqb (p .mark) 0 ≡ b → soundPage p ≡ sameBytes (p .text) zeros
+    go true e = is-absent p (eqb-true (p .mark) 0 e)
+    go false e = is-disputed p (two (p .mark) h n (eqb-false (p .mark) 0 e))
+      where
+        two : (k : ℕ) → k ≤ 2 → (k ≡ 1 → ⊥) → (k ≡ 0 → ⊥) → k ≡ 2
+        two k h n z = omega arith
 
 pub sound-more : (t : ℕ) (l : List Page) (i : ℕ) → i < length l → soundAt t i (getD l i noPage) ≡ true → soundFrom t i (drop i l) ≡ soundFrom t (i + 1) (drop (i + 1) l)
 unfolding soundFrom

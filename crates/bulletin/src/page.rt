@@ -83,15 +83,12 @@ impl Page {
         if self.mark == 1 {
             return true;
         }
+        if self.mark > 2 {
+            return false;
+        }
         let text = self.text;
         let none = [0u8; Store::BYTES];
-        if self.mark == 0 {
-            return same_bytes(text, none);
-        }
-        if self.mark == 2 {
-            return same_bytes(text, none);
-        }
-        false
+        same_bytes(text, none)
     }
 
     // The same of the page behind i others, which is absent past the total.

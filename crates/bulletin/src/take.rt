@@ -117,7 +117,8 @@ impl Store {
     {
         let i = (number - 1) as usize;
         let before = self.pages[i];
-        let after = before.join(Page::held(text));
+        let came = Page::held(text);
+        let after = before.join(came);
         let answer = before.told(after);
         self.pages[i] = after;
         Taking {
