@@ -23,11 +23,15 @@ use Rattle.bulletin.specs.declared.store.Store.{Store}
 use Rattle.bulletin.specs.declared.take.Admission.{Admission}
 use Rattle.bulletin.specs.declared.take.Admission.the-variants.{Number, Refused as NotAdmitted}
 use Rattle.bulletin.specs.Pages.{noPage, join, heldPage, disputedPage}
-use Rattle.bulletin.specs.Names.{nameVerdict, sameName}
+use Rattle.report.specs.Layout.{nankai}
+use Rattle.report.specs.Records.{values}
+use Rattle.report.specs.Reasons.{Lowest}
+use Rattle.bulletin.specs.Names.{firstPage, nameVerdict, sameName}
 use Rattle.bulletin.specs.Stores.{noPages, zeroStore, opening, openOf, soundStore, at}
 use Rattle.bulletin.specs.Takings.{nameOf, belongs, writable, admission, putPage, taking, takeOf}
 use Rattle.bulletin.specs.Merges.{mergeVerdict, joined, merging, mergeOf}
 use Rattle.bulletin.proofs.Admitted.{of-bulletin, writable-record}
+use Rattle.bulletin.proofs.Ranges.{first-bad-value}
 use Rattle.bulletin.proofs.Merged.{Whole, marks, merge-at, merge-comm, merge-idem, merge-assoc}
 use Rattle.bulletin.proofs.Marks.{Text, Mark, absent, held, disputed, toPage, joinM, join-to}
 use Rattle.bulletin.proofs.Texts.{same?, eq-same, ne-same}
@@ -35,6 +39,10 @@ use Rattle.bulletin.proofs.Texts.{same?, eq-same, ne-same}
 -- "So every name in range is opened": without a page
 pub every-name-in-range-is-opened : (n : Name) → nameVerdict n ≡ Fine → openOf n ≡ record { answer = Fine; store = noPages n }
 every-name-in-range-is-opened n e = ap (λ (v : Verdict). opening v n) e
+
+-- "Opening: 8 at the first bad value in frame order": of the values of the bulletin's first page, by the table of category 4
+pub opening-is-refused-at-the-first-bad-value : (n : Name) (x : Refusal) → nameVerdict n ≡ Refused x → Lowest nankai (values (firstPage n) 0 0) x
+opening-is-refused-at-the-first-bad-value = first-bad-value
 
 -- "a refused opening [gives] a store of zeros"
 pub a-refused-opening-gives-zeros : (n : Name) (x : Refusal) → nameVerdict n ≡ Refused x → openOf n .store ≡ zeroStore

@@ -4,10 +4,13 @@ use mathlib.Core.Bool.{Bool, true, false, cond}
 use Prim.Native.Nat.{ℕ, _≤_}
 use Rattle.report.specs.declared.refusal.Verdict.{Verdict}
 use Rattle.report.specs.declared.refusal.Verdict.the-variants.{Fine, Refused}
+use Rattle.report.specs.declared.refusal.Refusal.{Refusal}
 use Rattle.report.specs.declared.refusal.Refusal.the-variants.{Unsound}
 use Rattle.report.specs.Layout.{layout, nankai}
 use Rattle.report.specs.Records.{values, bodyValues}
 use Rattle.report.specs.Conforms.{Holds}
+use Rattle.report.specs.Reasons.{Lowest}
+use Rattle.report.proofs.Frames.{turn-place}
 use Rattle.report.proofs.Outcomes.{not-both, false-not-true}
 use Rattle.report.proofs.JudgedFrames.{JudgesAll}
 use Rattle.report.proofs.Validity.{judged-record}
@@ -35,6 +38,11 @@ fine-holds n h = judged n .passed h
 pub holds-fine : (n : Name) → Holds nankai (values (firstPage n) 0 0) → nameVerdict n ≡ Fine
 unfolding nameVerdict
 holds-fine n h = judged n .passes h
+
+-- and where it is not, no value that breaks its rule has a lower bit than the one that is named
+pub first-bad-value : (n : Name) (x : Refusal) → nameVerdict n ≡ Refused x → Lowest nankai (values (firstPage n) 0 0) x
+unfolding nameVerdict
+first-bad-value n x e = record { there = judged n .found x e; lowest = λ y f. turn-place x y (judged n .earliest x y e f) }
 
 pub total-most : (n : Name) → nameVerdict n ≡ Fine → n .total ≤ 63
 unfolding values bodyValues layout
