@@ -1,5 +1,6 @@
 -- The bytes of pages of 18 bytes, one page behind the other. Assumes nothing.
 use mathlib.Core.Path.{_≡_, refl, ap, sym, _∙_}
+use mathlib.Core.Bool.{Bool, true, false, cond}
 use mathlib.Core.List.{List, [], _∷_, _++_}
 use mathlib.Core.Logic.{⊎-elim}
 use Prim.Native.Nat.{ℕ, zero, suc, _+_, _-_, _*_, _/_, _%_, _<_, _≤_}
@@ -7,6 +8,7 @@ use native.Mathlib.Omega.{arith}
 use native.Mathlib.Numerals.{add-one}
 use lib.ListN.{length, getD, set, take, drop, length-append, List·getD-append}
 use lib.Seq.{getD-append-add, drop-cons, take-suc, set-at, append-snoc, length-take-le}
+use lib.Dec.{eqb}
 use borrow.Author.Tests.{eq-eqb, ne-eqb}
 use Rattle.bulletin.specs.declared.page.Page.{Page}
 use Rattle.bulletin.specs.Pages.{noPage}
@@ -68,3 +70,12 @@ len-more zero l h e = refl
 len-more (suc m) l h e =
     let z : suc m - 1 ≡ m = omega arith in
     rw (eq-eqb (getD l m 0) 0 (sym (ap (λ (x : ℕ). getD l x 0) z) ∙ e)) (ap (λ (x : ℕ). textLength x l) (sym z))
+
+pub textLength-most : (n : ℕ) (l : List ℕ) → textLength n l ≤ n
+unfolding textLength
+textLength-most zero l = omega arith
+textLength-most (suc n) l = by (eqb (getD l n 0) 0) (textLength-most n l)
+  where
+    by : (b : Bool) → textLength n l ≤ n → cond b (textLength n l) (suc n) ≤ suc n
+    by true h = omega arith
+    by false h = omega arith

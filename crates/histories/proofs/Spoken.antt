@@ -30,7 +30,8 @@ use Rattle.histories.proofs.Given.{came-bytes}
 use Rattle.histories.proofs.Told.{Tells as MarkTells, markFor, tells, tells-one, page-told}
 use Rattle.histories.proofs.Counts.{lowest-found, found-once}
 use Rattle.histories.proofs.Reported.{page-at, held-marks, enough, total-same, reported}
-use Rattle.histories.proofs.Trimming.{textLength-most, trimmed, trimmed-length, length-order, front-bytes}
+use Rattle.bulletin.proofs.Flat.{textLength-most}
+use Rattle.histories.proofs.Trimming.{trimmed, trimmed-length, length-order, front-bytes}
 
 -- ---- 14 and 15
 

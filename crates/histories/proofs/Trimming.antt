@@ -12,6 +12,7 @@ use borrow.Author.Tests.{eqb-true, eqb-false}
 use Rattle.bulletin.specs.declared.page.Page.{Page}
 use Rattle.bulletin.specs.Pages.{noPage}
 use Rattle.bulletin.specs.Text.{flat, textLength}
+use Rattle.bulletin.proofs.Flat.{textLength-most}
 use Rattle.bulletin.proofs.Texts.{below?}
 use Rattle.histories.specs.Reports.{inOrder, Trimmed}
 
@@ -24,15 +25,6 @@ last-same a b x y e =
 
 nothing-ends : (l : List ℕ) → [] ≡ l ++ (0 ∷ []) → ⊥
 nothing-ends l e = omega (arith, length-append l (0 ∷ []), ap length e)
-
-pub textLength-most : (n : ℕ) (l : List ℕ) → textLength n l ≤ n
-unfolding textLength
-textLength-most zero l = omega arith
-textLength-most (suc n) l = by (eqb (getD l n 0) 0) (textLength-most n l)
-  where
-    by : (b : Bool) → textLength n l ≤ n → cond b (textLength n l) (suc n) ≤ suc n
-    by true h = omega arith
-    by false h = omega arith
 
 pub trimmed : (n : ℕ) (l : List ℕ) → n ≤ length l → Trimmed (take n l) (take (textLength n l) l)
 unfolding textLength

@@ -9,8 +9,12 @@ use Rattle.report.specs.declared.refusal.Verdict.{Verdict}
 use Rattle.report.specs.declared.record.Record.{Record}
 use Rattle.report.specs.Refusals.{plain, answers}
 use Rattle.report.specs.Writing.{writeAnswer, writeOf}
-use Rattle.packed.specs.Unpacked.{unpacked}
+use Rattle.packed.specs.Unpacked.{unpacked, recordFrom}
 use Rattle.inserter.specs.Answers.{Left, word, left, writeFrom}
+
+pub record-whole : (bytes : List ℕ) → length bytes ≡ 145 → recordFrom bytes ≡ unpacked bytes
+unfolding recordFrom
+record-whole bytes long = rw (eq-eqb (length bytes) 145 long)
 
 module _ (bytes buffer : List ℕ) where
   -- what is left where the bytes are of the right length
@@ -21,8 +25,8 @@ module _ (bytes buffer : List ℕ) where
   unfolding writeFrom
   taken long = ap (λ (b : Bool). cond b (right (unpacked bytes)) (left (word (plain 255)) buffer)) (eq-eqb (length bytes) 145 long)
 
-  pub written : (out : List ℕ) (r : Record) (v : Verdict) (answer : ℕ) → length bytes ≡ 145 → r ≡ unpacked bytes → v ≡ writeAnswer r (length buffer)
+  pub written : (out : List ℕ) (r : Record) (v : Verdict) (answer : ℕ) → length bytes ≡ 145 → r ≡ recordFrom bytes → v ≡ writeAnswer r (length buffer)
       → out ≡ writeOf r buffer → answer ≡ word (answers v) → left answer out ≡ writeFrom bytes buffer
   written out r v answer long is found wrote said =
       let told : answer ≡ word (answers (writeAnswer r (length buffer))) = said ∙ ap (λ (x : Verdict). word (answers x)) found in
-      (λ i. left (told i) (wrote i)) ∙ ap right is ∙ sym (taken long)
+      (λ i. left (told i) (wrote i)) ∙ ap right (is ∙ record-whole bytes long) ∙ sym (taken long)

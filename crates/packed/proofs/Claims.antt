@@ -14,6 +14,7 @@ use Rattle.packed.specs.Packed.{packed}
 use Rattle.packed.specs.Unpacked.{bodyFrom, stray, unpacked}
 use Rattle.packed.specs.Shelves.{storeBytes, storeFrom}
 use Rattle.bulletin.specs.declared.store.Store.{Store}
+use Rattle.bulletin.proofs.Flat.{Eighteen}
 use Rattle.packed.proofs.Pages as Pages
 use Rattle.packed.proofs.Shelved as Shelved
 use Rattle.packed.proofs.Whole as Whole
@@ -40,11 +41,11 @@ stray-bytes-are-refused = Refusing.stray-refused
 -- ---- page stores
 
 -- A store of 63 pages of 18 bytes has 1205 bytes.
-pub a-store-has-1205-bytes : (s : Store) → length (s .pages) ≡ 63 → Pages.Eighteen (s .pages) → length (storeBytes s) ≡ 1205
+pub a-store-has-1205-bytes : (s : Store) → length (s .pages) ≡ 63 → Eighteen (s .pages) → length (storeBytes s) ≡ 1205
 a-store-has-1205-bytes = Pages.length-store
 
 -- Nothing is lost, either way: such a store is given back by its bytes, and any 1205 bytes by their store.
-pub store-to-bytes-and-back : (s : Store) → length (s .pages) ≡ 63 → Pages.Eighteen (s .pages) → storeFrom (storeBytes s) ≡ s
+pub store-to-bytes-and-back : (s : Store) → length (s .pages) ≡ 63 → Eighteen (s .pages) → storeFrom (storeBytes s) ≡ s
 store-to-bytes-and-back = Shelved.store-back
 
 pub bytes-to-store-and-back : (l : List ℕ) → length l ≡ 1205 → storeBytes (storeFrom l) ≡ l

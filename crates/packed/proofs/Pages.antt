@@ -10,13 +10,10 @@ use borrow.Author.Tests.{eq-eqb, ne-eqb}
 use Rattle.bulletin.specs.declared.page.Page.{Page}
 use Rattle.bulletin.specs.declared.store.Store.{Store}
 use Rattle.bulletin.specs.Pages.{noPage}
+use Rattle.bulletin.proofs.Flat.{Eighteen}
 use Rattle.packed.specs.Shelves.{nameBytes, pageBytes, pagesBytes, storeBytes, storeInto}
 use Rattle.packed.specs.Writing.{Wrote}
 use Rattle.packed.proofs.Writing.{behind, _then_, whole}
-
--- each page's text has 18 bytes
-abbrev pub Eighteen : List Page → Type 0
-Eighteen ps = (i : ℕ) → i < length ps → length (getD ps i noPage .text) ≡ 18
 
 pub length-pages : (k : ℕ) (ps : List Page) → k ≤ length ps → Eighteen ps → length (pagesBytes (take k ps)) ≡ 19 * k
 unfolding pagesBytes

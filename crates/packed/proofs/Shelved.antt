@@ -10,7 +10,7 @@ use Rattle.bulletin.specs.declared.page.Page.{Page}
 use Rattle.bulletin.specs.declared.store.Store.{Store}
 use Rattle.packed.specs.Shelves.{nameBytes, pageBytes, pagesBytes, storeBytes, nameFrom, pageAt, pagesFrom, storeFrom}
 use Rattle.packed.proofs.Back.{each-same, byte-behind}
-use Rattle.packed.proofs.Pages.{Eighteen}
+use Rattle.bulletin.proofs.Flat.{Eighteen}
 
 -- a page behind n bytes
 page-behind : (n : ℕ) (l : List ℕ) (j k : ℕ) → j ≡ n + k → pageAt l j ≡ pageAt (drop n l) k

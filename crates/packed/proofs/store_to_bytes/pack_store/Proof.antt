@@ -2,8 +2,9 @@
 use mathlib.Core.Path.{_≡_}
 use lib.ListN.{length}
 use Rattle.bulletin.proofs.Texts.{unmapped}
+use Rattle.bulletin.proofs.Flat.{Eighteen}
 use Rattle.bulletin.proofs.Shapes.{shapes}
-use Rattle.packed.proofs.Pages.{Eighteen, store-in-parts, other-length}
+use Rattle.packed.proofs.Pages.{store-in-parts, other-length}
 use borrow.Author.Needs.{needs}
 use Rattle.packed.proofs.store_to_bytes.pack_store.Statement.{statement}
 use Rattle.packed.proofs.store_to_bytes.pack_store.Tie as tie

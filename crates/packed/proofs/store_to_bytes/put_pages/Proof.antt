@@ -8,9 +8,10 @@ use borrow.Author.Needs.{needs}
 use Rattle.packed.specs.Shelves.{pagesBytes}
 use Rattle.packed.specs.Writing.{Wrote}
 use Rattle.bulletin.proofs.Texts.{unmapped}
+use Rattle.bulletin.proofs.Flat.{Eighteen}
 use Rattle.bulletin.proofs.Shapes.{shapes}
 use Rattle.packed.proofs.Writing.{nothing}
-use Rattle.packed.proofs.Pages.{Eighteen, page-more}
+use Rattle.packed.proofs.Pages.{page-more}
 use Rattle.packed.proofs.store_to_bytes.put_pages.Statement.{statement}
 use Rattle.packed.proofs.store_to_bytes.put_pages.Tie as tie
 

@@ -1,17 +1,17 @@
--- `inserter::lz_write` meets its contract. Assumes nothing.
+-- `inserter::frames::lz_write` meets its contract. Assumes nothing.
 use borrow.Author.Tests.{ne-eqb}
 use Rattle.inserter.specs.Answers.{writeFrom}
 use Rattle.inserter.proofs.Writing.{written}
 use borrow.Author.Needs.{needs}
-use Rattle.inserter.proofs.lz_write.Statement.{statement}
-use Rattle.inserter.proofs.lz_write.Tie as tie
+use Rattle.inserter.proofs.frames.lz_write.Statement.{statement}
+use Rattle.inserter.proofs.frames.lz_write.Tie as tie
 
-word-requires : tie.Need-word-requires
-word-requires c κs = search needs
+wrong-call-requires : tie.Need-wrong-call-requires
+wrong-call-requires c κs = search needs
 
 returns : tie.Need-returns
 unfolding writeFrom
-returns c = simp (ne-eqb _ 145 (c .before .if1 .taken), c .word .ensures)
+returns c = simp (ne-eqb _ 145 (c .before .if1 .taken), c .wrong-call .ensures)
 
 unpack-requires : tie.Need-unpack-requires
 unpack-requires c κs = search needs
@@ -36,7 +36,7 @@ pub lz-write-spec : {M : Type 1} → statement M
 lz-write-spec =
     tie.close
     (tie.spec
-    word-requires
+    wrong-call-requires
     returns
     unpack-requires
     write-requires

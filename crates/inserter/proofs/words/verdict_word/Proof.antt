@@ -1,7 +1,7 @@
--- `inserter::verdict_word` meets its contract. Assumes nothing.
+-- `inserter::words::verdict_word` meets its contract. Assumes nothing.
 use borrow.Author.Needs.{needs}
-use Rattle.inserter.proofs.verdict_word.Statement.{statement}
-use Rattle.inserter.proofs.verdict_word.Tie as tie
+use Rattle.inserter.proofs.words.verdict_word.Statement.{statement}
+use Rattle.inserter.proofs.words.verdict_word.Tie as tie
 
 enum-told : tie.Need-enum-told
 enum-told c = search needs

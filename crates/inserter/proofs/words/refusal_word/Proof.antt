@@ -1,7 +1,7 @@
--- `inserter::refusal_word` meets its contract. Assumes nothing.
+-- `inserter::words::refusal_word` meets its contract. Assumes nothing.
 use borrow.Author.Needs.{needs}
-use Rattle.inserter.proofs.refusal_word.Statement.{statement}
-use Rattle.inserter.proofs.refusal_word.Tie as tie
+use Rattle.inserter.proofs.words.refusal_word.Statement.{statement}
+use Rattle.inserter.proofs.words.refusal_word.Tie as tie
 
 enum-told : tie.Need-enum-told
 enum-told c = search needs

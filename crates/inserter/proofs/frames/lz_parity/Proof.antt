@@ -1,9 +1,9 @@
--- `inserter::lz_parity` meets its contract. Assumes nothing.
+-- `inserter::frames::lz_parity` meets its contract. Assumes nothing.
 use borrow.Author.Needs.{needs}
 use borrow.Author.Tests.{eq-eqb, ne-eqb}
 use Rattle.inserter.specs.Answers.{parityAnswer}
-use Rattle.inserter.proofs.lz_parity.Statement.{statement}
-use Rattle.inserter.proofs.lz_parity.Tie as tie
+use Rattle.inserter.proofs.frames.lz_parity.Statement.{statement}
+use Rattle.inserter.proofs.frames.lz_parity.Tie as tie
 
 returns : tie.Need-returns
 unfolding parityAnswer

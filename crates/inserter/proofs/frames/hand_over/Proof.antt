@@ -1,0 +1,54 @@
+-- `inserter::frames::hand_over` meets its contract. Assumes nothing.
+use borrow.Author.Tests.{ne-eqb}
+use Rattle.inserter.specs.Answers.{handed}
+use Rattle.inserter.proofs.Reading.{read-whole, refused}
+use borrow.Author.Needs.{needs}
+use Rattle.inserter.proofs.frames.hand_over.Statement.{statement}
+use Rattle.inserter.proofs.frames.hand_over.Tie as tie
+
+wrong-call-requires : tie.Need-wrong-call-requires
+wrong-call-requires c κs = search needs
+
+returns : tie.Need-returns
+unfolding handed
+returns c = simp (ne-eqb _ 145 (c .before .if1 .taken), c .wrong-call .ensures)
+
+enum-told : tie.Need-enum-told
+enum-told c = search needs
+
+pack-requires : tie.Need-pack-requires
+pack-requires c κs = search needs
+
+enum-known-answer : tie.Need-enum-known-answer
+enum-known-answer c = search needs
+
+refusal-word-requires : tie.Need-refusal-word-requires
+refusal-word-requires c κs = search needs
+
+same-length : tie.Need-same-length
+same-length c = search needs
+
+returns-2 : tie.Need-returns-2
+returns-2 c =
+    let pack = c .before .before in
+    let told = pack .before .before .before in
+    read-whole _ _ (told .before .before .if1 .left) _ (told .enum-told .given .1) (pack .pack .ensures)
+
+returns-3 : tie.Need-returns-3
+returns-3 c =
+    let told = c .before .before in
+    refused _ _ (told .before .before .if1 .left) _ _ (told .answer .given .1) (c .refusal-word .ensures)
+
+pub hand-over-spec : {M : Type 1} → statement M
+hand-over-spec =
+    tie.close
+    (tie.spec
+    wrong-call-requires
+    returns
+    enum-told
+    pack-requires
+    enum-known-answer
+    refusal-word-requires
+    same-length
+    returns-2
+    returns-3)

@@ -1,0 +1,64 @@
+-- `inserter::stores::lz_merge` meets its contract. Assumes nothing.
+use borrow.Author.Tests.{eq-eqb, ne-eqb}
+use Rattle.inserter.specs.Answers.{mergeInto}
+use Rattle.inserter.proofs.StoreDoors.{merging-left}
+use borrow.Author.Needs.{needs}
+use Rattle.inserter.proofs.stores.lz_merge.Statement.{statement}
+use Rattle.inserter.proofs.stores.lz_merge.Tie as tie
+
+wrong-call-requires : tie.Need-wrong-call-requires
+wrong-call-requires c κs = search needs
+
+returns : tie.Need-returns
+unfolding mergeInto
+returns c = simp (ne-eqb _ 1205 (c .before .if1 .taken), c .wrong-call .ensures)
+
+wrong-call-requires-2 : tie.Need-wrong-call-requires-2
+wrong-call-requires-2 c κs = search needs
+
+returns-2 : tie.Need-returns-2
+unfolding mergeInto
+returns-2 c = simp (eq-eqb _ 1205 (c .before .before .if1 .left), ne-eqb _ 1205 (c .before .if2 .taken), c .wrong-call2 .ensures)
+
+unpack-store-requires : tie.Need-unpack-store-requires
+unpack-store-requires c κs = search needs
+
+unpack-store-requires-2 : tie.Need-unpack-store-requires-2
+unpack-store-requires-2 c κs = search needs
+
+merge-requires : tie.Need-merge-requires
+merge-requires c κs = search needs
+
+pack-store-requires : tie.Need-pack-store-requires
+pack-store-requires c κs = search needs
+
+verdict-word-requires : tie.Need-verdict-word-requires
+verdict-word-requires c κs = search needs
+
+same-length : tie.Need-same-length
+same-length c = search needs
+
+returns-3 : tie.Need-returns-3
+returns-3 c =
+    let pack = c .before .before .before in
+    let merge = pack .before .before .before in
+    let other = merge .before in
+    let store = other .before in
+    let lengths = store .before .before in
+    merging-left _ _ _ _ _ _ _ (lengths .before .if1 .left) (lengths .if2 .left) (store .unpack-store .ensures) (other .unpack-store2 .ensures) (merge .merge .ensures) (pack .pack-store .ensures) (c .verdict-word .ensures)
+
+pub lz-merge-spec : {M : Type 1} → statement M
+lz-merge-spec =
+    tie.close
+    (tie.spec
+    wrong-call-requires
+    returns
+    wrong-call-requires-2
+    returns-2
+    unpack-store-requires
+    unpack-store-requires-2
+    merge-requires
+    pack-store-requires
+    verdict-word-requires
+    same-length
+    returns-3)

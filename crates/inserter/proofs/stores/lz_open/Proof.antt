@@ -1,0 +1,58 @@
+-- `inserter::stores::lz_open` meets its contract. Assumes nothing.
+use borrow.Author.Tests.{eq-eqb, ne-eqb}
+use Rattle.inserter.specs.Answers.{openInto}
+use Rattle.inserter.proofs.StoreDoors.{opening-left}
+use borrow.Author.Needs.{needs}
+use Rattle.inserter.proofs.stores.lz_open.Statement.{statement}
+use Rattle.inserter.proofs.stores.lz_open.Tie as tie
+
+wrong-call-requires : tie.Need-wrong-call-requires
+wrong-call-requires c κs = search needs
+
+returns : tie.Need-returns
+unfolding openInto
+returns c = simp (ne-eqb _ 8 (c .before .if1 .taken), c .wrong-call .ensures)
+
+wrong-call-requires-2 : tie.Need-wrong-call-requires-2
+wrong-call-requires-2 c κs = search needs
+
+returns-2 : tie.Need-returns-2
+unfolding openInto
+returns-2 c = simp (eq-eqb _ 8 (c .before .before .if1 .left), ne-eqb _ 1205 (c .before .if2 .taken), c .wrong-call2 .ensures)
+
+unpack-name-requires : tie.Need-unpack-name-requires
+unpack-name-requires c κs = search needs
+
+open-requires : tie.Need-open-requires
+open-requires c κs = search needs
+
+pack-store-requires : tie.Need-pack-store-requires
+pack-store-requires c κs = search needs
+
+verdict-word-requires : tie.Need-verdict-word-requires
+verdict-word-requires c κs = search needs
+
+same-length : tie.Need-same-length
+same-length c = search needs
+
+returns-3 : tie.Need-returns-3
+returns-3 c =
+    let pack = c .before .before .before in
+    let opens = pack .before .before .before in
+    let lengths = opens .before .before in
+    opening-left _ _ _ _ _ _ (lengths .before .if1 .left) (lengths .if2 .left) (opens .before .unpack-name .ensures) (opens .«open» .ensures) (pack .pack-store .ensures) (c .verdict-word .ensures)
+
+pub lz-open-spec : {M : Type 1} → statement M
+lz-open-spec =
+    tie.close
+    (tie.spec
+    wrong-call-requires
+    returns
+    wrong-call-requires-2
+    returns-2
+    unpack-name-requires
+    open-requires
+    pack-store-requires
+    verdict-word-requires
+    same-length
+    returns-3)

@@ -1,0 +1,70 @@
+-- `inserter::stores::lz_report` meets its contract. Assumes nothing.
+use borrow.Author.Tests.{eq-eqb, ne-eqb}
+use native.Mathlib.Omega.{arith}
+use lib.ListN.{length-set}
+use Rattle.inserter.specs.Answers.{reportInto}
+use Rattle.inserter.proofs.StoreDoors.{report-left, three-bytes}
+use borrow.Author.Needs.{needs}
+use Rattle.inserter.proofs.stores.lz_report.Statement.{statement}
+use Rattle.inserter.proofs.stores.lz_report.Tie as tie
+
+wrong-call-requires : tie.Need-wrong-call-requires
+wrong-call-requires c κs = search needs
+
+returns : tie.Need-returns
+unfolding reportInto
+returns c = simp (ne-eqb _ 1205 (c .before .if1 .taken), c .wrong-call .ensures)
+
+wrong-call-requires-2 : tie.Need-wrong-call-requires-2
+wrong-call-requires-2 c κs = search needs
+
+returns-2 : tie.Need-returns-2
+unfolding reportInto
+returns-2 c = simp (eq-eqb _ 1205 (c .before .before .if1 .left), ne-eqb _ 3 (c .before .if2 .taken), c .wrong-call2 .ensures)
+
+unpack-store-requires : tie.Need-unpack-store-requires
+unpack-store-requires c κs = search needs
+
+report-requires : tie.Need-report-requires
+report-requires c κs = search needs
+
+slice-write-counts : tie.Need-slice-write-counts
+slice-write-counts c = search needs
+
+slice-write-counts-2 : tie.Need-slice-write-counts-2
+slice-write-counts-2 c = simp length-set (omega arith)
+
+slice-write-counts-3 : tie.Need-slice-write-counts-3
+slice-write-counts-3 c = simp length-set (omega arith)
+
+verdict-word-requires : tie.Need-verdict-word-requires
+verdict-word-requires c κs = search needs
+
+same-length : tie.Need-same-length
+same-length c = search needs
+
+returns-3 : tie.Need-returns-3
+returns-3 c =
+    let report = c .before in
+    let lengths = report .before .before in
+    let buffer = lengths .before .before .before .before .args .counts .now in
+    let n = report .report .result in
+    report-left _ buffer _ _ n _ (lengths .before .if1 .left) (lengths .if2 .left) (report .before .unpack-store .ensures) (report .report .ensures)
+    (three-bytes buffer (n .held) (n .disputed) (n .lowest) (lengths .if2 .left)) (c .verdict-word .ensures)
+
+pub lz-report-spec : {M : Type 1} → statement M
+lz-report-spec =
+    tie.close
+    (tie.spec
+    wrong-call-requires
+    returns
+    wrong-call-requires-2
+    returns-2
+    unpack-store-requires
+    report-requires
+    slice-write-counts
+    slice-write-counts-2
+    slice-write-counts-3
+    verdict-word-requires
+    same-length
+    returns-3)

@@ -1,0 +1,64 @@
+-- `inserter::stores::lz_take` meets its contract. Assumes nothing.
+use borrow.Author.Tests.{eq-eqb, ne-eqb}
+use Rattle.inserter.specs.Answers.{takeInto}
+use Rattle.inserter.proofs.StoreDoors.{taking-left}
+use borrow.Author.Needs.{needs}
+use Rattle.inserter.proofs.stores.lz_take.Statement.{statement}
+use Rattle.inserter.proofs.stores.lz_take.Tie as tie
+
+wrong-call-requires : tie.Need-wrong-call-requires
+wrong-call-requires c κs = search needs
+
+returns : tie.Need-returns
+unfolding takeInto
+returns c = simp (ne-eqb _ 1205 (c .before .if1 .taken), c .wrong-call .ensures)
+
+wrong-call-requires-2 : tie.Need-wrong-call-requires-2
+wrong-call-requires-2 c κs = search needs
+
+returns-2 : tie.Need-returns-2
+unfolding takeInto
+returns-2 c = simp (eq-eqb _ 1205 (c .before .before .if1 .left), ne-eqb _ 145 (c .before .if2 .taken), c .wrong-call2 .ensures)
+
+unpack-store-requires : tie.Need-unpack-store-requires
+unpack-store-requires c κs = search needs
+
+unpack-requires : tie.Need-unpack-requires
+unpack-requires c κs = search needs
+
+take-requires : tie.Need-take-requires
+take-requires c κs = search needs
+
+pack-store-requires : tie.Need-pack-store-requires
+pack-store-requires c κs = search needs
+
+taken-word-requires : tie.Need-taken-word-requires
+taken-word-requires c κs = search needs
+
+same-length : tie.Need-same-length
+same-length c = search needs
+
+returns-3 : tie.Need-returns-3
+returns-3 c =
+    let pack = c .before .before .before in
+    let take = pack .before .before .before in
+    let entry = take .before in
+    let store = entry .before in
+    let lengths = store .before .before in
+    taking-left _ _ _ _ _ _ _ (lengths .before .if1 .left) (lengths .if2 .left) (store .unpack-store .ensures) (entry .unpack .ensures) (take .take .ensures) (pack .pack-store .ensures) (c .taken-word .ensures)
+
+pub lz-take-spec : {M : Type 1} → statement M
+lz-take-spec =
+    tie.close
+    (tie.spec
+    wrong-call-requires
+    returns
+    wrong-call-requires-2
+    returns-2
+    unpack-store-requires
+    unpack-requires
+    take-requires
+    pack-store-requires
+    taken-word-requires
+    same-length
+    returns-3)

@@ -1,0 +1,79 @@
+-- `inserter::stores::lz_text` meets its contract. Assumes nothing.
+use mathlib.Core.Path.{_≡_, sym, ap, _∙_}
+use Prim.Native.Nat.{ℕ, _≤_}
+use native.Mathlib.Omega.{arith}
+use borrow.Author.Tests.{ne-eqb}
+use Rattle.report.specs.declared.refusal.Verdict.{Verdict}
+use Rattle.bulletin.specs.declared.text.Telling.{Telling}
+use Rattle.inserter.specs.Answers.{lengthOr, textInto}
+use Rattle.inserter.proofs.StoreDoors.{text-left, text-is-small}
+use borrow.Author.Needs.{needs}
+use Rattle.inserter.proofs.stores.lz_text.Statement.{statement}
+use Rattle.inserter.proofs.stores.lz_text.Tie as tie
+
+wrong-call-requires : tie.Need-wrong-call-requires
+wrong-call-requires c κs = search needs
+
+returns : tie.Need-returns
+unfolding textInto
+returns c = simp (ne-eqb _ 1205 (c .before .if1 .taken), c .wrong-call .ensures)
+
+unpack-store-requires : tie.Need-unpack-store-requires
+unpack-store-requires c κs = search needs
+
+text-requires : tie.Need-text-requires
+text-requires c κs = search needs
+
+enum-told : tie.Need-enum-told
+enum-told c = search needs
+
+cast-result : tie.Need-cast-result
+cast-result c =
+    let text = c .before .before .before .before .before in
+    let small : text .text .result .length ≤ 1134 = rw (text .text .ensures .0) (text-is-small _ _) in
+    omega arith
+
+enum-known-answer : tie.Need-enum-known-answer
+enum-known-answer c = search needs
+
+refusal-word-requires : tie.Need-refusal-word-requires
+refusal-word-requires c κs = search needs
+
+same-length : tie.Need-same-length
+same-length c = search needs
+
+returns-2 : tie.Need-returns-2
+returns-2 c =
+    let told = c .before in
+    let text = told .before .before .before .before in
+    let store = text .before .before in
+    text-left _ _ _ _ _ _ (store .before .if1 .left) (store .unpack-store .ensures) (text .text .ensures .0) (text .text .ensures .1)
+    (sym (ap (λ (v : Verdict). lengthOr v (text .text .result .length)) (told .enum-told .given .1)))
+
+same-length-2 : tie.Need-same-length-2
+same-length-2 c = search needs
+
+returns-3 : tie.Need-returns-3
+returns-3 c =
+    let told = c .before .before in
+    let text = told .before .before .before .before in
+    let store = text .before .before in
+    text-left _ _ _ _ _ _ (store .before .if1 .left) (store .unpack-store .ensures) (text .text .ensures .0) (text .text .ensures .1)
+    (c .refusal-word .ensures ∙ sym (ap (λ (v : Verdict). lengthOr v (text .text .result .length)) (told .answer .given .1)))
+
+pub lz-text-spec : {M : Type 1} → statement M
+lz-text-spec =
+    tie.close
+    (tie.spec
+    wrong-call-requires
+    returns
+    unpack-store-requires
+    text-requires
+    enum-told
+    cast-result
+    enum-known-answer
+    refusal-word-requires
+    same-length
+    returns-2
+    same-length-2
+    returns-3)

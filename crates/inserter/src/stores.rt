@@ -1,0 +1,106 @@
+// The page store of a bulletin in 1205 lent bytes. Any such bytes are a store; one that is not sound is
+// refused with 14 in 14's turn, and stays as it was.
+ghost use mathlib.Core.Path.{_≡_};
+ghost use Rattle.inserter.specs.Answers.{left, openInto, takeInto, mergeInto, reportInto, textInto};
+use crate::words::refusal_word;
+use crate::words::taken_word;
+use crate::words::verdict_word;
+use crate::words::wrong_call;
+use bulletin::store::Store;
+use report::refusal::Verdict;
+
+// Opens a store for the bulletin that 8 bytes name: Rc, month, day, hour, minute, It, Is, page total.
+// 8 with its place where a value is out of range, and then the store is zeros.
+#[no_mangle]
+pub extern "C" fn lz_open(name: &[u8], store: &mut [u8]) -> u32
+    ensures { λ r. ⌜ left r (now (store .exit)) ≡ openInto (now (name .entry)) (now (store .entry)) ⌝ }
+{
+    if name.len() != 8 {
+        return wrong_call();
+    }
+    if store.len() != 1205 {
+        return wrong_call();
+    }
+    let opening = Store::open(packed::unpack_name(name));
+    let opened = opening.store;
+    let answer = opening.answer;
+    packed::pack_store(opened, store);
+    verdict_word(answer)
+}
+
+// Takes the page of a record's 145 bytes: 1 where it is new, 2 where the store had the same, 3 where it
+// is disputed. A refusal leaves the store as it was.
+#[no_mangle]
+pub extern "C" fn lz_take(store: &mut [u8], record_bytes: &[u8]) -> u32
+    ensures { λ r. ⌜ left r (now (store .exit)) ≡ takeInto (now (store .entry)) (now (record_bytes .entry)) ⌝ }
+{
+    if store.len() != 1205 {
+        return wrong_call();
+    }
+    if record_bytes.len() != 145 {
+        return wrong_call();
+    }
+    let before = packed::unpack_store(store);
+    let taking = before.take(packed::unpack(record_bytes));
+    let after = taking.store;
+    let answer = taking.answer;
+    packed::pack_store(after, store);
+    taken_word(answer)
+}
+
+// Merges another store of the same bulletin into a store. A refusal leaves the store as it was.
+#[no_mangle]
+pub extern "C" fn lz_merge(store: &mut [u8], other: &[u8]) -> u32
+    ensures { λ r. ⌜ left r (now (store .exit)) ≡ mergeInto (now (store .entry)) (now (other .entry)) ⌝ }
+{
+    if store.len() != 1205 {
+        return wrong_call();
+    }
+    if other.len() != 1205 {
+        return wrong_call();
+    }
+    let before = packed::unpack_store(store);
+    let merging = before.merge(packed::unpack_store(other));
+    let after = merging.store;
+    let answer = merging.answer;
+    packed::pack_store(after, store);
+    verdict_word(answer)
+}
+
+// Puts into three bytes how many pages are held, how many are disputed, and the lowest that is not
+// held, 0 where all are. A refusal leaves three zeros.
+#[no_mangle]
+pub extern "C" fn lz_report(store: &[u8], counts: &mut [u8]) -> u32
+    ensures { λ r. ⌜ left r (now (counts .exit)) ≡ reportInto (now (store .entry)) (now (counts .entry)) ⌝ }
+{
+    if store.len() != 1205 {
+        return wrong_call();
+    }
+    if counts.len() != 3 {
+        return wrong_call();
+    }
+    let count = packed::unpack_store(store).report();
+    let answer = count.answer;
+    counts[0] = count.held;
+    counts[1] = count.disputed;
+    counts[2] = count.lowest;
+    verdict_word(answer)
+}
+
+// Puts the text of a store whose pages are all held into a lent buffer, and answers its length, which
+// is at most 1134. Bytes behind the text stay as they were, and where something is refused all of
+// them do.
+#[no_mangle]
+pub extern "C" fn lz_text(store: &[u8], text: &mut [u8]) -> u32
+    ensures { λ r. ⌜ left r (now (text .exit)) ≡ textInto (now (store .entry)) (now (text .entry)) ⌝ }
+{
+    if store.len() != 1205 {
+        return wrong_call();
+    }
+    let telling = packed::unpack_store(store).text(text);
+    let answer = telling.answer;
+    match answer {
+        Verdict::Fine => telling.length as u32,
+        Verdict::Refused(refusal) => refusal_word(refusal),
+    }
+}
