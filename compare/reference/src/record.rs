@@ -117,23 +117,30 @@ pub struct Record {
     pub text: [u8; 18],
 }
 
-/// Why a frame or a record was refused: the number from document 01 and the
-/// bit it names, 0 where that number names none.
-#[derive(Clone, Copy, PartialEq, Eq, Debug)]
+/// Why something was refused: the number from document 01, and the bit, page
+/// and mark it names. What a number does not name is 0.
+#[derive(Clone, Copy, PartialEq, Eq, Debug, Default)]
 pub struct Refusal {
     pub number: u8,
     pub place: u8,
+    pub page: u8,
+    pub mark: u8,
 }
 
 impl Refusal {
-    /// A refusal whose row names no bit.
+    /// A refusal whose row names nothing.
     pub fn plain(number: u8) -> Refusal {
-        Refusal { number, place: 0 }
+        Refusal { number, ..Refusal::default() }
     }
 
     /// A refusal at a bit of the frame. Every field, spare and slot begins
     /// below bit 226, so its bit fits a byte.
     pub fn at(number: u8, bit: usize) -> Refusal {
-        Refusal { number, place: bit as u8 }
+        Refusal { number, place: bit as u8, ..Refusal::default() }
+    }
+
+    /// Number, place, page and mark.
+    pub fn answer(self) -> [u8; 4] {
+        [self.number, self.place, self.page, self.mark]
     }
 }

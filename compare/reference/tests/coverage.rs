@@ -78,7 +78,7 @@ fn slices_of_every_length_are_refused_but_one() {
     let all = slices(&mut random);
     assert_eq!(all.len(), 82);
     for bytes in all {
-        let refused_for_length = read(&bytes) == Err(Refusal { number: 1, place: 0 });
+        let refused_for_length = read(&bytes) == Err(Refusal::plain(1));
         assert_eq!(refused_for_length, bytes.len() != 32);
     }
     assert_eq!(read_all((0..100).map(|_| random_bytes(&mut random, 31))).numbers(), [1]);
