@@ -1,12 +1,14 @@
-//! Test inputs: frames for reading and records for writing, right ones and
-//! wrong ones. Everything is drawn from the generator that is handed in, so
-//! a seed names an input.
+//! Test inputs: frames and lines for reading and records for writing, right
+//! ones and wrong ones. Everything is drawn from the generator that is handed
+//! in, so a seed names an input.
 
 mod frames;
+mod lines;
 mod malformed_records;
 mod records;
 
 pub use frames::*;
+pub use lines::*;
 pub use malformed_records::*;
 pub use records::*;
 

@@ -3,13 +3,14 @@
 //! plainness before speed, so that another implementation can be compared
 //! with it on as many inputs as one likes.
 //!
-//! `read` and `write` are the two functions under comparison. `generate`
-//! builds inputs for both, `samples` holds the values of document 004.
+//! `read` and `write` work on frames, `line` on lines of digits. `generate`
+//! builds inputs for all of them, `samples` holds the values of document 004.
 
 pub mod bits;
 pub mod check;
 pub mod fields;
 pub mod generate;
+pub mod line;
 pub mod parity;
 pub mod random;
 pub mod read;
