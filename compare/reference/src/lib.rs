@@ -3,14 +3,16 @@
 //! plainness before speed, so that another implementation can be compared
 //! with it on as many inputs as one likes.
 //!
-//! `read` and `write` work on frames, `line` on lines of digits. `generate`
-//! builds inputs for all of them, `samples` holds the values of document 004.
+//! `read` and `write` work on frames, `line` on lines of digits; `listing` is
+//! the listing of a file of frames. `generate` builds inputs for all of them,
+//! `samples` holds the values of document 004.
 
 pub mod bits;
 pub mod check;
 pub mod fields;
 pub mod generate;
 pub mod line;
+pub mod listing;
 pub mod parity;
 pub mod random;
 pub mod read;

@@ -1,0 +1,57 @@
+//! The listing of a file of frames: a heading and one row a line.
+
+use crate::line::read_line;
+use crate::record::{Category, Record, Refusal, Slot};
+use std::io::{BufRead, Result, Write};
+
+/// How many lines are read at most.
+pub const MOST_LINES: usize = 1_000_000;
+
+/// Reads lines from `input` to its end and writes the listing to `output`.
+pub fn list(mut input: impl BufRead, mut output: impl Write) -> Result<()> {
+    writeln!(output, "line answer place dc slots")?;
+    let mut line = Vec::new();
+    for number in 1..=MOST_LINES {
+        line.clear();
+        if input.read_until(b'\n', &mut line)? == 0 {
+            return output.flush();
+        }
+        // The last line may lack its line feed.
+        let digits = line.strip_suffix(b"\n").unwrap_or(&line);
+        write_row(&mut output, number, read_line(digits))?;
+    }
+    if !input.fill_buf()?.is_empty() {
+        writeln!(output, "cut - - - -")?;
+    }
+    output.flush()
+}
+
+fn write_row(
+    output: &mut impl Write,
+    line: usize,
+    answer: std::result::Result<Record, Refusal>,
+) -> Result<()> {
+    match answer {
+        Ok(record) => {
+            let dc = record.body.category().map_or(0, Category::code);
+            match slots_used(&record) {
+                Some(slots) => writeln!(output, "{line} 0 - {dc} {slots}"),
+                None => writeln!(output, "{line} 0 - {dc} -"),
+            }
+        }
+        Err(Refusal { number: number @ 8..=10, place, .. }) => {
+            writeln!(output, "{line} {number} {place} - -")
+        }
+        Err(Refusal { number, .. }) => writeln!(output, "{line} {number} - - -"),
+    }
+}
+
+/// How many slots of a record that was read are used, in the two categories
+/// that have slots.
+fn slots_used(record: &Record) -> Option<usize> {
+    let used = record.slots.iter().filter(|&&slot| slot != Slot::default()).count();
+    match record.body.category() {
+        Some(Category::Intensity | Category::AshFall) => Some(used),
+        _ => None,
+    }
+}
