@@ -1,16 +1,22 @@
-//! Test inputs: frames and lines for reading and records for writing, right
-//! ones and wrong ones. Everything is drawn from the generator that is handed
-//! in, so a seed names an input.
+//! Test inputs: frames and lines for reading, records for writing, histories
+//! for page stores, right ones and wrong ones. Everything is drawn from the
+//! generator that is handed in, so a seed names an input.
 
+mod bulletins;
 mod frames;
+mod histories;
 mod lines;
 mod malformed_records;
 mod records;
+mod stores;
 
+pub use bulletins::*;
 pub use frames::*;
+pub use histories::*;
 pub use lines::*;
 pub use malformed_records::*;
 pub use records::*;
+pub use stores::*;
 
 use crate::bits::{set, Frame};
 use crate::fields::{fields, slot_layout, Field};

@@ -40,6 +40,13 @@ impl Random {
         choices[self.below(choices.len())]
     }
 
+    /// Puts the items in any order.
+    pub fn shuffle<T>(&mut self, items: &mut [T]) {
+        for count in (2..=items.len()).rev() {
+            items.swap(count - 1, self.below(count));
+        }
+    }
+
     pub fn byte(&mut self) -> u8 {
         self.next_number() as u8
     }
