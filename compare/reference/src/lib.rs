@@ -4,8 +4,10 @@
 //! with it on as many inputs as one likes.
 //!
 //! `read` and `write` work on frames, `line` on lines of digits; `listing` is
-//! the listing of a file of frames. `generate` builds inputs for all of them,
-//! `samples` holds the values of document 004.
+//! the listing of a file of frames. `store` is the page store, `history` a
+//! second account of it, and `player` drives both, and any other, through the
+//! same steps. `generate` builds inputs for all of them, `samples` holds the
+//! values of document 004.
 
 pub mod bits;
 pub mod check;
