@@ -9,7 +9,7 @@ use reference::random::Random;
 use reference::store::{Store, PAGES};
 use std::collections::BTreeSet;
 
-const COUNT: usize = 20_000;
+const COUNT: usize = 10_000;
 
 #[test]
 fn by_states_and_by_texts_taken_they_answer_the_same() {
