@@ -10,6 +10,7 @@ mod parity;
 mod reading;
 mod writing;
 
+pub use reference::player::pattern;
 use std::fmt::Debug;
 
 /// Counts agreements and stops at the first disagreement.
@@ -28,12 +29,6 @@ impl Count {
         }
         self.agreed += 1;
     }
-}
-
-/// What a buffer holds before a call. It differs from place to place, so that
-/// no byte can be written unseen.
-pub fn pattern(length: usize) -> Vec<u8> {
-    (0..length).map(|place| 0xA5 ^ place as u8).collect()
 }
 
 fn run(name: &str, compare: fn(&mut Count)) {

@@ -82,7 +82,7 @@ fn agree(count: &mut Count, frame: &[u8]) {
     let answer = door::read(frame, &mut buffer);
     let expected = match read(frame) {
         Ok(record) => ([0; 4], packed(&record).to_vec()),
-        Err(refusal) => ([refusal.number, refusal.place, 0, 0], pattern(LENGTH)),
+        Err(refusal) => (refusal.answer(), pattern(LENGTH)),
     };
     count.same(frame, &(answer, buffer), &expected);
 }

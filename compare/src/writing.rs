@@ -162,7 +162,7 @@ fn expected(record: &Record, length: usize) -> Outcome {
     let mut frame = pattern(length);
     match write(record, &mut frame) {
         Ok(()) => ([0; 4], frame),
-        Err(refusal) => ([refusal.number, refusal.place, 0, 0], pattern(length)),
+        Err(refusal) => (refusal.answer(), pattern(length)),
     }
 }
 
