@@ -1,5 +1,13 @@
 //! The proved functions, made safe to call: the only place where a pointer is
 //! handed over. Each takes any slice, since none of them has a precondition.
+//! Their answer is the number of the refusal, 0 where nothing is refused, and
+//! its place, page and mark, if nothing else is said.
+
+/// A function that reads the first slice and may write the second.
+type FromTo = unsafe extern "C" fn(*const u8, usize, *mut u8, usize) -> u32;
+
+/// A function that may write the first slice and reads the second.
+type ToFrom = unsafe extern "C" fn(*mut u8, usize, *const u8, usize) -> u32;
 
 mod raw {
     extern "C" {
@@ -16,6 +24,48 @@ mod raw {
             frame: *mut u8,
             length: usize,
         ) -> u32;
+        pub fn lz_read_line(
+            line: *const u8,
+            length: usize,
+            record_bytes: *mut u8,
+            record_length: usize,
+        ) -> u32;
+        pub fn lz_write_line(
+            frame: *const u8,
+            length: usize,
+            line: *mut u8,
+            line_length: usize,
+        ) -> u32;
+        pub fn lz_open(
+            name: *const u8,
+            name_length: usize,
+            store: *mut u8,
+            store_length: usize,
+        ) -> u32;
+        pub fn lz_take(
+            store: *mut u8,
+            store_length: usize,
+            record_bytes: *const u8,
+            record_length: usize,
+        ) -> u32;
+        pub fn lz_merge(
+            store: *mut u8,
+            store_length: usize,
+            other: *const u8,
+            other_length: usize,
+        ) -> u32;
+        pub fn lz_report(
+            store: *const u8,
+            store_length: usize,
+            counts: *mut u8,
+            counts_length: usize,
+        ) -> u32;
+        pub fn lz_text(
+            store: *const u8,
+            store_length: usize,
+            text: *mut u8,
+            text_length: usize,
+        ) -> u32;
     }
 }
 
@@ -30,22 +80,62 @@ pub fn parity(frame: &[u8]) -> Option<u32> {
     }
 }
 
-/// Reads a frame into the bytes of a record. The answer is the number of the
-/// refusal, 0 where nothing is refused, and its place, page and mark.
+/// Reads a frame into the bytes of a record.
 pub fn read(frame: &[u8], record_bytes: &mut [u8]) -> [u8; 4] {
-    // Each pointer and its length are those of one slice; the second slice is
-    // lent for writing, so the two cannot overlap.
-    let answer = unsafe {
-        raw::lz_read(frame.as_ptr(), frame.len(), record_bytes.as_mut_ptr(), record_bytes.len())
-    };
+    from_to(raw::lz_read, frame, record_bytes)
+}
+
+/// Writes the record of the bytes to a frame.
+pub fn write(record_bytes: &[u8], frame: &mut [u8]) -> [u8; 4] {
+    from_to(raw::lz_write, record_bytes, frame)
+}
+
+/// Reads a line of digits into the bytes of a record.
+pub fn read_line(line: &[u8], record_bytes: &mut [u8]) -> [u8; 4] {
+    from_to(raw::lz_read_line, line, record_bytes)
+}
+
+/// Writes the digits of a frame to a line.
+pub fn write_line(frame: &[u8], line: &mut [u8]) -> [u8; 4] {
+    from_to(raw::lz_write_line, frame, line)
+}
+
+/// Opens a store under a name of 8 bytes.
+pub fn open(name: &[u8], store: &mut [u8]) -> [u8; 4] {
+    from_to(raw::lz_open, name, store)
+}
+
+/// Takes the page of a record into a store. Where nothing is refused, the last
+/// byte of the answer is 1 for new, 2 for same and 3 for disputed.
+pub fn take(store: &mut [u8], record_bytes: &[u8]) -> [u8; 4] {
+    to_from(raw::lz_take, store, record_bytes)
+}
+
+/// Merges the other store into the first.
+pub fn merge(store: &mut [u8], other: &[u8]) -> [u8; 4] {
+    to_from(raw::lz_merge, store, other)
+}
+
+/// Writes held, disputed and lowest page to three bytes.
+pub fn report(store: &[u8], counts: &mut [u8]) -> [u8; 4] {
+    from_to(raw::lz_report, store, counts)
+}
+
+/// Writes the text of a store. Where nothing is refused, the last two bytes of
+/// the answer are its length.
+pub fn text(store: &[u8], text: &mut [u8]) -> [u8; 4] {
+    from_to(raw::lz_text, store, text)
+}
+
+fn from_to(door: FromTo, from: &[u8], to: &mut [u8]) -> [u8; 4] {
+    // Each pointer and its length are those of one slice; one slice is lent
+    // for writing, so the two cannot overlap.
+    let answer = unsafe { door(from.as_ptr(), from.len(), to.as_mut_ptr(), to.len()) };
     answer.to_be_bytes()
 }
 
-/// Writes the record of the bytes to a frame. The answer is as that of `read`.
-pub fn write(record_bytes: &[u8], frame: &mut [u8]) -> [u8; 4] {
-    // As above: two slices that cannot overlap, each with its own length.
-    let answer = unsafe {
-        raw::lz_write(record_bytes.as_ptr(), record_bytes.len(), frame.as_mut_ptr(), frame.len())
-    };
+fn to_from(door: ToFrom, to: &mut [u8], from: &[u8]) -> [u8; 4] {
+    // As above, with the slices in the other order.
+    let answer = unsafe { door(to.as_mut_ptr(), to.len(), from.as_ptr(), from.len()) };
     answer.to_be_bytes()
 }

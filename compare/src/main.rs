@@ -4,6 +4,8 @@
 //! speed instead, which is not part of the tests.
 
 mod door;
+mod histories;
+mod lines;
 mod measure;
 mod packed;
 mod parity;
@@ -56,4 +58,14 @@ fn main() {
     run("writing, bytes behind the category's bytes", writing::stray_records);
     run("writing, no category", writing::no_category);
     run("written and read again", writing::there_and_back);
+    run("lines of all kinds", lines::any_lines);
+    run("lines, every byte at every place", lines::characters);
+    run("lines of other lengths", lines::line_lengths);
+    run("lines, buffers of other lengths", lines::record_lengths);
+    run("lines, written", lines::written);
+    run("lines, written and read again", lines::there_and_back);
+    run("stores, histories of all kinds", histories::any_histories);
+    run("stores, arguments of other lengths", histories::other_lengths);
+    run("stores, record bytes that no record has", histories::stray_records);
+    run("stores, document 004", histories::document_004);
 }

@@ -93,14 +93,15 @@ fn refused_buffer(count: &mut Count, frame: &[u8], length: usize) {
     count.same(frame, &(answer, buffer), &([255, 0, 0, 0], pattern(length)));
 }
 
-fn frame_of(record: &Record) -> Frame {
+/// The frame of a record that is valid.
+pub fn frame_of(record: &Record) -> Frame {
     let mut frame = [0; 32];
     write(record, &mut frame).expect("a sample is valid");
     frame
 }
 
 /// The bytes that the proved reader gives.
-fn bytes_of(frame: &Frame) -> Bytes {
+pub fn bytes_of(frame: &Frame) -> Bytes {
     let mut bytes = [0; LENGTH];
     door::read(frame, &mut bytes);
     bytes

@@ -183,7 +183,7 @@ fn end_of(body: &Body) -> usize {
 
 /// The bytes of a record with something in one place or more behind what its
 /// body has.
-fn with_stray(random: &mut Random, record: &Record) -> Bytes {
+pub fn with_stray(random: &mut Random, record: &Record) -> Bytes {
     let mut bytes = packed(record);
     let end = end_of(&record.body);
     for _ in 0..1 + random.below(3) {

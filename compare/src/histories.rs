@@ -1,0 +1,210 @@
+//! Histories of page stores, against the reference: after each step its
+//! answer, the buffer that was lent and the whole store.
+
+use crate::packed::{packed, Bytes, LENGTH};
+use crate::reading::{bytes_of, frame_of};
+use crate::writing::with_stray;
+use crate::{door, pattern, Count};
+use reference::generate::{any_bulletin, any_history, any_record, any_store, any_taking};
+use reference::player::{Answer, Player, Step, Stores, STORES};
+use reference::random::Random;
+use reference::record::{Category, Record};
+use reference::samples;
+use reference::store::{Name, Store, StoreBytes, STORE_BYTES};
+
+const HISTORIES: usize = 200_000;
+const BAD_CALLS: usize = 2_000;
+const STRAY_RECORDS: usize = 50_000;
+const DELIVERIES: usize = 500;
+
+/// What a call of the wrong lengths answers.
+const WRONG_LENGTH: Answer = [255, 0, 0, 0];
+
+/// The proved stores, of which only the bytes are known.
+struct Doors([StoreBytes; STORES]);
+
+impl Player for Doors {
+    fn open(&mut self, store: usize, name: &Name) -> Answer {
+        door::open(&name.to_bytes(), &mut self.0[store])
+    }
+
+    fn take(&mut self, store: usize, record: &Record) -> Answer {
+        door::take(&mut self.0[store], &packed(record))
+    }
+
+    fn merge(&mut self, store: usize, other: usize) -> Answer {
+        let other = self.0[other];
+        door::merge(&mut self.0[store], &other)
+    }
+
+    fn report(&mut self, store: usize, counts: &mut [u8]) -> Answer {
+        door::report(&self.0[store], counts)
+    }
+
+    fn text(&mut self, store: usize, buffer: &mut [u8]) -> Answer {
+        door::text(&self.0[store], buffer)
+    }
+
+    fn bytes(&self, store: usize) -> StoreBytes {
+        self.0[store]
+    }
+
+    fn put(&mut self, store: usize, bytes: &StoreBytes) {
+        self.0[store] = *bytes;
+    }
+}
+
+/// Histories of all kinds: takings, merges in any tree, damaged stores.
+pub fn any_histories(count: &mut Count) {
+    let mut random = Random::new(73);
+    for _ in 0..HISTORIES {
+        agree(count, &any_history(&mut random));
+    }
+}
+
+fn agree(count: &mut Count, steps: &[Step]) {
+    let mut ours = Doors([[0; STORE_BYTES]; STORES]);
+    let mut theirs = Stores::default();
+    for step in steps {
+        let store = step.store();
+        let input = [&ours.bytes(store)[..], &argument(&ours, step)].concat();
+        let our_outcome = (ours.play(step), ours.bytes(store));
+        let their_outcome = (theirs.play(step), theirs.bytes(store));
+        count.same(&input, &our_outcome, &their_outcome);
+    }
+}
+
+/// The bytes that a step hands over beside its store.
+fn argument(stores: &Doors, step: &Step) -> Vec<u8> {
+    match step {
+        Step::Open { name, .. } => name.to_bytes().to_vec(),
+        Step::Take { record, .. } => packed(record).to_vec(),
+        Step::Merge { other, .. } => stores.bytes(*other).to_vec(),
+        Step::Report { .. } | Step::Text { .. } | Step::Put { .. } => Vec::new(),
+    }
+}
+
+/// Arguments of other lengths are 255 before all else, and nothing is touched.
+pub fn other_lengths(count: &mut Count) {
+    let mut random = Random::new(74);
+    for _ in 0..BAD_CALLS {
+        let bulletin = any_bulletin(&mut random);
+        let store = any_store(&mut random, &bulletin);
+        let record = packed(&any_taking(&mut random, &bulletin));
+        let name = bulletin.name.to_bytes();
+        for (length, other) in wrong_lengths(STORE_BYTES, STORE_BYTES) {
+            let (lent, given) = (resized(&store, length), resized(&store, other));
+            wrong(count, &lent, |lent| door::merge(lent, &given));
+        }
+        for (length, record_length) in wrong_lengths(STORE_BYTES, LENGTH) {
+            let (lent, given) = (resized(&store, length), resized(&record, record_length));
+            wrong(count, &lent, |lent| door::take(lent, &given));
+        }
+        for (name_length, length) in wrong_lengths(name.len(), STORE_BYTES) {
+            let given = resized(&name, name_length);
+            wrong(count, &pattern(length), |lent| door::open(&given, lent));
+        }
+        for (length, counts) in wrong_lengths(STORE_BYTES, 3) {
+            let given = resized(&store, length);
+            wrong(count, &pattern(counts), |lent| door::report(&given, lent));
+        }
+        for length in [0, STORE_BYTES - 1, STORE_BYTES + 1] {
+            let given = resized(&store, length);
+            wrong(count, &pattern(1134), |lent| door::text(&given, lent));
+        }
+    }
+}
+
+/// Lengths for two arguments, of which at least one is not as it should be.
+fn wrong_lengths(first: usize, second: usize) -> Vec<(usize, usize)> {
+    let near = |right: usize| [0, right - 1, right, right + 1];
+    let pairs = near(first).into_iter().flat_map(|one| near(second).map(|other| (one, other)));
+    pairs.filter(|&pair| pair != (first, second)).collect()
+}
+
+/// A call on a lent buffer must answer 255 and leave the buffer alone.
+fn wrong(count: &mut Count, lent: &[u8], call: impl Fn(&mut [u8]) -> Answer) {
+    let mut after = lent.to_vec();
+    let answer = call(&mut after);
+    count.same(lent, &(answer, after), &(WRONG_LENGTH, lent.to_vec()));
+}
+
+fn resized(bytes: &[u8], length: usize) -> Vec<u8> {
+    let mut bytes = bytes.to_vec();
+    bytes.resize(length, 0);
+    bytes
+}
+
+/// Record bytes that no record has: a sound store refuses them as writing
+/// does, any other with 14.
+pub fn stray_records(count: &mut Count) {
+    let mut random = Random::new(75);
+    for _ in 0..STRAY_RECORDS {
+        let bulletin = any_bulletin(&mut random);
+        let store = any_store(&mut random, &bulletin);
+        let record = stray_record(&mut random);
+        let mut after = store;
+        let answer = door::take(&mut after, &record);
+        let sound = Store::of_bytes(&store).is_sound();
+        let expected = if sound { door::write(&record, &mut [0; 32]) } else { [14, 0, 0, 0] };
+        count.same(&[&store[..], &record].concat(), &(answer, after), &(expected, store));
+    }
+}
+
+/// Record bytes with a first byte that is no category, or with something
+/// behind what the category has.
+fn stray_record(random: &mut Random) -> Bytes {
+    let record = any_record(random);
+    let mut bytes = packed(&record);
+    if record.body.category() == Some(Category::Hypocenter) || random.one_in(2) {
+        bytes[0] = random.pick(&[0, 1, 5, 8, 10, 255]);
+        bytes
+    } else {
+        with_stray(random, &record)
+    }
+}
+
+/// The bulletin of document 004, heard by two receivers in any order with
+/// losses: each frame is read and taken, the two stores are merged, and the
+/// text comes out whole.
+pub fn document_004(count: &mut Count) {
+    let mut random = Random::new(76);
+    let pages = samples::nankai();
+    for pages in pages.chunks(pages.len() / 2) {
+        for _ in 0..DELIVERIES {
+            let (mut east, west) = two_receivers(&mut random, pages);
+            let answer = door::merge(&mut east, &west);
+            count.same(&west, &answer, &[0; 4]);
+            let text = samples::NANKAI_TEXT.as_bytes();
+            let mut lent = pattern(1134);
+            let mut expected = pattern(1134);
+            expected[..text.len()].copy_from_slice(text);
+            let answer = door::text(&east, &mut lent);
+            count.same(&east, &(answer, lent), &((text.len() as u32).to_be_bytes(), expected));
+        }
+    }
+}
+
+/// What two receivers heard of a bulletin, each page by at least one of them.
+fn two_receivers(random: &mut Random, pages: &[Record]) -> (StoreBytes, StoreBytes) {
+    let hearers: Vec<usize> = pages.iter().map(|_| random.below(3)).collect();
+    let mut heard_by = |other: usize| {
+        let both = pages.iter().zip(&hearers).filter(|(_, &hearer)| hearer != other);
+        let mut heard: Vec<&Record> = both.map(|(page, _)| page).collect();
+        random.shuffle(&mut heard);
+        received(&pages[0], &heard)
+    };
+    (heard_by(0), heard_by(1))
+}
+
+/// The store that has taken the frames of these pages, in this order.
+fn received(first: &Record, pages: &[&Record]) -> StoreBytes {
+    let name = Name::of_record(first).expect("it is a Nankai page");
+    let mut store = [0xA5; STORE_BYTES];
+    assert_eq!(door::open(&name.to_bytes(), &mut store), [0; 4]);
+    for page in pages {
+        let record = bytes_of(&frame_of(page));
+        assert_eq!(door::take(&mut store, &record), [0, 0, 0, 1]);
+    }
+    store
+}

@@ -1,0 +1,108 @@
+//! Lines of digits, read into the bytes of a record and written from frames,
+//! against the reference.
+
+use crate::packed::{packed, LENGTH};
+use crate::reading::frame_of;
+use crate::{door, pattern, Count};
+use reference::generate::{any_frame, any_line, slices};
+use reference::line::{line_of_frame, read_line, write_line, DIGITS};
+use reference::random::Random;
+use reference::samples;
+
+const ANY_LINES: usize = 500_000;
+const ANY_FRAMES: usize = 200_000;
+
+/// What a call answers, and the buffer after it.
+type Outcome = ([u8; 4], Vec<u8>);
+
+/// Lines of every kind that the reference builds, and what is no line.
+pub fn any_lines(count: &mut Count) {
+    let mut random = Random::new(63);
+    for _ in 0..ANY_LINES {
+        agree(count, &any_line(&mut random));
+    }
+}
+
+/// Every byte at every place of a line that is otherwise read.
+pub fn characters(count: &mut Count) {
+    let frame = frame_of(&samples::hypocenter()[0]);
+    for place in 0..DIGITS {
+        for character in 0..=255 {
+            let mut line = line_of_frame(&frame);
+            line[place] = character;
+            agree(count, &line);
+        }
+    }
+}
+
+/// Lines of 0 to 300 digits, and a very long one.
+pub fn line_lengths(count: &mut Count) {
+    for length in (0..=300).chain([1_000_000]) {
+        agree(count, &vec![b'0'; length]);
+        agree(count, &vec![b'\r'; length]);
+    }
+}
+
+/// A buffer for the record of another length is 255, whatever the line is.
+pub fn record_lengths(count: &mut Count) {
+    let mut random = Random::new(64);
+    for _ in 0..1000 {
+        let line = any_line(&mut random);
+        for length in [0, LENGTH - 1, LENGTH + 1] {
+            let expected = ([255, 0, 0, 0], pattern(length));
+            count.same(&line, &record_of(&line, length), &expected);
+        }
+    }
+}
+
+/// Frames of every kind, written to buffers that are too short, just long
+/// enough and longer.
+pub fn written(count: &mut Count) {
+    let mut random = Random::new(65);
+    for _ in 0..ANY_FRAMES {
+        let frame = any_frame(&mut random);
+        let any = random.below(130);
+        let length = random.pick(&[DIGITS, DIGITS, DIGITS - 1, DIGITS + 1, 0, any]);
+        agree_on_writing(count, &frame, length);
+    }
+    for slice in slices(&mut random) {
+        agree_on_writing(count, &slice, DIGITS);
+    }
+}
+
+/// What was written as a line is read as its frame is.
+pub fn there_and_back(count: &mut Count) {
+    let mut random = Random::new(66);
+    for _ in 0..ANY_FRAMES {
+        let frame = any_frame(&mut random);
+        let mut line = [0; DIGITS];
+        if door::write_line(&frame, &mut line) == [0; 4] {
+            let mut record = pattern(LENGTH);
+            let answer = door::read(&frame, &mut record);
+            count.same(&frame, &record_of(&line, LENGTH), &(answer, record));
+        }
+    }
+}
+
+fn agree(count: &mut Count, line: &[u8]) {
+    let expected = match read_line(line) {
+        Ok(record) => ([0; 4], packed(&record).to_vec()),
+        Err(refusal) => (refusal.answer(), pattern(LENGTH)),
+    };
+    count.same(line, &record_of(line, LENGTH), &expected);
+}
+
+/// What the proved reader does with a line.
+fn record_of(line: &[u8], length: usize) -> Outcome {
+    let mut record = pattern(length);
+    (door::read_line(line, &mut record), record)
+}
+
+fn agree_on_writing(count: &mut Count, frame: &[u8], length: usize) {
+    let mut ours = pattern(length);
+    let our_answer = door::write_line(frame, &mut ours);
+    let mut theirs = pattern(length);
+    let their_answer = write_line(frame, &mut theirs);
+    let their_answer = their_answer.map_or_else(|refusal| refusal.answer(), |()| [0; 4]);
+    count.same(frame, &(our_answer, ours), &(their_answer, theirs));
+}
