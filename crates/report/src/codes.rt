@@ -10,13 +10,13 @@ use crate::meaning::Depth;
 use crate::meaning::Magnitude;
 use crate::record::Body;
 
-pub fn between(v: u32, lo: u32, hi: u32) -> bool
+pub(crate) fn between(v: u32, lo: u32, hi: u32) -> bool
     ensures { λ r. ⌜ r ≡ leb lo v && leb v hi ⌝ }
 {
     lo <= v && v <= hi
 }
 
-pub fn is_preamble(v: u8) -> bool
+pub(crate) fn is_preamble(v: u8) -> bool
     ensures { λ r. ⌜ r ≡ allowed preambles v ⌝ }
 {
     match v {
@@ -25,7 +25,7 @@ pub fn is_preamble(v: u8) -> bool
     }
 }
 
-pub fn is_category(v: u8) -> bool
+pub(crate) fn is_category(v: u8) -> bool
     ensures { λ r. ⌜ r ≡ allowed categories v ⌝ }
 {
     match v {
@@ -34,7 +34,7 @@ pub fn is_category(v: u8) -> bool
     }
 }
 
-pub fn is_classification(v: u8) -> bool
+pub(crate) fn is_classification(v: u8) -> bool
     ensures { λ r. ⌜ r ≡ allowed (2 to 2 ∷ 7 to 7 ∷ []) v ⌝ }
 {
     match v {
@@ -43,7 +43,7 @@ pub fn is_classification(v: u8) -> bool
     }
 }
 
-pub fn is_notification(v: u16) -> bool
+pub(crate) fn is_notification(v: u16) -> bool
     ensures { λ r. ⌜ r ≡ allowed (0 to 0 ∷ 101 to 500 ∷ []) v ⌝ }
 {
     match v {
@@ -52,7 +52,7 @@ pub fn is_notification(v: u16) -> bool
     }
 }
 
-pub fn is_depth(v: u16) -> bool
+pub(crate) fn is_depth(v: u16) -> bool
     ensures { λ r. ⌜ r ≡ allowed (0 to 501 ∷ 511 to 511 ∷ []) v ⌝ }
 {
     match Depth::of(v) {
@@ -63,7 +63,7 @@ pub fn is_depth(v: u16) -> bool
     }
 }
 
-pub fn is_magnitude(v: u8) -> bool
+pub(crate) fn is_magnitude(v: u8) -> bool
     ensures { λ r. ⌜ r ≡ allowed (1 to 101 ∷ 126 to 126 ∷ 127 to 127 ∷ []) v ⌝ }
 {
     match Magnitude::of(v) {
@@ -75,7 +75,7 @@ pub fn is_magnitude(v: u8) -> bool
 }
 
 // Issue or cancellation.
-pub fn is_uncorrected(v: u8) -> bool
+pub(crate) fn is_uncorrected(v: u8) -> bool
     ensures { λ r. ⌜ r ≡ allowed (0 to 0 ∷ 2 to 2 ∷ []) v ⌝ }
 {
     match v {
@@ -86,7 +86,7 @@ pub fn is_uncorrected(v: u8) -> bool
 
 impl Body {
     // Issue or cancellation; in an ash fall report also correction.
-    pub fn has_type(self, v: u8) -> bool
+    pub(crate) fn has_type(self, v: u8) -> bool
         ensures { λ r. ⌜ r ≡ allowed (layout self .types) v ⌝ }
     {
         match self {
