@@ -20,7 +20,7 @@ use Rattle.bulletin.specs.Names.{firstPage, nameVerdict, isFine, nameInR
 use Rattle.bulletin.specs.Pages.{soundFrom}
 use Rattle.bulletin.specs.Stores.{soundStore}
 use Rattle.bulletin.specs.Text.{textVerdict}
-use Rattle.bulletin.proofs.Admitted.{past-text}
+use Rattle.bulletin.proofs.Admitted.{Numbered, past-text}
 
 pub is-fine : (v : Verdict) → isFine v ≡ true → v ≡ Fine
 is-fine Fine e = refl
@@ -44,10 +44,13 @@ pub first-bad-value : (n : Name) (x : Refusal) → nameVerdict n ≡ Refused x �
 unfolding nameVerdict
 first-bad-value n x e = record { there = judged n .found x e; lowest = λ y f. turn-place x y (judged n .earliest x y e f) }
 
+-- its first page is page 1 of a total from 1 to 63
+pub name-numbered : (n : Name) → nameVerdict n ≡ Fine → Numbered (record { serial = n .serial; number = 1; total = n .total })
+unfolding values bodyValues
+name-numbered n h = past-text 18 57 (n .serial) (firstPage n .text) _ refl (fine-holds n h .body .1)
+
 pub total-most : (n : Name) → nameVerdict n ≡ Fine → n .total ≤ 63
-unfolding values bodyValues layout
-total-most n h =
-    past-text 18 57 (n .serial) (firstPage n .text) (record { serial = n .serial; number = 1; total = n .total }) refl (fine-holds n h .body .1) .most
+total-most n h = name-numbered n h .most
 
 -- soundness taken apart
 pub sound-parts : (s : Store) → soundStore s ≡ true → (nameVerdict (s .name) ≡ Fine) × (soundFrom (s .name .total) 0 (s .pages) ≡ true)
