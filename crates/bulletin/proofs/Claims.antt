@@ -22,13 +22,14 @@ use Rattle.bulletin.specs.declared.name.Name.{Name}
 use Rattle.bulletin.specs.declared.store.Store.{Store}
 use Rattle.bulletin.specs.declared.take.Admission.{Admission}
 use Rattle.bulletin.specs.declared.take.Admission.the-variants.{Number, Refused as NotAdmitted}
+use Rattle.bulletin.specs.declared.take.Taken.the-variants.{New, Same, Disputed, Refused as RefusedTaking}
 use Rattle.bulletin.specs.Pages.{noPage, join, heldPage, disputedPage}
 use Rattle.report.specs.Layout.{nankai}
 use Rattle.report.specs.Records.{values}
 use Rattle.report.specs.Reasons.{Lowest}
 use Rattle.bulletin.specs.Names.{firstPage, nameVerdict, sameName}
 use Rattle.bulletin.specs.Stores.{noPages, zeroStore, opening, openOf, soundStore, at}
-use Rattle.bulletin.specs.Takings.{nameOf, belongs, writable, admission, putPage, taking, takeOf}
+use Rattle.bulletin.specs.Takings.{told, nameOf, belongs, writable, admission, putPage, taking, takeOf}
 use Rattle.bulletin.specs.Merges.{mergeVerdict, joined, merging, mergeOf}
 use Rattle.bulletin.proofs.Admitted.{of-bulletin, writable-record}
 use Rattle.bulletin.proofs.Ranges.{first-bad-value}
@@ -52,6 +53,20 @@ a-refused-opening-gives-zeros n x e = ap (λ (v : Verdict). opening v n .store) 
 pub a-refused-taking-leaves-the-store : (s : Store) (r : Record) (x : Refusal) → admission s r ≡ NotAdmitted x → takeOf s r .store ≡ s
 unfolding taking
 a-refused-taking-leaves-the-store s r x e = ap (λ (a : Admission). taking a s (r .text) .store) e
+
+-- the same, told by the answer
+not-a-refusal : (b c : Bool) (x : Refusal) → cond b New (cond c Same Disputed) ≡ RefusedTaking x → ⊥
+not-a-refusal true c x e = let z : _≡_ {A = ℕ} 0 1 = cc in omega (arith, z)
+not-a-refusal false true x e = let z : _≡_ {A = ℕ} 0 1 = cc in omega (arith, z)
+not-a-refusal false false x e = let z : _≡_ {A = ℕ} 0 1 = cc in omega (arith, z)
+
+pub an-answered-refusal-leaves-the-store : (s : Store) (r : Record) (x : Refusal) → takeOf s r .answer ≡ RefusedTaking x → takeOf s r .store ≡ s
+unfolding taking putPage told
+an-answered-refusal-leaves-the-store s r x = by (admission s r)
+  where
+    by : (a : Admission) → taking a s (r .text) .answer ≡ RefusedTaking x → taking a s (r .text) .store ≡ s
+    by (Number k) e = absurd (not-a-refusal (eqb (at s (k - 1) .mark) 0) (eqb (join (at s (k - 1)) (heldPage (r .text)) .mark) 1) x e)
+    by (NotAdmitted y) e = refl
 
 -- "a refused merge [gives] the first store as given"
 pub a-refused-merge-gives-the-first : (s o : Store) (x : Refusal) → mergeVerdict s o ≡ Refused x → mergeOf s o .store ≡ s

@@ -1,3 +1,4 @@
+pub mod Claims
 pub mod Reading
 pub mod Writing
 pub mod StoreDoors

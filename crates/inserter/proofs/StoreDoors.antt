@@ -26,7 +26,7 @@ use Rattle.bulletin.specs.Counts.{reportOf}
 use Rattle.bulletin.specs.Text.{flat, lengthOf, textVerdict, roomFor, telling, tellOf, textOf}
 use Rattle.bulletin.proofs.Flat.{textLength-most}
 use Rattle.bulletin.proofs.Ranges.{total-most, sound-parts, fine-sound}
-use Rattle.packed.specs.Unpacked.{recordFrom}
+use Rattle.packed.specs.Unpacked.{unpacked, recordFrom}
 use Rattle.packed.specs.Shelves.{storeBytes, storeInto, nameFrom, nameOf, storeFrom, storeOf}
 use Rattle.inserter.specs.Answers.{Left, left, word, called, opened, openInto, takenWord, taken, takeInto, merged, mergeInto, counted, reportInto, lengthOr, told, textInto}
 use Rattle.inserter.proofs.Writing.{record-whole}
@@ -79,6 +79,18 @@ merging-left buffer other out s o m answer e f kept came is put said =
     let first = kept ∙ store-whole buffer e in
     let second = came ∙ store-whole other f in
     (λ i. left (said i) (wrote i)) ∙ ap merged (is ∙ (λ i. mergeOf (first i) (second i))) ∙ through _ _ buffer (both e f)
+
+-- the same, told of the buffer alone
+
+pub taking-buffer : (buffer bytes : List ℕ) → length buffer ≡ 1205 → length bytes ≡ 145
+    → takeInto buffer bytes .buffer ≡ storeBytes (takeOf (storeFrom buffer) (unpacked bytes) .store)
+unfolding takeInto
+taking-buffer buffer bytes e f = sym (ap (λ (l : Left). l .buffer) (through _ (taken (takeOf (storeFrom buffer) (unpacked bytes))) buffer (both e f)))
+
+pub merging-buffer : (buffer other : List ℕ) → length buffer ≡ 1205 → length other ≡ 1205
+    → mergeInto buffer other .buffer ≡ storeBytes (mergeOf (storeFrom buffer) (storeFrom other) .store)
+unfolding mergeInto
+merging-buffer buffer other e f = sym (ap (λ (l : Left). l .buffer) (through _ (merged (mergeOf (storeFrom buffer) (storeFrom other))) buffer (both e f)))
 
 -- ---- what a store has, and its text
 
