@@ -31,7 +31,7 @@ impl Store {
     }
 
     // The lowest page of the bulletin that is not held.
-    pub fn lowest(self) -> u8
+    pub(crate) fn lowest(self) -> u8
         ensures is { λ r. ⌜ r ≡ lowest (self .name .total) 0 (self .pages) ⌝ }
         ensures small { λ r. ⌜ r ≤ 63 ⌝ }
     {

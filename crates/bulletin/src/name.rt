@@ -84,13 +84,13 @@ impl Name {
 
     // 8 at the first value that is out of range, in the order of a frame: a name is in range where
     // its first page is, so the ranges of a frame's fields stand in one place.
-    pub fn verdict(self) -> Verdict
+    pub(crate) fn verdict(self) -> Verdict
         ensures { λ r. ⌜ r ≡ nameVerdict self ⌝ }
     {
         check(self.first_page(), 0, 0)
     }
 
-    pub fn is_in_range(self) -> bool
+    pub(crate) fn is_in_range(self) -> bool
         ensures { λ r. ⌜ r ≡ nameInRange self ⌝ }
     {
         match self.verdict() {
@@ -99,7 +99,7 @@ impl Name {
         }
     }
 
-    pub fn is(self, other: Name) -> bool
+    pub(crate) fn is(self, other: Name) -> bool
         ensures { λ r. ⌜ r ≡ sameName self other ⌝ }
     {
         let a = self.common;

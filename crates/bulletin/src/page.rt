@@ -33,7 +33,7 @@ impl Page {
         }
     }
 
-    pub fn held(text: [u8; Store::BYTES]) -> Page
+    pub(crate) fn held(text: [u8; Store::BYTES]) -> Page
         ensures { λ r. ⌜ r ≡ heldPage text ⌝ }
     {
         Page {
@@ -42,7 +42,7 @@ impl Page {
         }
     }
 
-    pub fn disputed() -> Page
+    pub(crate) fn disputed() -> Page
         ensures { λ r. ⌜ r ≡ disputedPage ⌝ }
     {
         let text = [0u8; Store::BYTES];
@@ -53,7 +53,7 @@ impl Page {
     }
 
     // What two receivers have of a page.
-    pub fn join(self, other: Page) -> Page
+    pub(crate) fn join(self, other: Page) -> Page
         ensures { λ r. ⌜ r ≡ join self other ⌝ }
     {
         if self.mark == 0 {
@@ -77,7 +77,7 @@ impl Page {
     }
 
     // One of the three, and without bytes unless it is held.
-    pub fn is_sound(self) -> bool
+    pub(crate) fn is_sound(self) -> bool
         ensures { λ r. ⌜ r ≡ soundPage self ⌝ }
     {
         if self.mark == 1 {
@@ -92,7 +92,7 @@ impl Page {
     }
 
     // The same of the page behind i others, which is absent past the total.
-    pub fn is_sound_at(self, i: usize, total: u8) -> bool
+    pub(crate) fn is_sound_at(self, i: usize, total: u8) -> bool
         ensures { λ r. ⌜ r ≡ soundAt total i self ⌝ }
     {
         if !self.is_sound() {

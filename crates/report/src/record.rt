@@ -94,7 +94,7 @@ pub struct Record {
 
 impl SlotKind {
     // How many slots there are.
-    pub fn count(self) -> usize
+    pub(crate) fn count(self) -> usize
         ensures { λ r. ⌜ r ≡ slotCount self ⌝ }
     {
         match self {
@@ -105,7 +105,7 @@ impl SlotKind {
     }
 
     // The first bit of the first one.
-    pub fn first(self) -> u8
+    pub(crate) fn first(self) -> u8
         ensures { λ r. ⌜ r ≡ slotFirst self ⌝ }
     {
         match self {
@@ -116,7 +116,7 @@ impl SlotKind {
     }
 
     // How wide each is.
-    pub fn bits(self) -> u8
+    pub(crate) fn bits(self) -> u8
         ensures { λ r. ⌜ r ≡ slotBits self ⌝ }
     {
         match self {
@@ -155,7 +155,7 @@ impl Body {
     }
 
     // The first bit of its category's spare, which ends before bit 214.
-    pub fn spare_first(self) -> u8
+    pub(crate) fn spare_first(self) -> u8
         ensures { λ r. ⌜ r ≡ layout self .spareFirst ⌝ }
     {
         match self {
@@ -170,7 +170,7 @@ impl Body {
 
 impl Slot {
     // All its bits are zero: "an empty slot is never named".
-    pub fn empty(self, kind: SlotKind) -> bool
+    pub(crate) fn empty(self, kind: SlotKind) -> bool
         ensures { λ r. ⌜ r ≡ empty (slotValues kind self) ⌝ }
     {
         match kind {
