@@ -1,0 +1,299 @@
+/*
+ * Lavendelzug for C and C++: reading and writing DC Report frames of message
+ * type 43 in categories 2 (hypocenter), 3 (seismic intensity), 4 (Nankai
+ * Trough) and 9 (ash fall), and gathering the pages of a Nankai bulletin.
+ *
+ * Link target/staticlib/libinserter.a, which `rt staticlib inserter` writes for
+ * x86-64; it needs memcpy and memset. The functions work on buffers lent as a
+ * pointer and a length, never write to a const one, keep nothing between calls
+ * and take no other memory than the stack.
+ *
+ * What the caller guarantees. Whatever bytes are lent, and however many, each
+ * function answers as said below. But nobody proves what a program in another
+ * language passes: the promises hold where, during the call,
+ *
+ *   - a pointer is not null, even where its length is 0, and as many bytes as
+ *     the length says can be read there, and also written where it is not const;
+ *   - those bytes have been given values, in a buffer for the answer too;
+ *   - two buffers of one call share no byte, so a store is not merged with
+ *     itself: lend a copy;
+ *   - no one else, be it a thread, a signal handler or a device, writes any of
+ *     the bytes, or reads those that are not const; where they are of a mapped
+ *     file, nothing shortens the file either.
+ *
+ * Calls on different buffers may run at the same time.
+ */
+#ifndef LAVENDELZUG_H
+#define LAVENDELZUG_H
+
+#include <stddef.h>
+#include <stdint.h>
+
+#ifdef __cplusplus
+extern "C" {
+#endif
+
+/* ---- Lengths in bytes ---- */
+#define LZ_FRAME_BYTES 32    /* 250 bits, most significant first, then six zeros */
+#define LZ_LINE_DIGITS 63    /* a frame as text, without an end of line */
+#define LZ_RECORD_BYTES 145  /* what a frame says */
+#define LZ_NAME_BYTES 8      /* which bulletin */
+#define LZ_STORE_BYTES 1205  /* a bulletin's pages */
+#define LZ_COUNT_BYTES 3     /* held, disputed, lowest */
+#define LZ_TEXT_MOST 1134    /* no text of a bulletin is longer */
+
+/*
+ * ---- An answer ----
+ *
+ * One word: the number of the refusal in the high byte, 0 where nothing is
+ * refused, then place, page and mark, each 0 unless the refusal names it. Where
+ * nothing is refused, three functions answer a value, which never reaches the
+ * high byte: lz_parity a parity, lz_take a number from 1 to 3, lz_text a length.
+ */
+#define LZ_NUMBER(answer) ((uint8_t)((uint32_t)(answer) >> 24))
+#define LZ_PLACE(answer) ((uint8_t)((uint32_t)(answer) >> 16))
+#define LZ_PAGE(answer) ((uint8_t)((uint32_t)(answer) >> 8))
+#define LZ_MARK(answer) ((uint8_t)(uint32_t)(answer))
+
+#define LZ_FINE 0                     /* nothing is refused */
+#define LZ_REFUSED_LENGTH 1           /* a frame is not 32 bytes long */
+#define LZ_REFUSED_PADDING 2          /* the six bits behind the frame are not all zero */
+#define LZ_REFUSED_PREAMBLE 3         /* the preamble is not 53, 9A or C6 hexadecimal */
+#define LZ_REFUSED_PARITY 4           /* the parity in the frame is not that of its bits */
+#define LZ_REFUSED_MESSAGE 5          /* the message type is not 43 */
+#define LZ_REFUSED_VERSION 6          /* the version is not 1 */
+#define LZ_REFUSED_CATEGORY 7         /* the category is not 2, 3, 4 or 9 */
+#define LZ_REFUSED_RANGE 8            /* a field is out of its range; place: its first bit */
+#define LZ_REFUSED_SPARE 9            /* a spare field is not zero; place: its first bit */
+#define LZ_REFUSED_GAP 10             /* a slot is used behind an empty one; place: its first bit */
+#define LZ_REFUSED_UNUSED 11          /* a record has something where its category has nothing */
+#define LZ_REFUSED_NO_PAGE 12         /* a record is not of category 4 */
+#define LZ_REFUSED_OTHER_BULLETIN 13  /* a page or a store is of another bulletin */
+#define LZ_REFUSED_UNSOUND 14         /* a store is not one that pages taken can give */
+#define LZ_REFUSED_NOT_HELD 15        /* a page is not held; page: the lowest such, mark: why */
+#define LZ_REFUSED_SHORT 16           /* a buffer is shorter than what would go into it */
+#define LZ_REFUSED_LINE 17            /* a line is not 63 hexadecimal digits, of either case */
+#define LZ_WRONG_CALL 255             /* a buffer has a length that this call does not take */
+
+#define LZ_MARK_ABSENT 1    /* with 15: no text of the page was taken */
+#define LZ_MARK_DISPUTED 2  /* with 15: more than one was */
+
+/*
+ * ---- A record: 145 bytes ----
+ *
+ * Each number stands at a fixed place, in one byte unless more are named, the most
+ * significant byte first. The ranges are those that are read and written.
+ *
+ *   at   what                      range
+ *    0   category                  2, 3, 4, 9
+ *    1   preamble                  53, 9A, C6 hexadecimal
+ *    2   Reserved                  0-63
+ *    3   Rc                        2, 7
+ *    4   month, day, hour, minute  1-12, 1-31, 0-23, 0-59: when it was issued
+ *    8   It                        0, 2; in category 9 also 1
+ *    9   22 bytes by category, zero where the category uses fewer
+ *   31   16 slots of 6 bytes
+ *  127   18 bytes of text: any in category 4, else zero
+ */
+#define LZ_RECORD_CATEGORY 0
+#define LZ_RECORD_PREAMBLE 1
+#define LZ_RECORD_RESERVED 2
+#define LZ_RECORD_RC 3
+#define LZ_RECORD_MONTH 4
+#define LZ_RECORD_DAY 5
+#define LZ_RECORD_HOUR 6
+#define LZ_RECORD_MINUTE 7
+#define LZ_RECORD_IT 8
+#define LZ_RECORD_TEXT 127
+
+/*
+ * Category 2. Depth 501 is deeper than 500 km, 511 unknown. Magnitude 126 is
+ * above 8.0 without a moment magnitude, 127 unknown. Side 0 is north or east.
+ *
+ *    9   three notifications       2 bytes each: 0 (none), 101-500
+ *   15   day, hour, minute         1-31, 0-23, 0-59: when the earthquake was
+ *   18   depth in km               2 bytes: 0-501, 511
+ *   20   magnitude in tenths       1-101, 126, 127
+ *   21   epicenter                 2 bytes: 11-1000
+ *   23   latitude: side, degrees, minutes, seconds   0-1, 0-89, 0-59, 0-59
+ *   27   longitude: the same                         0-1, 0-179, 0-59, 0-59
+ */
+#define LZ_QUAKE_NOTIFICATIONS 9
+#define LZ_QUAKE_DAY 15
+#define LZ_QUAKE_HOUR 16
+#define LZ_QUAKE_MINUTE 17
+#define LZ_QUAKE_DEPTH 18
+#define LZ_QUAKE_MAGNITUDE 20
+#define LZ_QUAKE_EPICENTER 21
+#define LZ_QUAKE_LATITUDE 23
+#define LZ_QUAKE_LONGITUDE 27
+
+/* Category 3: when the earthquake was, as above. */
+#define LZ_INTENSITY_DAY 9
+#define LZ_INTENSITY_HOUR 10
+#define LZ_INTENSITY_MINUTE 11
+
+/* Category 4: Is (1-15), page number (1-63), page total (from the number to 63). */
+#define LZ_NANKAI_IS 9
+#define LZ_NANKAI_PAGE 10
+#define LZ_NANKAI_TOTAL 11
+
+/* Category 9: the time as above, warning type (1-2), volcano (2 bytes: 101-4000). */
+#define LZ_ASH_DAY 9
+#define LZ_ASH_HOUR 10
+#define LZ_ASH_MINUTE 11
+#define LZ_ASH_WARNING 12
+#define LZ_ASH_VOLCANO 13
+
+/*
+ * Slot number i, counted from 0, starts at LZ_RECORD_SLOT(i). The first slot is
+ * used; a later one is empty where all of it is zero, and then so are those
+ * behind it. An empty slot has no name in any table.
+ *
+ *              hour   strength         place (4 bytes)
+ *   category 3    0   intensity 1-7    prefecture 1-47        16 slots
+ *   category 9  1-6   1-7              place 110000-4799999    4 slots
+ */
+#define LZ_RECORD_SLOT(i) (31 + LZ_SLOT_BYTES * (i))
+#define LZ_SLOTS 16
+#define LZ_SLOT_BYTES 6
+#define LZ_SLOT_HOUR 0
+#define LZ_SLOT_STRENGTH 1
+#define LZ_SLOT_PLACE 2
+
+/*
+ * ---- A name: 8 bytes, and a store: 1205 ----
+ *
+ *    0   Rc                        2, 7
+ *    1   month, day, hour, minute  as in a record
+ *    5   It                        0, 2
+ *    6   Is                        1-15
+ *    7   page total                1-63
+ *
+ * So far a name. In a store follow 63 pages of 19 bytes, of which page k,
+ * counted from 1, starts at LZ_STORE_PAGE(k): its state, then 18 bytes of text.
+ *
+ * A store is sound where its name is in range, each state is one of the three,
+ * pages that are absent or disputed have zeros for a text, and pages past the
+ * total are absent. It may be kept and copied as bytes.
+ */
+#define LZ_NAME_RC 0
+#define LZ_NAME_MONTH 1
+#define LZ_NAME_DAY 2
+#define LZ_NAME_HOUR 3
+#define LZ_NAME_MINUTE 4
+#define LZ_NAME_IT 5
+#define LZ_NAME_IS 6
+#define LZ_NAME_TOTAL 7
+#define LZ_STORE_PAGE(k) (LZ_NAME_BYTES + 19 * ((k) - 1))
+#define LZ_PAGE_STATE 0
+#define LZ_PAGE_TEXT 1
+#define LZ_PAGE_TEXT_BYTES 18
+
+/* States. The mark of an answer counts otherwise, since there 0 is no mark. */
+#define LZ_STATE_ABSENT 0
+#define LZ_STATE_HELD 1
+#define LZ_STATE_DISPUTED 2
+
+/* ---- Frames ---- */
+
+/*
+ * Answers the parity of bits 0 to 225 of a frame, which has 24 bits. The parity
+ * and the padding that stand in the frame are not looked at. Refuses: 1.
+ */
+uint32_t lz_parity(const uint8_t *frame, size_t frame_length);
+
+/*
+ * Reads a frame into a record, whose writing gives the same frame, and answers 0.
+ * Where something is refused the record's buffer stays as it was.
+ * Refuses: 255 where record_length is not 145; 1, 2, 3, 4, 5, 6, 7; then 8, 9
+ * and 10 by the lowest place.
+ */
+uint32_t lz_read(const uint8_t *frame, size_t frame_length,
+                 uint8_t *record_bytes, size_t record_length);
+
+/*
+ * Writes a record to a frame, whose reading gives the same record, and answers 0.
+ * Where something is refused the frame's buffer stays as it was.
+ * Refuses: 255 where record_length is not 145; 1, 3, 7, 11; then 8 and 10 by the
+ * lowest place.
+ */
+uint32_t lz_write(const uint8_t *record_bytes, size_t record_length,
+                  uint8_t *frame, size_t frame_length);
+
+/*
+ * Reads a line, which is lent without its end of line, into a record as lz_read
+ * reads a frame. Refuses: 255 where record_length is not 145; 17; 2 to 10.
+ */
+uint32_t lz_read_line(const uint8_t *line, size_t line_length,
+                      uint8_t *record_bytes, size_t record_length);
+
+/*
+ * Writes a frame as 63 digits with capital letters to the front of a buffer, and
+ * answers 0. No zero and no end of line is put behind them: the other bytes stay
+ * as they were, and where something is refused all of them do. The frame need
+ * not be one that can be read. Refuses: 1, 2, 16.
+ */
+uint32_t lz_write_line(const uint8_t *frame, size_t frame_length,
+                       uint8_t *line, size_t line_length);
+
+/*
+ * ---- The pages of a Nankai bulletin ----
+ *
+ * Before all else each of these answers 255, and touches nothing, where a name
+ * is not 8 bytes long, a store not 1205, a record not 145 or counts not 3.
+ */
+
+/*
+ * Opens a store for the bulletin of a name, with every page absent, and answers
+ * 0. Where a value of the name is out of range the store becomes zeros, which is
+ * no sound store. Refuses: 8 with the place in a frame of the first such value:
+ * 14, 21, 25, 30, 35, 41, 53 or 207.
+ */
+uint32_t lz_open(const uint8_t *name, size_t name_length,
+                 uint8_t *store, size_t store_length);
+
+/*
+ * Takes the page of a record into a store, and answers what became of it. Two
+ * texts for a page make it disputed, and it stays so. Preamble and Reserved play
+ * no part. Where something is refused the store stays as it was.
+ * Refuses: 14; what writing that record to 32 bytes refuses; 12, 13.
+ */
+#define LZ_TAKEN_NEW 1       /* it was absent and is held now */
+#define LZ_TAKEN_SAME 2      /* it was held with this text */
+#define LZ_TAKEN_DISPUTED 3  /* it is disputed, from now on or already before */
+uint32_t lz_take(uint8_t *store, size_t store_length,
+                 const uint8_t *record_bytes, size_t record_length);
+
+/*
+ * Merges another store of the same bulletin into a store, which then is as if it
+ * had taken the pages of both, and answers 0. Where something is refused the
+ * store stays as it was. Refuses: 14 where either store is not sound; 13.
+ */
+uint32_t lz_merge(uint8_t *store, size_t store_length,
+                  const uint8_t *other, size_t other_length);
+
+/*
+ * Puts into three bytes how many pages are held, how many are disputed, and the
+ * lowest page that is not held, 0 where all are, and answers 0. A bulletin is
+ * complete where all are held, however many frames came. Where something is
+ * refused the three bytes become zeros. Refuses: 14.
+ */
+uint32_t lz_report(const uint8_t *store, size_t store_length,
+                   uint8_t *counts, size_t counts_length);
+
+/*
+ * Puts the texts of the pages in their order, less all zero bytes at the end, to
+ * the front of a buffer of any length, and answers how many bytes that are: 0 to
+ * LZ_TEXT_MOST. The bytes behind them stay as they were, and where something is
+ * refused all of them do. A character may cross from one page into the next.
+ * Refuses: 14, 15, 16.
+ */
+uint32_t lz_text(const uint8_t *store, size_t store_length,
+                 uint8_t *text, size_t text_length);
+
+#ifdef __cplusplus
+}
+#endif
+
+#endif
