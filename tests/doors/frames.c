@@ -1,0 +1,109 @@
+/* Parity, frames and lines through the header. */
+#include "groups.h"
+
+#include "check.h"
+#include "lavendelzug.h"
+#include "samples.h"
+
+#include <ctype.h>
+#include <stdio.h>
+
+/* Room behind a buffer, in which a call must not write. */
+#define BEHIND 9
+
+/* A word taken apart, and the tables of the header: each ends where it should. */
+void check_header(void)
+{
+    SAME_WORD(0xFE, LZ_NUMBER(0xFEDCBA98u));
+    SAME_WORD(0xDC, LZ_PLACE(0xFEDCBA98u));
+    SAME_WORD(0xBA, LZ_PAGE(0xFEDCBA98u));
+    SAME_WORD(0x98, LZ_MARK(0xFEDCBA98u));
+    SAME_WORD(LZ_RECORD_TEXT, LZ_RECORD_SLOT(LZ_SLOTS));
+    SAME_WORD(LZ_RECORD_BYTES, LZ_RECORD_TEXT + LZ_PAGE_TEXT_BYTES);
+    SAME_WORD(LZ_STORE_BYTES, LZ_STORE_PAGE(64));
+}
+
+/* Values known from elsewhere: CRC-24Q's own check value, and document 004's frames. */
+void check_parity(void)
+{
+    uint8_t frame[LZ_FRAME_BYTES + 1] = {0};
+    for (unsigned i = 0; i < 9; i++) {
+        put(frame, 154 + 8 * i, 8, '1' + i);
+    }
+    SAME_WORD(0xCDE703, lz_parity(frame, LZ_FRAME_BYTES));
+    frame_of(intensity_line, frame);
+    SAME_WORD(0x104B78, lz_parity(frame, LZ_FRAME_BYTES));
+    frame_of(hypocenter_line, frame);
+    SAME_WORD(0xC24C39, lz_parity(frame, LZ_FRAME_BYTES));
+    put(frame, 226, 30, 0x3FFFFFFF);
+    SAME_WORD(0xC24C39, lz_parity(frame, LZ_FRAME_BYTES));
+    put(frame, 100, 1, 1);
+    SAME_WORD(0x8B80B1, lz_parity(frame, LZ_FRAME_BYTES));
+    SAME_WORD(refused(LZ_REFUSED_LENGTH), lz_parity(frame, 0));
+    SAME_WORD(refused(LZ_REFUSED_LENGTH), lz_parity(frame, LZ_FRAME_BYTES - 1));
+    SAME_WORD(refused(LZ_REFUSED_LENGTH), lz_parity(frame, LZ_FRAME_BYTES + 1));
+}
+
+/* A line, its frame and its record: each is had from another one. */
+static void check_sample(const char *digits, const uint8_t *record)
+{
+    const uint8_t *line = (const uint8_t *)digits;
+    uint8_t frame[LZ_FRAME_BYTES];
+    uint8_t lent[LZ_RECORD_BYTES + BEHIND];
+    frame_of(digits, frame);
+
+    fill(lent, sizeof lent);
+    SAME_WORD(LZ_FINE, lz_read(frame, LZ_FRAME_BYTES, lent, LZ_RECORD_BYTES));
+    SAME_BYTES(record, lent, LZ_RECORD_BYTES);
+    UNTOUCHED(lent, LZ_RECORD_BYTES, sizeof lent);
+
+    fill(lent, sizeof lent);
+    SAME_WORD(LZ_FINE, lz_read_line(line, LZ_LINE_DIGITS, lent, LZ_RECORD_BYTES));
+    SAME_BYTES(record, lent, LZ_RECORD_BYTES);
+    UNTOUCHED(lent, LZ_RECORD_BYTES, sizeof lent);
+
+    fill(lent, sizeof lent);
+    SAME_WORD(LZ_FINE, lz_write(record, LZ_RECORD_BYTES, lent, LZ_FRAME_BYTES));
+    SAME_BYTES(frame, lent, LZ_FRAME_BYTES);
+    UNTOUCHED(lent, LZ_FRAME_BYTES, sizeof lent);
+
+    fill(lent, sizeof lent);
+    SAME_WORD(LZ_FINE, lz_write_line(frame, LZ_FRAME_BYTES, lent, sizeof lent));
+    SAME_BYTES(line, lent, LZ_LINE_DIGITS);
+    UNTOUCHED(lent, LZ_LINE_DIGITS, sizeof lent);
+}
+
+void check_samples(void)
+{
+    uint8_t record[LZ_RECORD_BYTES];
+    hypocenter_record(record);
+    check_sample(hypocenter_line, record);
+    intensity_record(record);
+    check_sample(intensity_line, record);
+    nankai_record(record);
+    check_sample(nankai_line, record);
+    ash_fall_record(record);
+    check_sample(ash_fall_line, record);
+}
+
+/* Lines of standard input, read in small letters and written back. */
+void check_all_samples(void)
+{
+    char line[LZ_LINE_DIGITS + 2];
+    uint8_t small[LZ_LINE_DIGITS];
+    uint8_t record[LZ_RECORD_BYTES] = {0};
+    uint8_t frame[LZ_FRAME_BYTES] = {0};
+    uint8_t back[LZ_LINE_DIGITS] = {0};
+    uint32_t count = 0;
+    while (fgets(line, sizeof line, stdin) != NULL) {
+        for (unsigned i = 0; i < LZ_LINE_DIGITS; i++) {
+            small[i] = (uint8_t)tolower((unsigned char)line[i]);
+        }
+        SAME_WORD(LZ_FINE, lz_read_line(small, sizeof small, record, sizeof record));
+        SAME_WORD(LZ_FINE, lz_write(record, sizeof record, frame, sizeof frame));
+        SAME_WORD(LZ_FINE, lz_write_line(frame, sizeof frame, back, sizeof back));
+        SAME_BYTES((const uint8_t *)line, back, LZ_LINE_DIGITS);
+        count++;
+    }
+    SAME_WORD(70, count);
+}

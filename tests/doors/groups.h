@@ -1,0 +1,30 @@
+/* The groups of checks. Each returns where all of it is as expected. */
+#ifndef GROUPS_H
+#define GROUPS_H
+
+/* frames.c */
+void check_header(void);
+void check_parity(void);
+void check_samples(void);
+void check_all_samples(void);
+
+/* refusals.c */
+void check_reading_refused(void);
+void check_writing_refused(void);
+void check_lines_refused(void);
+void check_frame_calls_wrong(void);
+
+/* bulletins.c */
+void check_opening(void);
+void check_taking(void);
+void check_as_many_frames_as_pages(void);
+void check_text(void);
+void check_merging(void);
+
+/* bulletin_refusals.c */
+void check_taking_refused(void);
+void check_merging_refused(void);
+void check_unsound(void);
+void check_bulletin_calls_wrong(void);
+
+#endif

@@ -1,0 +1,43 @@
+/*
+ * The functions of include/lavendelzug.h, called from C. Prints a line for each
+ * group of checks and ends with an error at the first difference. Standard input
+ * has the lines of document 004's reports.
+ */
+#include "groups.h"
+
+#include <stdio.h>
+
+struct group {
+    const char *name;
+    void (*check)(void);
+};
+
+static const struct group groups[] = {
+    {"answers and tables of the header", check_header},
+    {"known parities", check_parity},
+    {"a report of each category, both ways", check_samples},
+    {"reports of document 004, read and written back", check_all_samples},
+    {"refused readings, in their order", check_reading_refused},
+    {"refused writings, in their order", check_writing_refused},
+    {"refused lines", check_lines_refused},
+    {"frames and records of other lengths", check_frame_calls_wrong},
+    {"opening a store", check_opening},
+    {"new, same, disputed", check_taking},
+    {"as many frames as pages, one of them twice", check_as_many_frames_as_pages},
+    {"the text of a bulletin", check_text},
+    {"merging", check_merging},
+    {"refused takings, in their order", check_taking_refused},
+    {"refused merges, in their order", check_merging_refused},
+    {"stores that are not sound", check_unsound},
+    {"names, stores and counts of other lengths", check_bulletin_calls_wrong},
+};
+
+int main(void)
+{
+    for (size_t i = 0; i < sizeof groups / sizeof groups[0]; i++) {
+        groups[i].check();
+        printf("%s: as expected\n", groups[i].name);
+        fflush(stdout);
+    }
+    return 0;
+}

@@ -1,0 +1,29 @@
+/*
+ * Reports of document 004, first delivery, as lines and as the bytes of their
+ * records, and changes to a frame.
+ */
+#ifndef SAMPLES_H
+#define SAMPLES_H
+
+#include <stdint.h>
+
+extern const char hypocenter_line[];
+extern const char intensity_line[];
+extern const char nankai_line[];
+extern const char ash_fall_line[];
+
+void hypocenter_record(uint8_t *record);
+void intensity_record(uint8_t *record);
+void nankai_record(uint8_t *record);
+void ash_fall_record(uint8_t *record);
+
+/* The frame of 63 digits with capital letters. */
+void frame_of(const char *line, uint8_t *frame);
+
+/* Puts a value into a field of a frame, and nothing else. */
+void put(uint8_t *frame, unsigned first, unsigned width, uint32_t value);
+
+/* Puts a number into as many bytes, the most significant first. */
+void put_bytes(uint8_t *bytes, unsigned count, uint32_t value);
+
+#endif
