@@ -1,0 +1,27 @@
+-- A record has at most sixteen used slots. Assumes nothing.
+use Prim.Native.Nat.{ℕ, suc, _≤_}
+use mathlib.Core.Bool.{Bool, true, false, cond}
+use mathlib.Core.List.{List, [], _∷_}
+use native.Mathlib.Omega.{arith}
+use lib.ListN.{length, take, length-map, length-take}
+use Rattle.report.specs.declared.record.Record.{Record}
+use Rattle.report.specs.Verdict.{empty}
+use Rattle.report.specs.Layout.{layout, slotCount}
+use Rattle.report.specs.Records.{slotValues}
+use Rattle.report.specs.Meaning.{usedAmong, usedOf, slotsOfCategory}
+use Rattle.report.proofs.SlotTurns.{at-most-sixteen}
+
+used-or-not : (t : Bool) (u n : ℕ) → u ≤ n → cond t 0 (suc u) ≤ suc n
+used-or-not true u n h = omega arith
+used-or-not false u n h = omega arith
+
+among : (vs : List (List ℕ)) → usedAmong vs ≤ length vs
+unfolding usedAmong
+among [] = omega arith
+among (v ∷ vs) = used-or-not (empty v) (usedAmong vs) (length vs) (among vs)
+
+pub few : (r : Record) → usedOf r ≤ 16
+unfolding usedOf
+few r =
+    let k = layout (r .body) .slots in
+    omega (arith, among (slotsOfCategory r), length-map (take (slotCount k) (r .slots)) (slotValues k), length-take (slotCount k) (r .slots), at-most-sixteen k)

@@ -1,0 +1,12 @@
+-- `listing::progress::Progress::behind` meets its contract. Assumes nothing.
+use mathlib.Core.Path.{refl}
+use Rattle.listing.specs.Scanning.{progressOf, padded}
+use Rattle.listing.proofs.progress.Progress.behind.Statement.{statement}
+use Rattle.listing.proofs.progress.Progress.behind.Tie as tie
+
+returns : tie.Need-returns
+unfolding progressOf padded
+returns c = refl
+
+pub behind-spec : {M : Type 1} → statement M
+behind-spec = tie.close (tie.spec returns)

@@ -1,0 +1,66 @@
+-- `listing::row::put_entry` meets its contract. Assumes nothing.
+use Prim.Native.Nat.{ℕ, _<_}
+use native.Mathlib.Omega.{arith}
+use Rattle.listing.proofs.Decimals.{three-digits}
+use Rattle.listing.proofs.Written.{_then_}
+use borrow.Author.Needs.{needs}
+use Rattle.listing.proofs.row.put_entry.Statement.{statement}
+use Rattle.listing.proofs.row.put_entry.Tie as tie
+
+put-byte-requires : tie.Need-put-byte-requires
+put-byte-requires c κs = search needs
+
+enum-told : tie.Need-enum-told
+enum-told c = search needs
+
+put-byte-requires-2 : tie.Need-put-byte-requires-2
+put-byte-requires-2 c κs = search needs
+
+enum-known-entry : tie.Need-enum-known-entry
+enum-known-entry c = search needs
+
+cast-put-number : tie.Need-cast-put-number
+cast-put-number c = search needs
+
+put-number-requires : tie.Need-put-number-requires
+put-number-requires c κs =
+    let p = c .before .before .before .before .before .before in
+    let n : ℕ = c .before .before .entry .given .0 .0 in
+    let h : n < 256 = search needs in
+    omega (arith, p .put-byte .ensures .place, three-digits n h)
+
+same-length : tie.Need-same-length
+same-length c = search needs
+
+returns : tie.Need-returns
+returns c =
+    let q = c .before .before in
+    let p = q .before .before .before .before .before .before in
+    (rw (q .before .before .enum-told .given .1) (p .put-byte .ensures then q .put-byte2 .ensures), omega (arith, q .put-byte2 .ensures .place, p .put-byte .ensures .place))
+
+same-length-2 : tie.Need-same-length-2
+same-length-2 c = search needs
+
+returns-2 : tie.Need-returns-2
+returns-2 c =
+    let q = c .before .before in
+    let e = q .before .before .before in
+    let p = e .before .before .before .before in
+    let n : ℕ = e .entry .given .0 .0 in
+    let h : n < 256 = search needs in
+    (rw (e .entry .given .1) (p .put-byte .ensures then q .put-number .ensures), omega (arith, q .put-number .ensures .place, p .put-byte .ensures .place, three-digits n h))
+
+pub put-entry-spec : {M : Type 1} → statement M
+put-entry-spec =
+    tie.close
+    (tie.spec
+    put-byte-requires
+    enum-told
+    put-byte-requires-2
+    enum-known-entry
+    cast-put-number
+    put-number-requires
+    same-length
+    returns
+    same-length-2
+    returns-2)

@@ -1,0 +1,54 @@
+-- `listing::scan::find` meets its contract: no line feed has been passed. Assumes nothing.
+use mathlib.Core.Path.{_≡_}
+use Prim.Native.Nat.{ℕ, _≤_, _<_, _-_}
+use native.Mathlib.Omega.{arith}
+use lib.ListN.{length, getD}
+use Rattle.listing.proofs.Reaches.{none-more}
+use borrow.Author.Needs.{needs}
+use Rattle.listing.proofs.scan.find.Statement.{statement}
+use Rattle.listing.proofs.scan.find.Tie as tie
+
+abbrev Inv-loop : tie.InvT-loop
+Inv-loop s from i₀ i = (from ≤ i) × (i ≤ length s) × ((k : ℕ) → from ≤ k → k < i → getD s k 0 ≡ 10 → ⊥)
+
+abbrev μ-loop : tie.MeasureT-loop
+μ-loop s from i₀ i = length s - i
+
+loop-holds : tie.Need-loop-holds Inv-loop μ-loop
+loop-holds c = (omega arith, omega arith, λ k h l e. omega arith)
+
+shared-slice-read-if1 : tie.Need-shared-slice-read-if1 Inv-loop μ-loop
+shared-slice-read-if1 c = search needs
+
+returns : tie.Need-returns Inv-loop μ-loop
+returns c =
+    let l = c .before .before .before in
+    record { low = omega arith; high = omega arith; quiet = l .loop .inv .2; stops = λ h. c .if1 .taken }
+
+add-i : tie.Need-add-i Inv-loop μ-loop
+add-i c = search needs
+
+loop-less : tie.Need-loop-less Inv-loop μ-loop
+loop-less c = search needs
+
+loop-again : tie.Need-loop-again Inv-loop μ-loop
+loop-again c =
+    let l = c .before .before .before in
+    (omega arith, omega arith, none-more (l .before .args .s .now) (l .before .args .from) (l .loop .i) (l .loop .inv .2) (c .if1 .left))
+
+returns-2 : tie.Need-returns-2 Inv-loop μ-loop
+returns-2 c = record { low = omega arith; high = omega arith; quiet = c .before .loop .inv .2; stops = λ h. absurd (omega arith) }
+
+pub find-spec : {M : Type 1} → statement M
+find-spec =
+    tie.close
+    (tie.spec
+    Inv-loop
+    μ-loop
+    loop-holds
+    shared-slice-read-if1
+    returns
+    add-i
+    loop-less
+    loop-again
+    returns-2)

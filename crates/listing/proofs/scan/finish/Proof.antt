@@ -1,0 +1,90 @@
+-- `listing::scan::finish` meets its contract. Assumes nothing.
+use mathlib.Core.Path.{_≡_, sym, ap, _∙_}
+use mathlib.Core.List.{List}
+use Prim.Native.Nat.{ℕ, _+_, _≤_, _<_}
+use native.Mathlib.Nat.{min-le-right}
+use native.Mathlib.Omega.{arith}
+use lib.ListN.{length, take, length-take}
+use lib.Seq.{length-take-le}
+use Rattle.listing.specs.Rows.{rowText, rowOf, laid}
+use Rattle.listing.specs.Listing.{lineRow}
+use Rattle.listing.specs.Scanning.{begunIn, finished}
+use Rattle.listing.proofs.Kept.{unmapped, take-least}
+use Rattle.listing.proofs.Reaches.{limit-is}
+use Rattle.listing.proofs.Chunks.{last-some, last-none, last-over, nothing-laid}
+use borrow.Author.Needs.{needs}
+use Rattle.listing.proofs.scan.finish.Statement.{statement}
+use Rattle.listing.proofs.scan.finish.Tie as tie
+
+kept : (c : tie.Start) → length (c .args .from .begun) ≡ 64
+kept c = unmapped _ (c .args .from .begun) 64 (c .good .0 .1 .1 .1 .1 .0 .1 .0 .1)
+
+fits : (c : tie.After-least) → c .least .result ≤ length (c .before .before .args .from .begun)
+fits c = let s = c .before .before in omega (arith, kept s, c .least .ensures, min-le-right (s .args .from .length) 64)
+
+same : (c : tie.After-least) → take (c .least .result) (c .before .before .args .from .begun) ≡ begunIn (c .before .before .args .from)
+same c = let s = c .before .before in
+    ap (λ (k : ℕ). take k (s .args .from .begun)) (c .least .ensures) ∙ take-least (s .args .from .length) 64 (s .args .from .begun) (kept s)
+
+least-requires : tie.Need-least-requires
+least-requires c κs = search needs
+
+add-write-row : tie.Need-add-write-row
+add-write-row c = search needs
+
+array-share-prefix-begun : tie.Need-array-share-prefix-begun
+array-share-prefix-begun c = fits (c .before .before .before)
+
+slice-aggregate-read-line : tie.Need-slice-aggregate-read-line
+slice-aggregate-read-line c =
+    let l = c .before .before .before .before in
+    sym (length-take-le (l .least .result) (l .before .before .args .from .begun) (fits l))
+
+read-line-requires : tie.Need-read-line-requires
+read-line-requires c κs = search needs
+
+write-row-requires : tie.Need-write-row-requires
+write-row-requires c κs = search needs
+
+same-length : tie.Need-same-length
+same-length c = search needs
+
+returns : tie.Need-returns
+unfolding finished lineRow
+returns c =
+    let w = c .before .before in
+    let r = w .before .before in
+    let t = r .before .before .before in
+    let l = t .before .before in
+    let s = l .before .before in
+    let begun : List ℕ = begunIn (s .args .from) in
+    let m : 0 < length begun = omega (arith, t .if2 .taken, ap length (same l), length-take-le (l .least .result) (s .args .from .begun) (fits l)) in
+    (w .write-row .ensures .0 ∙ ap (λ (x : List ℕ). laid x (s .args .out .now)) (ap (λ x. rowText (s .args .from .lines + 1) (rowOf x)) (r .read-line .ensures) ∙ ap (lineRow (s .args .from .lines + 1)) (same l) ∙ last-some (s .args .from .lines) begun (omega (arith, limit-is)) m), w .write-row .ensures .1)
+
+returns-2 : tie.Need-returns-2
+unfolding finished
+returns-2 c =
+    let l = c .before .before in
+    let s = l .before .before in
+    nothing-laid _ (s .args .out .now) (last-none (s .args .from .lines) (begunIn (s .args .from)) (omega (arith, c .if2 .left, ap length (same l), length-take (l .least .result) (s .args .from .begun))))
+
+returns-3 : tie.Need-returns-3
+unfolding finished
+returns-3 c =
+    let s = c .before .before .before in
+    nothing-laid _ (s .args .out .now) (last-over (s .args .from .lines) (begunIn (s .args .from)) (omega (arith, limit-is)))
+
+pub finish-spec : {M : Type 1} → statement M
+finish-spec =
+    tie.close
+    (tie.spec
+    least-requires
+    add-write-row
+    array-share-prefix-begun
+    slice-aggregate-read-line
+    read-line-requires
+    write-row-requires
+    same-length
+    returns
+    returns-2
+    returns-3)

@@ -1,0 +1,107 @@
+-- `listing::scan::scan_first` meets its contract: the line that was begun ends, and the lines behind it follow, or it does not. Assumes nothing.
+use mathlib.Core.Path.{refl, sym}
+use mathlib.Core.List.{List, [], _++_}
+use Prim.Native.Nat.{ℕ, _+_, _≤_, _<_}
+use native.Mathlib.Omega.{arith}
+use lib.ListN.{length, take}
+use lib.Seq.{length-take-le}
+use Rattle.listing.specs.Scanning.{begunIn}
+use Rattle.listing.proofs.Kept.{unmapped, begun-short}
+use Rattle.listing.proofs.Written.{nothing-written}
+use Rattle.listing.proofs.Reaches.{limit-is}
+use Rattle.listing.proofs.LineTurns.{row-said}
+use Rattle.listing.proofs.Chunks.{settled, whole-reach, kept-fits, first-done}
+use borrow.Author.Needs.{needs}
+use Rattle.listing.proofs.scan.scan_first.Statement.{statement}
+use Rattle.listing.proofs.scan.scan_first.Tie as tie
+
+short : (c : tie.Start) → length (begunIn (c .args .from)) ≤ 64
+short c = begun-short (c .args .from) (unmapped _ (c .args .from .begun) 64 (c .good .0 .1 .1 .1 .1 .0 .1 .0 .1))
+
+fits : (c : tie.After-with) → c .with .result .length ≤ length (c .with .result .begun)
+fits c =
+    let f = c .before .before in
+    let s = f .before .before .before in
+    kept-fits (c .with .result) (s .args .from .lines) (begunIn (s .args .from) ++ take (f .find .result) (s .args .chunk .now)) (c .with .ensures)
+
+find-requires : tie.Need-find-requires
+find-requires c κs = search needs
+
+slice-aggregate-with : tie.Need-slice-aggregate-with
+slice-aggregate-with c = sym (length-take-le (c .before .find .result) _ (c .before .find .ensures .high))
+
+with-requires : tie.Need-with-requires
+with-requires c κs = search needs
+
+returns : tie.Need-returns
+returns c =
+    let m = c .before in
+    let f = m .before .before in
+    let s = f .before .before .before in
+    let d : List ℕ = s .args .chunk .now in
+    let begun : List ℕ = begunIn (s .args .from) in
+    settled (s .args .from .lines) begun d _ _ 0 _ (record { text = []; lines = s .args .from .lines; begun = take 64 (begun ++ take (f .find .result) d) }) (whole-reach (s .args .from .lines) begun d (f .find .result) (s .pre .0) (short s) (f .find .ensures) (c .if1 .taken)) (m .with .ensures) refl (nothing-written (s .args .out .now) 0) (omega arith)
+
+array-share-prefix-begun : tie.Need-array-share-prefix-begun
+array-share-prefix-begun c = fits (c .before .before)
+
+slice-aggregate-read-line : tie.Need-slice-aggregate-read-line
+slice-aggregate-read-line c =
+    let m = c .before .before .before in
+    sym (length-take-le (m .with .result .length) (m .with .result .begun) (fits m))
+
+read-line-requires : tie.Need-read-line-requires
+read-line-requires c κs = search needs
+
+of-requires : tie.Need-of-requires
+of-requires c κs = search needs
+
+add-put-row : tie.Need-add-put-row
+add-put-row c = omega (arith, limit-is)
+
+put-row-requires : tie.Need-put-row-requires
+put-row-requires c κs = search needs
+
+add-scan-lines : tie.Need-add-scan-lines
+add-scan-lines c = omega (arith, limit-is)
+
+add-scan-lines-2 : tie.Need-add-scan-lines-2
+add-scan-lines-2 c = search needs
+
+scan-lines-requires : tie.Need-scan-lines-requires
+scan-lines-requires c κs = search needs
+
+same-length : tie.Need-same-length
+same-length c = search needs
+
+returns-2 : tie.Need-returns-2
+returns-2 c =
+    let b = c .before .before .before in
+    let w = b .before .before .before .before in
+    let o = w .before .before in
+    let m = o .before .before .before .before .before in
+    let f = m .before .before in
+    let s = f .before .before .before in
+    let d : List ℕ = s .args .chunk .now in
+    let more : f .find .result < length d = omega (arith, f .find .ensures .high, o .before .before .before .before .if1 .left) in
+    first-done (s .args .from .lines) (begunIn (s .args .from)) d _ _ _ (f .find .result) (w .put-row .result) (m .with .result) (b .scan-lines .result) _ (s .pre .0) (short s) (f .find .ensures) more (m .with .ensures) (row-said (s .args .from .lines + 1) (begunIn (m .with .result)) (o .of .ensures) (o .before .read-line .ensures) (w .put-row .ensures .0)) (b .scan-lines .ensures) refl refl refl (w .put-row .kept .0)
+
+pub scan-first-spec : {M : Type 1} → statement M
+scan-first-spec =
+    tie.close
+    (tie.spec
+    find-requires
+    slice-aggregate-with
+    with-requires
+    returns
+    array-share-prefix-begun
+    slice-aggregate-read-line
+    read-line-requires
+    of-requires
+    add-put-row
+    put-row-requires
+    add-scan-lines
+    add-scan-lines-2
+    scan-lines-requires
+    same-length
+    returns-2)

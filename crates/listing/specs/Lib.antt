@@ -1,0 +1,5 @@
+pub mod Decimal
+pub mod Rows
+pub mod Listing
+pub mod Scanning
+pub mod Pieces

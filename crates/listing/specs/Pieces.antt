@@ -1,0 +1,27 @@
+-- Cited by private functions alone: text that is written piece by piece, and a search.
+use Prim.Native.Nat.{ℕ, _+_, _≤_, _<_}
+use mathlib.Core.Path.{_≡_}
+use mathlib.Core.List.{List}
+use lib.ListN.{length, getD}
+use lib.Seq.{sets}
+use Rattle.listing.specs.declared.scan.Step.{Step}
+use Rattle.listing.specs.Scanning.{reach, progressOf}
+
+-- before became after by the text t at index at, and next is the index behind it
+pub record Wrote (before after : List ℕ) (at next : ℕ) (t : List ℕ) : Type 0 where
+  pub bytes : after ≡ sets before at t
+  pub place : next ≡ at + length t
+
+-- r is the first index from here on with a line feed, or the length
+pub record Found (s : List ℕ) (from r : ℕ) : Type 0 where
+  pub low : from ≤ r
+  pub high : r ≤ length s
+  pub quiet : (k : ℕ) → from ≤ k → k < r → getD s k 0 ≡ 10 → ⊥
+  pub stops : r < length s → getD s r 0 ≡ 10
+
+-- a listing with n lines behind it and one begun has taken these bytes, and put what it said into out from at on
+pub record Scanned (n : ℕ) (begun bytes out after : List ℕ) (at : ℕ) (r : Step) : Type 0 where
+  pub progress : r .progress ≡ progressOf (reach n begun bytes .lines) (reach n begun bytes .begun)
+  pub used : r .used ≡ length bytes
+  pub written : Wrote out after at (r .written) (reach n begun bytes .text)
+  pub room : r .written ≤ length out

@@ -1,0 +1,85 @@
+-- The lines of text of a listing (document 01, "The listing"): "line number from 1, answer (0 when read), first bit for 8, 9, 10, category, slots used in
+-- categories 3 and 9".
+use Prim.Native.Nat.{ℕ}
+use mathlib.Core.Bool.{_&&_, cond}
+use mathlib.Core.List.{List, [], _∷_, _++_}
+use lib.ListN.{length, drop}
+use lib.Dec.{leb, ltb}
+use Rattle.report.specs.declared.refusal.Verdict.{Verdict}
+use Rattle.report.specs.declared.refusal.Verdict.the-variants.{Fine, Refused}
+use Rattle.report.specs.declared.record.Record.{Record}
+use Rattle.report.specs.declared.record.SlotKind.{SlotKind}
+use Rattle.report.specs.declared.record.SlotKind.the-variants.{Nothing as NoSlots, Prefectures, Places}
+use Rattle.report.specs.declared.read.Reading.{Reading}
+use Rattle.report.specs.Refusals.{Said, says}
+use Rattle.report.specs.Layout.{layout}
+use Rattle.report.specs.Meaning.{usedOf}
+use Rattle.listing.specs.declared.row.Entry.{Entry}
+use Rattle.listing.specs.declared.row.Entry.the-variants.{Nothing, Number}
+use Rattle.listing.specs.declared.row.Row.{Row}
+use Rattle.listing.specs.Decimal.{decimal}
+
+-- ---- what is said of a line
+
+-- "first bit for 8, 9, 10"
+abbrev pub placeEntry : Said → Entry
+placeEntry a = cond (leb 8 (a .number) && leb (a .number) 10) (Number (a .place)) Nothing
+
+-- "slots used in categories 3 and 9"
+abbrev pub slotsEntry : SlotKind → ℕ → Entry
+slotsEntry NoSlots n = Nothing
+slotsEntry Prefectures n = Number n
+slotsEntry Places n = Number n
+
+abbrev pub refusedRow : ℕ → Entry → Row
+refusedRow number place = record { answer = number; place = place; category = Nothing; slots = Nothing }
+
+-- "Category and slots are given only for a frame that was read"
+abbrev pub rowFor : Verdict → Record → Row
+rowFor Fine r = record { answer = 0; place = Nothing; category = Number (layout (r .body) .code); slots = slotsEntry (layout (r .body) .slots) (usedOf r) }
+rowFor (Refused x) r = refusedRow (says x .number) (placeEntry (says x))
+
+abbrev pub rowOf : Reading → Row
+rowOf r = rowFor (r .answer) (r .«record»)
+
+-- ---- as text
+
+-- an entry behind a space: "A dash stands where there is nothing to say"
+abbrev pub entryText : Entry → List ℕ
+entryText Nothing = 32 ∷ 45 ∷ []
+entryText (Number n) = 32 ∷ decimal n
+
+-- the row of the line with this number
+unfoldable pub rowText : ℕ → Row → List ℕ
+rowText n r = decimal n ++ (entryText (Number (r .answer)) ++ (entryText (r .place) ++ (entryText (r .category) ++ (entryText (r .slots) ++ (10 ∷ [])))))
+
+-- "line answer place dc slots"
+unfoldable pub headingText : List ℕ
+headingText =
+    108 ∷ 105 ∷ 110 ∷ 101 ∷ 32 ∷ 97 ∷ 110 ∷ 115 ∷ 119 ∷ 101 ∷ 114 ∷ 32 ∷ 112 ∷ 108 ∷ 97 ∷ 99 ∷ 101 ∷ 32 ∷ 100 ∷ 99 ∷ 32 ∷ 115 ∷ 108 ∷ 111 ∷ 116 ∷ 115 ∷ 10 ∷ []
+
+-- "cut - - - -"
+unfoldable pub cutText : List ℕ
+cutText = 99 ∷ 117 ∷ 116 ∷ 32 ∷ 45 ∷ 32 ∷ 45 ∷ 32 ∷ 45 ∷ 32 ∷ 45 ∷ 10 ∷ []
+
+-- ---- in a lent buffer
+
+-- no line of a listing has more bytes than its heading
+abbrev pub longest : ℕ
+longest = 27
+
+-- what a call leaves: how many bytes of text there are, and the lent buffer
+pub record Filled : Type 0 where
+  pub written : ℕ
+  pub buffer : List ℕ
+
+abbrev pub filled : ℕ → List ℕ → Filled
+filled n b = record { written = n; buffer = b }
+
+-- a text in place of the first bytes
+abbrev pub over : List ℕ → List ℕ → List ℕ
+over text out = text ++ drop (length text) out
+
+-- a buffer that is shorter than the longest line is left as it was
+unfoldable pub laid : List ℕ → List ℕ → Filled
+laid text out = cond (ltb (length out) longest) (filled 0 out) (filled (length text) (over text out))
