@@ -1,3 +1,4 @@
+pub mod Claims
 pub mod Decimals
 pub mod Written
 pub mod Kept
@@ -6,3 +7,6 @@ pub mod WrongLines
 pub mod LineTurns
 pub mod Chunks
 pub mod UsedSlots
+pub mod Divisions
+pub mod Whole
+pub mod PaperExample
