@@ -1,52 +1,12 @@
-//! The time of one reading: the proved reader through the static library
-//! against the reference reader, on the same valid frames.
+//! Speed, as a ratio of the proved code to the reference on the same inputs in
+//! the same run. No test rests on it.
 
-use crate::door;
-use crate::packed::LENGTH;
-use reference::bits::Frame;
-use reference::generate::valid_frame;
-use reference::random::Random;
-use reference::record::Category;
-use std::hint::black_box;
-use std::time::Instant;
-
-const FRAMES: usize = 100_000;
-const ROUNDS: usize = 20;
+mod listing;
+mod reading;
 
 pub fn measure() {
-    let mut random = Random::new(100);
-    let frames: Vec<Frame> =
-        (0..FRAMES).map(|number| valid_frame(&mut random, Category::ALL[number % 4])).collect();
-    let mut proved = Vec::new();
-    let mut reference = Vec::new();
-    // The two take turns, so that a slow time of the machine meets both.
-    for _ in 0..ROUNDS {
-        proved.push(nanoseconds(&frames, read_proved));
-        reference.push(nanoseconds(&frames, read_reference));
-    }
-    let (proved, reference) = (fastest(proved), fastest(reference));
-    println!("proved:    {proved:.0} ns for one frame");
-    println!("reference: {reference:.0} ns for one frame");
-    println!("ratio:     {:.2}", proved / reference);
-}
-
-fn read_proved(frame: &Frame) {
-    let mut bytes = [0; LENGTH];
-    let answer = door::read(black_box(frame), &mut bytes);
-    assert_eq!(answer, [0; 4]);
-    black_box(&bytes);
-}
-
-fn read_reference(frame: &Frame) {
-    let record = reference::read::read(black_box(frame)).expect("the frame is valid");
-    black_box(&record);
-}
-
-/// The time of one reading, on average over all frames.
-fn nanoseconds(frames: &[Frame], read: fn(&Frame)) -> f64 {
-    let start = Instant::now();
-    frames.iter().for_each(read);
-    start.elapsed().as_nanos() as f64 / frames.len() as f64
+    reading::measure();
+    listing::measure();
 }
 
 /// The fastest round: what else the machine does can only slow one down.
