@@ -2,7 +2,7 @@
 // `requires`, since nobody proves what a caller in another language passes; each settles its answer
 // and what it leaves in a lent buffer, on every input. A refusal of document 01 is told by its number;
 // 255 says that a buffer has a length that no call takes, and then nothing was touched.
-mod frames; // parity, reading, writing
-mod lines; // a frame as 63 digits
-mod stores; // the page store of a bulletin
+pub mod frames; // parity, reading, writing
+pub mod lines; // a frame as 63 digits
+pub mod stores; // the page store of a bulletin
 mod words; // an answer as one number
