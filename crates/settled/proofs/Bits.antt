@@ -1,0 +1,31 @@
+-- Every public function of `bits` is settled (specs/Settled.antt). Assumes nothing.
+use Rattle.bits.proofs as bits
+use Rattle.settled.specs.Settled.{Settled}
+use Rattle.settled.proofs.Law.{answer, buffer, beside, second}
+
+pub field64-is-settled : Settled bits.field64.ended bits.field64.Reads.Post
+field64-is-settled κs a x y = beside answer
+
+pub field32-is-settled : Settled bits.field32.ended bits.field32.Reads.Post
+field32-is-settled κs a x y = beside answer
+
+pub field16-is-settled : Settled bits.field16.ended bits.field16.Reads.Post
+field16-is-settled κs a x y = beside answer
+
+pub field8-is-settled : Settled bits.field8.ended bits.field8.Reads.Post
+field8-is-settled κs a x y = beside answer
+
+pub bit-is-settled : Settled bits.bit.ended bits.bit.Reads.Post
+bit-is-settled κs a x y = beside answer
+
+pub put-is-settled : Settled bits.put.ended bits.put.Reads.Post
+put-is-settled κs a x y = answer
+
+pub blank-is-settled : Settled bits.blank.ended bits.blank.Reads.Post
+blank-is-settled κs a x y = answer
+
+pub frame-of-is-settled : Settled bits.frame_of.ended bits.frame_of.Reads.Post
+frame-of-is-settled κs a x y = answer
+
+pub copy-to-is-settled : Settled bits.copy_to.ended bits.copy_to.Reads.Post
+copy-to-is-settled κs a x y = buffer second

@@ -1,0 +1,54 @@
+-- Every public function of `bulletin` is settled (specs/Settled.antt). Assumes nothing.
+use mathlib.Core.Path.{refl}
+use base.Logic.{emp}
+use contract.Lifetimes.{Lfts}
+use denote.Triple.Entry.{Args, Res}
+use denote.Triple.Clauses.{AtExit}
+use borrow.Fn.Claims.{AllOf}
+use borrow.Fn.Read.{Read, no-know, all-models, reads}
+use borrow.Fn.World.{World, Pr}
+use Rattle.bulletin.proofs as bulletin
+use Rattle.bulletin.proofs.in_place.take_in
+use Rattle.settled.specs.Settled.{Settled}
+use Rattle.settled.proofs.Law.{answer, both, beside, first, second}
+
+pub Page-absent-is-settled : Settled bulletin.page.Page.absent.ended bulletin.page.Page.absent.Reads.Post
+Page-absent-is-settled κs a x y = answer
+
+pub Name-of-zeros-is-settled : Settled bulletin.name.Name.of_zeros.ended bulletin.name.Name.of_zeros.Reads.Post
+Name-of-zeros-is-settled κs a x y = answer
+
+pub Store-of-zeros-is-settled : Settled bulletin.store.Store.of_zeros.ended bulletin.store.Store.of_zeros.Reads.Post
+Store-of-zeros-is-settled κs a x y = answer
+
+pub Store-open-is-settled : Settled bulletin.store.Store.open.ended bulletin.store.Store.open.Reads.Post
+Store-open-is-settled κs a x y = answer
+
+pub Store-is-sound-is-settled : Settled bulletin.store.Store.is_sound.ended bulletin.store.Store.is_sound.Reads.Post
+Store-is-sound-is-settled κs a x y = beside answer
+
+pub Store-take-is-settled : Settled bulletin.store.Store.take.ended bulletin.store.Store.take.Reads.Post
+Store-take-is-settled κs a x y = answer
+
+pub Store-merge-is-settled : Settled bulletin.store.Store.merge.ended bulletin.store.Store.merge.Reads.Post
+Store-merge-is-settled κs a x y = answer
+
+pub Store-report-is-settled : Settled bulletin.store.Store.report.ended bulletin.store.Store.report.Reads.Post
+Store-report-is-settled κs a x y = answer
+
+pub Store-text-is-settled : Settled bulletin.store.Store.text.ended bulletin.store.Store.text.Reads.Post
+Store-text-is-settled κs a x y = both second
+
+-- `take_in` is proved by hand, so the check writes no reading of its contract; this one is made as the check makes the others
+module _ (κs : Lfts (take_in.signature .lifetimes)) (a : Args take_in.signature κs) (r : Res take_in.signature κs) (e : AtExit take_in.ended κs) where
+  abbrev clause : (w : World) → Pr w
+  clause w = take_in.clauses (w .𝓤) (w .H) (w .𝓖 .A) (w .𝓜 .mem) (w .𝓡 .run) κs a .ensures tt r e
+
+  abbrev reading : Read (λ w. emp (w .𝓤)) no-know clause
+  reading = all-models clause (λ w. search reads) (λ w. refl) (λ w. refl) (λ w. refl)
+
+  abbrev pub take-in-promised : Type 0
+  take-in-promised = AllOf (reading .owes)
+
+pub take-in-is-settled : Settled bulletin.in_place.take_in.ended take-in-promised
+take-in-is-settled κs a x y = both first

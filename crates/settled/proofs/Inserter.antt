@@ -1,0 +1,42 @@
+-- Every public function of `inserter` is settled (specs/Settled.antt). Assumes nothing.
+use Prim.Native.Nat.{ℕ}
+use mathlib.Core.Path.{_≡_}
+use mathlib.Core.List.{List}
+use Rattle.inserter.specs.Answers.{Left, left}
+use Rattle.inserter.proofs as inserter
+use Rattle.settled.specs.Settled.{Settled}
+use Rattle.settled.proofs.Law.{answer, read-off, first, second}
+
+-- the contracts speak of the answer and the lent buffer as one value
+parts : {U : Type 0} (at : List ℕ → U) {x y : ℕ} {b c : List ℕ} {z : Left} → left x b ≡ z → left y c ≡ z → _≡_ {A = ℕ × U} (x, at b) (y, at c)
+parts at = read-off (λ l. (l .answer, at (l .buffer)))
+
+pub lz-parity-is-settled : Settled inserter.frames.lz_parity.ended inserter.frames.lz_parity.Reads.Post
+lz-parity-is-settled κs a x y = answer
+
+pub lz-read-is-settled : Settled inserter.frames.lz_read.ended inserter.frames.lz_read.Reads.Post
+lz-read-is-settled κs a x y = parts second
+
+pub lz-write-is-settled : Settled inserter.frames.lz_write.ended inserter.frames.lz_write.Reads.Post
+lz-write-is-settled κs a x y = parts second
+
+pub lz-read-line-is-settled : Settled inserter.lines.lz_read_line.ended inserter.lines.lz_read_line.Reads.Post
+lz-read-line-is-settled κs a x y = parts second
+
+pub lz-write-line-is-settled : Settled inserter.lines.lz_write_line.ended inserter.lines.lz_write_line.Reads.Post
+lz-write-line-is-settled κs a x y = parts second
+
+pub lz-open-is-settled : Settled inserter.stores.lz_open.ended inserter.stores.lz_open.Reads.Post
+lz-open-is-settled κs a x y = parts second
+
+pub lz-take-is-settled : Settled inserter.stores.lz_take.ended inserter.stores.lz_take.Reads.Post
+lz-take-is-settled κs a x y = parts first
+
+pub lz-merge-is-settled : Settled inserter.stores.lz_merge.ended inserter.stores.lz_merge.Reads.Post
+lz-merge-is-settled κs a x y = parts first
+
+pub lz-report-is-settled : Settled inserter.stores.lz_report.ended inserter.stores.lz_report.Reads.Post
+lz-report-is-settled κs a x y = parts second
+
+pub lz-text-is-settled : Settled inserter.stores.lz_text.ended inserter.stores.lz_text.Reads.Post
+lz-text-is-settled κs a x y = parts second

@@ -1,0 +1,13 @@
+-- Every public function of `line` is settled (specs/Settled.antt). Assumes nothing.
+use Rattle.line.proofs as line
+use Rattle.settled.specs.Settled.{Settled}
+use Rattle.settled.proofs.Law.{answer, both, second}
+
+pub frame-of-line-is-settled : Settled line.from_line.frame_of_line.ended line.from_line.frame_of_line.Reads.Post
+frame-of-line-is-settled κs a x y = answer
+
+pub read-line-is-settled : Settled line.from_line.read_line.ended line.from_line.read_line.Reads.Post
+read-line-is-settled κs a x y = answer
+
+pub write-line-is-settled : Settled line.to_line.write_line.ended line.to_line.write_line.Reads.Post
+write-line-is-settled κs a x y = both second

@@ -1,0 +1,37 @@
+-- Every public function of `report` is settled (specs/Settled.antt). Assumes nothing.
+use Rattle.report.proofs as report
+use Rattle.settled.specs.Settled.{Settled}
+use Rattle.settled.proofs.Law.{answer, both, second}
+
+pub Depth-of-is-settled : Settled report.meaning.Depth.of.ended report.meaning.Depth.of.Reads.Post
+Depth-of-is-settled κs a x y = answer
+
+pub Magnitude-of-is-settled : Settled report.meaning.Magnitude.of.ended report.meaning.Magnitude.of.Reads.Post
+Magnitude-of-is-settled κs a x y = answer
+
+pub Prefecture-of-is-settled : Settled report.meaning.Prefecture.of.ended report.meaning.Prefecture.of.Reads.Post
+Prefecture-of-is-settled κs a x y = answer
+
+pub Body-slot-kind-is-settled : Settled report.record.Body.slot_kind.ended report.record.Body.slot_kind.Reads.Post
+Body-slot-kind-is-settled κs a x y = answer
+
+pub Body-code-is-settled : Settled report.record.Body.code.ended report.record.Body.code.Reads.Post
+Body-code-is-settled κs a x y = answer
+
+pub Record-slots-used-is-settled : Settled report.record.Record.slots_used.ended report.record.Record.slots_used.Reads.Post
+Record-slots-used-is-settled κs a x y = answer
+
+pub record-of-zeros-is-settled : Settled report.decode.record_of_zeros.ended report.decode.record_of_zeros.Reads.Post
+record-of-zeros-is-settled κs a x y = answer
+
+pub Verdict-unless-is-settled : Settled report.refusal.Verdict.unless.ended report.refusal.Verdict.unless.Reads.Post
+Verdict-unless-is-settled κs a x y = answer
+
+pub check-is-settled : Settled report.check.check.ended report.check.check.Reads.Post
+check-is-settled κs a x y = answer
+
+pub read-is-settled : Settled report.read.read.ended report.read.read.Reads.Post
+read-is-settled κs a x y = answer
+
+pub write-is-settled : Settled report.write.write.ended report.write.write.Reads.Post
+write-is-settled κs a x y = both second
