@@ -3,6 +3,7 @@ pub mod Bits
 pub mod Parity
 pub mod Report
 pub mod Line
+pub mod Listing
 pub mod Bulletin
 pub mod Packed
 pub mod Inserter
