@@ -170,19 +170,31 @@ fn stray_record(random: &mut Random) -> Bytes {
 pub fn document_004(count: &mut Count) {
     let mut random = Random::new(76);
     let pages = samples::nankai();
+    // Document 004 never splits a character at a page's end; a letter in front splits each.
+    let crossing = format!("A{}", samples::NANKAI_TEXT);
     for pages in pages.chunks(pages.len() / 2) {
-        for _ in 0..DELIVERIES {
-            let (mut east, west) = two_receivers(&mut random, pages);
-            let answer = door::merge(&mut east, &west);
-            count.same(&west, &answer, &[0; 4]);
-            let text = samples::NANKAI_TEXT.as_bytes();
-            let mut lent = pattern(1134);
-            let mut expected = pattern(1134);
-            expected[..text.len()].copy_from_slice(text);
-            let answer = door::text(&east, &mut lent);
-            count.same(&east, &(answer, lent), &((text.len() as u32).to_be_bytes(), expected));
+        for text in [samples::NANKAI_TEXT, &crossing] {
+            let told = |(page, text): (&Record, _)| Record { text, ..*page };
+            let pages: Vec<Record> = pages.iter().zip(samples::pages(text)).map(told).collect();
+            for _ in 0..DELIVERIES {
+                delivered(count, &mut random, &pages, text);
+            }
         }
     }
+}
+
+/// The pages of a text, as two receivers heard them, come out as that text.
+fn delivered(count: &mut Count, random: &mut Random, pages: &[Record], text: &str) {
+    let (mut east, west) = two_receivers(random, pages);
+    let answer = door::merge(&mut east, &west);
+    count.same(&west, &answer, &[0; 4]);
+    let mut lent = pattern(1134);
+    let mut expected = pattern(1134);
+    expected[..text.len()].copy_from_slice(text.as_bytes());
+    let answer = door::text(&east, &mut lent);
+    let characters = std::str::from_utf8(&lent[..text.len()]).map(str::to_owned);
+    count.same(&east, &characters, &Ok(text.to_owned()));
+    count.same(&east, &(answer, lent), &((text.len() as u32).to_be_bytes(), expected));
 }
 
 /// What two receivers heard of a bulletin, each page by at least one of them.
