@@ -8,27 +8,23 @@
 
 #include <string.h>
 
-static void taking_is(int line, uint32_t expected, const uint8_t *store, const uint8_t *record)
+/* lz_take and lz_merge: a store, and what goes into it. */
+typedef uint32_t (*into_store)(uint8_t *, size_t, const uint8_t *, size_t);
+
+static void refused_is(int line, const char *name, into_store call, uint32_t expected,
+                       const uint8_t *store, const uint8_t *lent, size_t length)
 {
     uint8_t after[LZ_STORE_BYTES];
     memcpy(after, store, sizeof after);
-    same_word(__FILE__, line, "lz_take", expected,
-              lz_take(after, sizeof after, record, LZ_RECORD_BYTES));
+    same_word(__FILE__, line, name, expected, call(after, sizeof after, lent, length));
     same_bytes(__FILE__, line, "store", store, after, sizeof after);
 }
 
-#define TAKING_IS(expected, store, record) taking_is(__LINE__, (expected), (store), (record))
+#define TAKING_IS(expected, store, record) \
+    refused_is(__LINE__, "lz_take", lz_take, (expected), (store), (record), LZ_RECORD_BYTES)
 
-static void merging_is(int line, uint32_t expected, const uint8_t *store, const uint8_t *other)
-{
-    uint8_t after[LZ_STORE_BYTES];
-    memcpy(after, store, sizeof after);
-    same_word(__FILE__, line, "lz_merge", expected,
-              lz_merge(after, sizeof after, other, LZ_STORE_BYTES));
-    same_bytes(__FILE__, line, "store", store, after, sizeof after);
-}
-
-#define MERGING_IS(expected, store, other) merging_is(__LINE__, (expected), (store), (other))
+#define MERGING_IS(expected, store, other) \
+    refused_is(__LINE__, "lz_merge", lz_merge, (expected), (store), (other), LZ_STORE_BYTES)
 
 /* 14, what writing refuses, 12, 13. */
 void check_taking_refused(void)
@@ -103,9 +99,9 @@ static void unsound_with(int line, size_t at, uint8_t value)
     memcpy(store, sound, sizeof store);
     store[at] = value;
     page_record(record, 1, page_texts[0]);
-    taking_is(line, unsound, store, record);
-    merging_is(line, unsound, store, sound);
-    merging_is(line, unsound, sound, store);
+    refused_is(line, "lz_take", lz_take, unsound, store, record, LZ_RECORD_BYTES);
+    refused_is(line, "lz_merge", lz_merge, unsound, store, sound, LZ_STORE_BYTES);
+    refused_is(line, "lz_merge", lz_merge, unsound, sound, store, LZ_STORE_BYTES);
     telling_is_unsound(line, store);
 }
 
