@@ -3,6 +3,7 @@ pub mod Layouts
 pub mod Bytes
 pub mod Windows
 pub mod Frames
+pub mod Inside
 pub mod Laid
 pub mod Turns
 pub mod Arrays

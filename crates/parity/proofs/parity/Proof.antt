@@ -5,6 +5,7 @@ use native.Mathlib.Omega.{arith}
 use native.Mathlib.Numerals.{add-one}
 use borrow.Author.Needs.{needs}
 use Rattle.bits.specs.Frame.{fieldOf}
+use Rattle.bits.proofs.Inside.{field-in}
 use Rattle.parity.specs.Parity.{step, after, parityOf}
 use Rattle.parity.proofs.parity.Statement.{statement}
 use Rattle.parity.proofs.parity.Tie as tie
@@ -41,7 +42,7 @@ loop-again c =
       omega arith,
       (
         c .push .ensures .0
-            ∙ ap₂ step (l .inv .1 .0) (c .before .bit .ensures .0)
+            ∙ ap₂ step (l .inv .1 .0) (c .before .bit .ensures .0 ∙ field-in 1 frame (l .at) 1 (omega arith) (omega arith))
             ∙ ap (after 0 (λ i. fieldOf frame i 1)) (sym (add-one (l .at))),
         c .push .ensures .1,
       ),

@@ -7,6 +7,7 @@ use native.Mathlib.Omega.{arith}
 use borrow.Author.Needs.{needs}
 use lib.ListN.{length, take, drop, set, length-set}
 use Rattle.bits.specs.Frame.{fieldOf}
+use Rattle.bits.proofs.Inside.{right-size}
 use Rattle.bits.proofs.Turns.{copy-more, drop-more}
 use Rattle.line.specs.Lines.{lineOf}
 use Rattle.line.proofs.Pairs.{line-length, digit-at}
@@ -22,7 +23,10 @@ abbrev μ-loop : tie.MeasureT-loop
 μ-loop frame buffer₀ k₀ buffer k = 63 - k
 
 padding : (c : tie.After-field8 Inv-loop μ-loop) → c .field8 .result ≡ fieldOf (c .before .before .before .before .before .args .frame .now) 250 6
-padding c = c .field8 .ensures .0 ∙ ap (λ (f : List ℕ). fieldOf f 250 6) (c .before .frame-of .ensures)
+padding c =
+    let lent = c .before .before .before .before .before .args .frame .now in
+    c .field8 .ensures .0
+    ∙ ap (λ (f : List ℕ). fieldOf f 250 6) (c .before .frame-of .ensures ∙ right-size lent lent _ (c .before .before .if1 .left))
 
 no-padding : (c : tie.Else2 Inv-loop μ-loop) → fieldOf (c .before .before .before .before .before .before .args .frame .now) 250 6 ≡ 0
 no-padding c = sym (padding (c .before)) ∙ c .if2 .left

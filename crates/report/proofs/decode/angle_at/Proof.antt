@@ -1,4 +1,8 @@
 -- `report::decode::angle_at` meets its contract. Assumes nothing.
+use mathlib.Core.Path.{_∙_}
+use Prim.Native.Nat.{_+_}
+use native.Mathlib.Omega.{arith}
+use Rattle.bits.proofs.Inside.{field-in}
 use borrow.Author.Needs.{needs}
 use Rattle.report.proofs.decode.angle_at.Statement.{statement}
 use Rattle.report.proofs.decode.angle_at.Tie as tie
@@ -31,12 +35,14 @@ field8-requires-4 : tie.Need-field8-requires-4
 field8-requires-4 c κs = search needs
 
 returns : tie.Need-returns
-returns c = simp (
-  c .field84 .ensures .0,
-  c .before .field83 .ensures .0,
-  c .before .before .field82 .ensures .0,
-  c .before .before .before .field8 .ensures .0,
-)
+returns c =
+    let a = c .before .before .before .before .args in
+    simp (
+      c .field84 .ensures .0 ∙ field-in 8 (a .f) (a .at + 7 + a .width) 6 (omega arith) (omega arith),
+      c .before .field83 .ensures .0 ∙ field-in 8 (a .f) (a .at + 1 + a .width) 6 (omega arith) (omega arith),
+      c .before .before .field82 .ensures .0 ∙ field-in 8 (a .f) (a .at + 1) (a .width) (omega arith) (omega arith),
+      c .before .before .before .field8 .ensures .0 ∙ field-in 8 (a .f) (a .at) 1 (omega arith) (omega arith),
+    )
 
 pub angle-at-spec : {M : Type 1} → statement M
 angle-at-spec =

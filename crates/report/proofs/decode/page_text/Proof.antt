@@ -2,6 +2,7 @@
 use Prim.Native.Nat.{ℕ, _+_, _-_, _*_, _≤_}
 use borrow.Author.Needs.{needs}
 use Rattle.bits.specs.Frame.{fieldOf}
+use Rattle.bits.proofs.Inside.{field-in}
 use Rattle.report.proofs.Filling.{fill, filled}
 use Rattle.report.specs.Records.{each}
 use lib.ListN.{length, replicate, length-set}
@@ -45,9 +46,10 @@ loop-less c = omega arith
 loop-again : tie.Need-loop-again Inv-loop μ-loop
 loop-again c =
     let l = c .before .before .loop in
-    let f = c .before .before .before .args .f in (
+    let f = c .before .before .before .args .f in
+    let read = c .field8 .ensures .0 ∙ field-in 8 f (57 + 8 * l .k) 8 (omega arith) (omega arith) in (
       omega arith,
-      (length-set (l .text) (l .k) (c .field8 .result) ∙ l .inv .1 .0, fill 18 (l .k) (byte f) 0 (c .field8 .result) (l .text) (omega arith) (l .inv .1 .1) (c .field8 .ensures .0)),
+      (length-set (l .text) (l .k) (c .field8 .result) ∙ l .inv .1 .0, fill 18 (l .k) (byte f) 0 (c .field8 .result) (l .text) (omega arith) (l .inv .1 .1) read),
     )
 
 returns : tie.Need-returns Inv-loop μ-loop

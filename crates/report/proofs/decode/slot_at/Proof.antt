@@ -1,4 +1,8 @@
 -- `report::decode::slot_at` meets its contract. Assumes nothing.
+use mathlib.Core.Path.{_∙_}
+use Prim.Native.Nat.{_+_}
+use native.Mathlib.Omega.{arith}
+use Rattle.bits.proofs.Inside.{field-in}
 use borrow.Author.Needs.{needs}
 use Rattle.report.proofs.decode.slot_at.Statement.{statement}
 use Rattle.report.proofs.decode.slot_at.Tie as tie
@@ -40,10 +44,23 @@ returns : tie.Need-returns
 returns c = simp (c .enum-told .given .1)
 
 returns-2 : tie.Need-returns-2
-returns-2 c = simp (c .before .before .enum-told2 .given .1, c .field32 .ensures .0, c .before .field8 .ensures .0)
+returns-2 c =
+    let a = c .before .before .before .before .args in
+    simp (
+      c .before .before .enum-told2 .given .1,
+      c .field32 .ensures .0 ∙ field-in 32 (a .f) (a .at + 3) 6 (omega arith) (omega arith),
+      c .before .field8 .ensures .0 ∙ field-in 8 (a .f) (a .at) 3 (omega arith) (omega arith),
+    )
 
 returns-3 : tie.Need-returns-3
-returns-3 c = simp (c .before .before .before .enum-told3 .given .1, c .field322 .ensures .0, c .before .field83 .ensures .0, c .before .before .field82 .ensures .0)
+returns-3 c =
+    let a = c .before .before .before .before .before .args in
+    simp (
+      c .before .before .before .enum-told3 .given .1,
+      c .field322 .ensures .0 ∙ field-in 32 (a .f) (a .at + 6) 23 (omega arith) (omega arith),
+      c .before .field83 .ensures .0 ∙ field-in 8 (a .f) (a .at + 3) 3 (omega arith) (omega arith),
+      c .before .before .field82 .ensures .0 ∙ field-in 8 (a .f) (a .at) 3 (omega arith) (omega arith),
+    )
 
 pub slot-at-spec : {M : Type 1} → statement M
 slot-at-spec =

@@ -1,4 +1,8 @@
 -- `report::decode::time_at` meets its contract. Assumes nothing.
+use mathlib.Core.Path.{_∙_}
+use Prim.Native.Nat.{_+_}
+use native.Mathlib.Omega.{arith}
+use Rattle.bits.proofs.Inside.{field-in}
 use borrow.Author.Needs.{needs}
 use Rattle.report.proofs.decode.time_at.Statement.{statement}
 use Rattle.report.proofs.decode.time_at.Tie as tie
@@ -19,11 +23,13 @@ field8-requires-3 : tie.Need-field8-requires-3
 field8-requires-3 c κs = search needs
 
 returns : tie.Need-returns
-returns c = simp (
-  c .field83 .ensures .0,
-  c .before .field82 .ensures .0,
-  c .before .before .field8 .ensures .0,
-)
+returns c =
+    let a = c .before .before .before .args in
+    simp (
+      c .field83 .ensures .0 ∙ field-in 8 (a .f) (a .at + 10) 6 (omega arith) (omega arith),
+      c .before .field82 .ensures .0 ∙ field-in 8 (a .f) (a .at + 5) 5 (omega arith) (omega arith),
+      c .before .before .field8 .ensures .0 ∙ field-in 8 (a .f) (a .at) 5 (omega arith) (omega arith),
+    )
 
 pub time-at-spec : {M : Type 1} → statement M
 time-at-spec =

@@ -1,4 +1,8 @@
 -- `report::encode::lay_angle` meets its contract. Assumes nothing.
+use mathlib.Core.Path.{_∙_}
+use Prim.Native.Nat.{_+_}
+use native.Mathlib.Omega.{arith}
+use Rattle.bits.proofs.Inside.{placed-in}
 use borrow.Author.Needs.{needs}
 use Rattle.report.proofs.encode.lay_angle.Statement.{statement}
 use Rattle.report.proofs.encode.lay_angle.Tie as tie
@@ -46,12 +50,14 @@ put-requires-4 : tie.Need-put-requires-4
 put-requires-4 c κs = search needs
 
 returns : tie.Need-returns
-returns c = simp (
-  c .put4 .ensures,
-  c .before .before .put3 .ensures,
-  c .before .before .before .before .put2 .ensures,
-  c .before .before .before .before .before .before .put .ensures,
-)
+returns c =
+    let a = c .before .before .before .before .before .before .before .before .args in
+    simp (
+      c .put4 .ensures ∙ placed-in _ (a .at + 1 + a .width + 6) 6 _ (omega arith) (omega arith),
+      c .before .before .put3 .ensures ∙ placed-in _ (a .at + 1 + a .width) 6 _ (omega arith) (omega arith),
+      c .before .before .before .before .put2 .ensures ∙ placed-in _ (a .at + 1) (a .width) _ (omega arith) (omega arith),
+      c .before .before .before .before .before .before .put .ensures ∙ placed-in _ (a .at) 1 _ (omega arith) (omega arith),
+    )
 
 pub lay-angle-spec : {M : Type 1} → statement M
 lay-angle-spec =

@@ -1,5 +1,6 @@
 -- `report::encode::lay_last` meets its contract. Assumes nothing.
 use Prim.Native.Nat.{ℕ, _-_}
+use Rattle.bits.proofs.Inside.{placed-in}
 use Rattle.bits.specs.Frame.{placed}
 use Rattle.report.proofs.Laying.{Spare, spare-of, last-laid}
 use Rattle.report.specs.Layout.{layout}
@@ -23,9 +24,7 @@ sub-put : tie.Need-sub-put
 sub-put c = omega (arith, c .spare-first .ensures, spare (c .before) .ends)
 
 put-requires : tie.Need-put-requires
-put-requires c κs =
-    let s = spare (c .before) in
-    (omega (arith, c .spare-first .ensures, s .ends), omega (arith, c .spare-first .ensures, s .ends, s .narrow))
+put-requires c κs = search needs
 
 put-requires-2 : tie.Need-put-requires-2
 put-requires-2 c κs = search needs
@@ -38,12 +37,15 @@ returns c =
     let s = c .before .before .before in
     let a = s .before .args in
     let l = layout (a .b) in
-    let width : 214 - s .spare-first .result ≡ l .spareWidth = omega (arith, s .spare-first .ensures, spare (s .before) .ends) in
+    let first = s .spare-first .result in
+    let p = spare (s .before) in
+    let width : 214 - first ≡ l .spareWidth = omega (arith, s .spare-first .ensures, p .ends) in
+    let put = c .before .before .put .ensures ∙ placed-in (a .f) first (214 - first) 0 (omega (arith, s .spare-first .ensures, p .ends)) (omega (arith, width, p .narrow)) in
     c .put3 .ensures
     ∙ ap (λ (f : List ℕ). placed f 220 6 (a .reserved)) (c .before .put2 .ensures)
     ∙ ap (λ (f : List ℕ). placed (placed f 214 6 1) 220 6 (a .reserved))
-    (c .before .before .put .ensures ∙ ap₂ (λ (x w : ℕ). placed (a .f) x w 0) (s .spare-first .ensures) width)
-    ∙ last-laid (a .f) (l .spareFirst) (l .spareWidth) (a .reserved) (spare (s .before) .ends)
+    (put ∙ ap₂ (λ (x w : ℕ). placed (a .f) x w 0) (s .spare-first .ensures) width)
+    ∙ last-laid (a .f) (l .spareFirst) (l .spareWidth) (a .reserved) (p .ends)
 
 pub lay-last-spec : {M : Type 1} → statement M
 lay-last-spec =

@@ -1,5 +1,9 @@
 -- `report::encode::lay_slot` meets its contract. Assumes nothing.
+use mathlib.Core.Path.{_∙_}
+use Prim.Native.Nat.{_+_}
+use Rattle.bits.proofs.Inside.{placed-in}
 use borrow.Author.Needs.{needs}
+use native.Mathlib.Omega.{arith}
 use native.Mathlib.Nat.{add-assoc}
 use Rattle.report.proofs.encode.lay_slot.Statement.{statement}
 use Rattle.report.proofs.encode.lay_slot.Tie as tie
@@ -56,16 +60,24 @@ returns : tie.Need-returns
 returns c = search needs
 
 returns-2 : tie.Need-returns-2
-returns-2 c = simp (c .put2 .ensures, c .before .before .put .ensures, c .before .before .before .before .enum-told2 .given .1)
+returns-2 c =
+    let at = c .before .before .before .before .before .before .args .at in
+    simp (
+      c .put2 .ensures ∙ placed-in _ (at + 3) 6 _ (omega arith) (omega arith),
+      c .before .before .put .ensures ∙ placed-in _ at 3 _ (omega arith) (omega arith),
+      c .before .before .before .before .enum-told2 .given .1,
+    )
 
 returns-3 : tie.Need-returns-3
-returns-3 c = simp (
-  c .put5 .ensures,
-  c .before .before .put4 .ensures,
-  c .before .before .before .before .put3 .ensures,
-  c .before .before .before .before .before .before .enum-told3 .given .1,
-  add-assoc (c .before .before .before .before .before .before .before .before .args .at) 3 3,
-)
+returns-3 c =
+    let at = c .before .before .before .before .before .before .before .before .args .at in
+    simp (
+      c .put5 .ensures ∙ placed-in _ (at + 6) 23 _ (omega arith) (omega arith),
+      c .before .before .put4 .ensures ∙ placed-in _ (at + 3) 3 _ (omega arith) (omega arith),
+      c .before .before .before .before .put3 .ensures ∙ placed-in _ at 3 _ (omega arith) (omega arith),
+      c .before .before .before .before .before .before .enum-told3 .given .1,
+      add-assoc at 3 3,
+    )
 
 pub lay-slot-spec : {M : Type 1} → statement M
 lay-slot-spec =

@@ -1,6 +1,7 @@
 -- `report::encode::lay_text` meets its contract: the bytes passed are laid. Assumes nothing.
 use Prim.Native.Nat.{ℕ, _+_, _-_, _*_, _≤_}
 use Rattle.bits.proofs.Arrays.{each-bytes}
+use Rattle.bits.proofs.Inside.{placed-in}
 use Rattle.bits.specs.Frame.{Bytes, laid, placed}
 use Rattle.report.proofs.Laying.{byte-more}
 use borrow.Author.Needs.{needs}
@@ -59,6 +60,7 @@ loop-again c =
     let a = s .args in (
       omega arith,
       c .put .ensures
+          ∙ placed-in (l .next) (57 + 8 * l .k) 8 (getD (a .t2) (l .k) 0) (omega arith) (omega arith)
           ∙ ap (λ (f : List ℕ). placed f (57 + 8 * l .k) 8 (getD (a .t2) (l .k) 0)) (l .inv .1)
           ∙ byte-more (a .f) (a .t2) 57 (l .k) (57 + 8 * l .k) (omega (arith, size s)) refl,
     )

@@ -1,5 +1,9 @@
 -- `report::encode::lay_time` meets its contract. Assumes nothing.
+use mathlib.Core.Path.{_∙_}
+use Prim.Native.Nat.{_+_}
+use Rattle.bits.proofs.Inside.{placed-in}
 use borrow.Author.Needs.{needs}
+use native.Mathlib.Omega.{arith}
 use native.Mathlib.Nat.{add-assoc}
 use Rattle.report.proofs.encode.lay_time.Statement.{statement}
 use Rattle.report.proofs.encode.lay_time.Tie as tie
@@ -29,7 +33,14 @@ put-requires-3 : tie.Need-put-requires-3
 put-requires-3 c κs = search needs
 
 returns : tie.Need-returns
-returns c = simp (c .put3 .ensures, c .before .before .put2 .ensures, c .before .before .before .before .put .ensures, add-assoc (c .before .before .before .before .before .before .args .at) 5 5)
+returns c =
+    let at = c .before .before .before .before .before .before .args .at in
+    simp (
+      c .put3 .ensures ∙ placed-in _ (at + 10) 6 _ (omega arith) (omega arith),
+      c .before .before .put2 .ensures ∙ placed-in _ (at + 5) 5 _ (omega arith) (omega arith),
+      c .before .before .before .before .put .ensures ∙ placed-in _ at 5 _ (omega arith) (omega arith),
+      add-assoc at 5 5,
+    )
 
 pub lay-time-spec : {M : Type 1} → statement M
 lay-time-spec =

@@ -1,5 +1,6 @@
 -- `report::read::inner` meets its contract: the values of the record are those of the frame. Assumes nothing.
 use Prim.Native.Nat.{_-_}
+use Rattle.bits.proofs.Inside.{field-in}
 use Rattle.bits.specs.Frame.{fieldOf}
 use Rattle.report.proofs.Agree.{outer, Suits, suits, judged}
 use Rattle.report.specs.Layout.{layout}
@@ -41,9 +42,7 @@ sub-field64 : tie.Need-sub-field64
 sub-field64 c = omega (arith, first (c .before), suited (c .before .before .before) .ends)
 
 field64-requires-2 : tie.Need-field64-requires-2
-field64-requires-2 c κs =
-    let s = suited (c .before .before .before) in
-    (omega (arith, first (c .before), s .ends), omega (arith, first (c .before), s .ends, s .narrow))
+field64-requires-2 c κs = search needs
 
 check-requires : tie.Need-check-requires
 check-requires c κs = search needs
@@ -57,10 +56,12 @@ returns c =
     let g = k .before .before in
     let s = g .before .before .before in
     let f = s .args .f in
-    let width : 214 - g .before .spare-first .result ≡ layout (bodyOf f) .spareWidth = omega (arith, first (g .before), suited s .ends) in
+    let spare = g .before .spare-first .result in
+    let width : 214 - spare ≡ layout (bodyOf f) .spareWidth = omega (arith, first (g .before), suited s .ends) in
+    let inside = field-in 57 f spare (214 - spare) (omega (arith, first (g .before), suited s .ends)) (omega (arith, width, suited s .narrow)) in
     judged f (g .before .before .decode .result) (g .field64 .result) (k .before .field642 .result) (k .check .result) (c .conclude .result)
     (outer f (s .pre)) (g .before .before .decode .ensures) (g .field64 .ensures .0)
-    (k .before .field642 .ensures .0 ∙ ap₂ (fieldOf f) (first (g .before)) width) (k .check .ensures) (c .conclude .ensures)
+    (k .before .field642 .ensures .0 ∙ inside ∙ ap₂ (fieldOf f) (first (g .before)) width) (k .check .ensures) (c .conclude .ensures)
 
 pub inner-spec : {M : Type 1} → statement M
 inner-spec =

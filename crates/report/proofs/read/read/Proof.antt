@@ -1,5 +1,6 @@
 -- `report::read::read` meets its contract. Assumes nothing.
 use Rattle.report.proofs.Ways.{not-a-frame, refused-early, read-on}
+use Rattle.bits.proofs.Inside.{right-size}
 use borrow.Author.Needs.{needs}
 use mathlib.Core.Path.{sym, _∙_}
 use Rattle.report.proofs.read.read.Statement.{statement}
@@ -40,13 +41,17 @@ conclude-requires-2 c κs = search needs
 returns-2 : tie.Need-returns-2
 returns-2 c =
     let o = c .before .before .before in
-    read-on _ _ (o .outer .result) _ (o .before .before .if1 .left) (o .before .frame-of .ensures) (o .outer .ensures) (c .before .enum-told .given .1) (c .inner .ensures)
+    let lent = o .before .before .before .before .args .frame .now in
+    let size = o .before .before .if1 .left in
+    read-on _ _ (o .outer .result) _ size (o .before .frame-of .ensures ∙ right-size lent lent _ size) (o .outer .ensures) (c .before .enum-told .given .1) (c .inner .ensures)
 
 returns-3 : tie.Need-returns-3
 returns-3 c =
     let e = c .before .before in
     let o = e .before .before in
-    refused-early _ _ (o .outer .result) _ _ _ (o .before .before .if1 .left) (o .before .frame-of .ensures) (o .outer .ensures) (e .enum-told2 .given .1) (c .conclude2 .ensures)
+    let lent = o .before .before .before .before .args .frame .now in
+    let size = o .before .before .if1 .left in
+    refused-early _ _ (o .outer .result) _ _ _ size (o .before .frame-of .ensures ∙ right-size lent lent _ size) (o .outer .ensures) (e .enum-told2 .given .1) (c .conclude2 .ensures)
 
 pub read-spec : {M : Type 1} → statement M
 read-spec =

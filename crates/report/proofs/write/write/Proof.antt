@@ -1,5 +1,6 @@
 -- `report::write::write` meets its contract. Assumes nothing.
 use Rattle.report.proofs.Ways.{fine-size, fine-valid, left-alone, written-out}
+use Rattle.bits.proofs.Inside.{right-size}
 use borrow.Author.Needs.{needs}
 use mathlib.Core.Path.{sym, _∙_}
 use Rattle.report.proofs.write.write.Statement.{statement}
@@ -17,10 +18,7 @@ encode-requires c κs =
     fine-valid (a .before .before .args .r) _ (a .answer .result) (a .answer .ensures) (c .enum-told .given .1)
 
 copy-to-requires : tie.Need-copy-to-requires
-copy-to-requires c κs =
-    let k = c .before .before in
-    let a = k .before .before in
-    fine-size (a .before .before .args .r) _ (sym (a .answer .ensures) ∙ k .enum-told .given .1)
+copy-to-requires c κs = search needs
 
 enum-told-2 : tie.Need-enum-told-2
 enum-told-2 c = search needs
@@ -35,7 +33,8 @@ returns c =
     let k = n .before in
     let a = k .before .before in
     let s = a .before .before in
-    written-out (s .args .r) (s .args .frame .now) _ (a .answer .result) (a .answer .ensures) (k .enum-told .given .1) (p .copy-to .ensures ∙ n .encode .ensures)
+    let size = fine-size (s .args .r) _ (sym (a .answer .ensures) ∙ k .enum-told .given .1) in
+    written-out (s .args .r) (s .args .frame .now) _ (a .answer .result) (a .answer .ensures) (k .enum-told .given .1) (p .copy-to .ensures ∙ right-size (s .args .frame .now) _ _ size ∙ n .encode .ensures)
 
 returns-2 : tie.Need-returns-2
 returns-2 c =
