@@ -1,5 +1,5 @@
 -- The laws of a page, over what a page stands for; `join-to` carries them over to pages. Assumes nothing.
-use mathlib.Core.Path.{_≡_, refl, ap, sym, _∙_, subst}
+use mathlib.Core.Path.{_≡_, refl, ap, sym, _∙_}
 use mathlib.Core.Bool.{Bool, true, false, cond}
 use mathlib.Core.List.{List, [], _∷_, _++_}
 use mathlib.Core.Logic.{_⊎_, inl, inr, ⊎-elim}
@@ -7,7 +7,7 @@ use Prim.Native.Nat.{ℕ}
 use native.Mathlib.Omega.{arith}
 use Rattle.bulletin.specs.declared.page.Page.{Page}
 use Rattle.bulletin.specs.Pages.{sameBytes, join, absentPage, heldPage, disputedPage}
-use Rattle.bulletin.proofs.Texts.{same-eq, eq-same, ne-same, same?}
+use Rattle.bulletin.proofs.Texts.{eq-same, ne-same, same?}
 
 abbrev pub Text : Type 0
 Text = List ℕ

@@ -2,21 +2,21 @@
 use mathlib.Core.Path.{_≡_, refl, ap, sym, _∙_}
 use mathlib.Core.Bool.{Bool, true, false, cond}
 use mathlib.Core.List.{List, [], _∷_}
-use mathlib.Core.Logic.{⊎-elim}
-use Prim.Native.Nat.{ℕ, zero, suc, _+_, _<_, _≤_}
+use Prim.Native.Nat.{ℕ, zero, suc, _<_}
 use native.Mathlib.Omega.{arith}
 use lib.ListN.{length, getD}
 use lib.Seq.{ext-getD}
 use lib.Dec.{eqb, ltb}
-use borrow.Author.Tests.{eqb-true, ltb-true, ltb-false}
+use borrow.Author.Tests.{eqb-true}
 use Rattle.bulletin.specs.declared.page.Page.{Page}
 use Rattle.bulletin.specs.declared.store.Store.{Store}
-use Rattle.bulletin.specs.Pages.{noPage, zeros, absentPage, sameBytes, join, soundPage, soundAt, soundFrom}
+use Rattle.bulletin.specs.Pages.{noPage, zeros, sameBytes, join, soundPage, soundAt, soundFrom}
 use Rattle.bulletin.specs.Stores.{at, soundStore}
 use Rattle.bulletin.specs.Merges.{joined}
-use Rattle.bulletin.proofs.Texts.{false-not-true, same-eq}
+use Rattle.report.proofs.Outcomes.{false-not-true}
+use Rattle.bulletin.proofs.Texts.{same-eq}
 use Rattle.bulletin.proofs.Joins.{length-joins, getD-joins}
-use Rattle.bulletin.proofs.Ranges.{sound-parts, total-most}
+use Rattle.bulletin.proofs.Ranges.{sound-parts}
 use Rattle.bulletin.proofs.Marks.{Text, Mark, absent, held, disputed, toPage, joinM, join-to, joinM-comm, joinM-assoc, joinM-idem}
 
 -- ---- a page that passes the test stands for one of the three

@@ -1,7 +1,7 @@
 -- What a sound store's name tells. Assumes nothing.
-use mathlib.Core.Path.{_≡_, refl, sym, ap, _∙_}
+use mathlib.Core.Path.{_≡_, refl}
 use mathlib.Core.Bool.{Bool, true, false, cond}
-use Prim.Native.Nat.{ℕ, _≤_}
+use Prim.Native.Nat.{_≤_}
 use Rattle.report.specs.declared.refusal.Verdict.{Verdict}
 use Rattle.report.specs.declared.refusal.Verdict.the-variants.{Fine, Refused}
 use Rattle.report.specs.declared.refusal.Refusal.{Refusal}

@@ -1,5 +1,5 @@
 -- Taking a record: "14, then what writing that record to 32 bytes would refuse, 12, 13".
-use mathlib.Core.Bool.{Bool, true, false, cond}
+use mathlib.Core.Bool.{cond}
 use mathlib.Core.List.{List}
 use Prim.Native.Nat.{ℕ, _-_}
 use lib.ListN.{set}

@@ -1,5 +1,5 @@
 -- "The text is the pages' bytes in order, less all zero bytes at its end"; "Text: 14, 15, 16".
-use mathlib.Core.Bool.{Bool, true, false, cond}
+use mathlib.Core.Bool.{cond}
 use mathlib.Core.List.{List, [], _∷_, _++_}
 use Prim.Native.Nat.{ℕ, zero, suc, _-_, _*_}
 use lib.ListN.{length, getD, take, drop}
@@ -7,7 +7,6 @@ use lib.Dec.{eqb, ltb}
 use Rattle.report.specs.declared.refusal.Verdict.{Verdict}
 use Rattle.report.specs.declared.refusal.Verdict.the-variants.{Fine, Refused}
 use Rattle.report.specs.declared.refusal.Refusal.the-variants.{Unsound, NotHeld, Short}
-use Rattle.report.specs.Refusals.{_then_, unless}
 use Rattle.bulletin.specs.declared.page.Page.{Page}
 use Rattle.bulletin.specs.declared.store.Store.{Store}
 use Rattle.bulletin.specs.declared.text.Telling.{Telling}

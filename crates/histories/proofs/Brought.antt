@@ -12,6 +12,7 @@ use Rattle.report.specs.declared.record.Body.the-variants.{Nankai}
 use Rattle.report.specs.declared.record.Page.{Page as Numbers}
 use Rattle.report.specs.declared.record.Record.{Record}
 use Rattle.report.specs.declared.refusal.Refusal.{Refusal}
+use Rattle.report.proofs.Outcomes.{and-both}
 use Rattle.bulletin.specs.declared.page.Page.{Page}
 use Rattle.bulletin.specs.declared.name.Name.{Name}
 use Rattle.bulletin.specs.declared.store.Store.{Store}
@@ -21,7 +22,6 @@ use Rattle.bulletin.specs.Pages.{join, heldPage}
 use Rattle.bulletin.specs.Names.{sameCommon, sameName}
 use Rattle.bulletin.specs.Stores.{noPages, soundStore, at}
 use Rattle.bulletin.specs.Takings.{nameOf, told, putPage, takeOf}
-use Rattle.bulletin.proofs.Texts.{and-both}
 use Rattle.bulletin.proofs.Admitted.{Admits, numbered}
 use Rattle.bulletin.proofs.Decided.{taken-or-refused}
 use Rattle.bulletin.proofs.Claims.{a-sound-store-takes-every-page}

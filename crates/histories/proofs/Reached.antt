@@ -4,7 +4,7 @@ use mathlib.Core.Bool.{Bool, true, false}
 use mathlib.Core.List.{List, [], _∷_, _++_}
 use Rattle.report.specs.declared.refusal.Verdict.{Verdict}
 use Rattle.report.specs.declared.refusal.Verdict.the-variants.{Fine, Refused}
-use Rattle.report.proofs.Outcomes.{fine-both, unless-fine}
+use Rattle.report.proofs.Outcomes.{fine-both, unless-fine, false-not-true}
 use Rattle.bulletin.specs.declared.name.Name.{Name}
 use Rattle.bulletin.specs.declared.store.Store.{Store}
 use Rattle.bulletin.specs.declared.merge.Merging.{Merging}
@@ -12,7 +12,6 @@ use Rattle.bulletin.specs.Names.{sameName}
 use Rattle.bulletin.specs.Stores.{soundStore, ShapedStore}
 use Rattle.bulletin.specs.Takings.{takeOf}
 use Rattle.bulletin.specs.Merges.{mergeVerdict, joined, merging, mergeOf}
-use Rattle.bulletin.proofs.Texts.{false-not-true}
 use Rattle.histories.specs.Soundness.{InRange, Sound}
 use Rattle.histories.specs.Frames.{Frame, takes, after}
 use Rattle.histories.specs.Histories.{History, opened, took, merged, met, refused, storeOf, framesOf}

@@ -8,11 +8,12 @@ use native.Mathlib.Omega.{arith}
 use lib.ListN.{length, getD}
 use lib.Dec.{eqb, ltb}
 use borrow.Author.Tests.{eqb-true, eq-eqb, ne-eqb, ltb-true, ltb-false}
+use Rattle.report.proofs.Outcomes.{false-not-true}
 use Rattle.bulletin.specs.declared.page.Page.{Page}
 use Rattle.bulletin.specs.declared.store.Store.{Store}
 use Rattle.bulletin.specs.Pages.{noPage, zeros, sameBytes, soundPage, soundAt, soundFrom}
 use Rattle.bulletin.specs.Stores.{at, soundStore}
-use Rattle.bulletin.proofs.Texts.{false-not-true, same-eq, eq-same}
+use Rattle.bulletin.proofs.Texts.{same-eq, eq-same}
 use Rattle.bulletin.proofs.Ranges.{sound-parts}
 use Rattle.histories.specs.Soundness.{OneOfThree, Sound}
 use Rattle.histories.proofs.NameRanges.{fine-in-range, in-range-fine}

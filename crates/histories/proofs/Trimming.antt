@@ -12,7 +12,6 @@ use borrow.Author.Tests.{eqb-true, eqb-false}
 use Rattle.bulletin.specs.declared.page.Page.{Page}
 use Rattle.bulletin.specs.Pages.{noPage}
 use Rattle.bulletin.specs.Text.{flat, textLength}
-use Rattle.bulletin.proofs.Flat.{textLength-most}
 use Rattle.bulletin.proofs.Texts.{below?}
 use Rattle.histories.specs.Reports.{inOrder, Trimmed}
 

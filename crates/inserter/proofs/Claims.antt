@@ -1,14 +1,13 @@
 -- What this crate claims of its definitions: a refused call leaves a store's bytes as they were. Assumes nothing.
-use mathlib.Core.Path.{_≡_, refl, sym, ap, _∙_}
+use mathlib.Core.Path.{_≡_, ap, _∙_}
 use mathlib.Core.List.{List}
 use Prim.Native.Nat.{ℕ}
 use lib.ListN.{length}
 use Rattle.report.specs.declared.refusal.Refusal.{Refusal}
 use Rattle.report.specs.declared.refusal.Verdict.the-variants.{Refused}
 use Rattle.bulletin.specs.declared.take.Taken.the-variants.{Refused as NotTaken}
-use Rattle.bulletin.specs.declared.store.Store.{Store}
 use Rattle.bulletin.specs.Takings.{takeOf}
-use Rattle.bulletin.specs.Merges.{mergeVerdict, mergeOf}
+use Rattle.bulletin.specs.Merges.{mergeVerdict}
 use Rattle.bulletin.proofs.Claims.{an-answered-refusal-leaves-the-store, a-refused-merge-gives-the-first}
 use Rattle.packed.specs.Unpacked.{unpacked}
 use Rattle.packed.specs.Shelves.{storeBytes, storeFrom}

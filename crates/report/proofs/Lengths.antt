@@ -1,10 +1,9 @@
 -- Each row of a table has its value. Assumes nothing.
 use mathlib.Core.Path.{_≡_, refl, ap, _∙_}
-use Prim.Native.Nat.{ℕ, zero, suc, _+_, _≤_}
+use Prim.Native.Nat.{ℕ, zero, suc, _+_}
 use mathlib.Core.List.{List, [], _∷_, map}
 use lib.ListN.{length, take, length-map, length-append}
 use lib.Seq.{length-take-le}
-use lib.Dec.{lit≤}
 use Rattle.report.specs.declared.record.Body.{Body}
 use Rattle.report.specs.declared.record.Body.the-variants.{Nothing, Hypocenter, Intensity, Nankai, AshFall}
 use Rattle.report.specs.declared.record.Slot.{Slot}
@@ -15,6 +14,7 @@ use Rattle.report.specs.Layout.{Layout, common, ending, layout, slotCoun
 use Rattle.report.specs.Verdict.{Values}
 use Rattle.report.specs.Records.{each, cut, valuesOf, slotValues, bodyValues, values}
 use Rattle.report.proofs.Frames.{length-each}
+use Rattle.report.proofs.SlotTurns.{at-most-sixteen}
 
 -- a value for each row of each slot, from the bit `at` on
 abbrev pub SlotsFilled : SlotKind → ℕ → List (List ℕ) → Type 0
@@ -63,11 +63,6 @@ slot-filled Places at s = refl
 map-filled : (k : SlotKind) (at : ℕ) (ss : List Slot) → SlotsFilled k at (map (slotValues k) ss)
 map-filled k at [] = tt
 map-filled k at (s ∷ ss) = (slot-filled k at s, map-filled k (at + slotBits k) ss)
-
-at-most-sixteen : (k : SlotKind) → slotCount k ≤ 16
-at-most-sixteen NoSlots = lit≤ tt
-at-most-sixteen Prefectures = lit≤ tt
-at-most-sixteen Places = lit≤ tt
 
 slots-counted : (k : SlotKind) (ss : List Slot) → length ss ≡ 16 → length (map (slotValues k) (take (slotCount k) ss)) ≡ slotCount k
 slots-counted k ss n = length-map (take (slotCount k) ss) (slotValues k) ∙ length-take-le (slotCount k) ss (rw n (at-most-sixteen k))

@@ -1,7 +1,6 @@
 -- Records as lists have a shape: sixteen slots, 18 text bytes. Assumes nothing.
 use mathlib.Core.Path.{_≡_, refl}
 use Prim.Native.Nat.{ℕ}
-use native.Mathlib.Omega.{arith}
 use mathlib.Core.List.{List}
 use lib.ListN.{length}
 use Rattle.report.specs.declared.record.Body.{Body}

@@ -1,10 +1,9 @@
 -- `inserter::stores::lz_text` meets its contract. Assumes nothing.
-use mathlib.Core.Path.{_≡_, sym, ap, _∙_}
-use Prim.Native.Nat.{ℕ, _≤_}
+use mathlib.Core.Path.{sym, ap, _∙_}
+use Prim.Native.Nat.{_≤_}
 use native.Mathlib.Omega.{arith}
 use borrow.Author.Tests.{ne-eqb}
 use Rattle.report.specs.declared.refusal.Verdict.{Verdict}
-use Rattle.bulletin.specs.declared.text.Telling.{Telling}
 use Rattle.inserter.specs.Answers.{lengthOr, textInto}
 use Rattle.inserter.proofs.StoreDoors.{text-left, text-is-small}
 use borrow.Author.Needs.{needs}

@@ -1,6 +1,5 @@
 -- `bulletin::name::Name::admit` meets its contract. Assumes nothing.
 use mathlib.Core.Path.{sym, _∙_}
-use Rattle.bulletin.specs.Takings.{belongs}
 use Rattle.bulletin.proofs.Admitted.{no-page, of-bulletin, of-another}
 use borrow.Author.Needs.{needs}
 use Rattle.bulletin.proofs.name.Name.admit.Statement.{statement}

@@ -1,6 +1,5 @@
 -- `bulletin::page::Page::is_sound` meets its contract. Assumes nothing.
 use mathlib.Core.Path.{sym, _∙_}
-use native.Mathlib.Omega.{arith}
 use borrow.Author.Needs.{needs}
 use borrow.Author.Tests.{eq-eqb}
 use Rattle.bulletin.specs.Pages.{soundPage}

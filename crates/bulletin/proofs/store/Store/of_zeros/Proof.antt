@@ -1,5 +1,5 @@
 -- `bulletin::store::Store::of_zeros` meets its contract. Assumes nothing.
-use mathlib.Core.Path.{_≡_, ap, _∙_}
+use mathlib.Core.Path.{ap, _∙_}
 use Rattle.bulletin.specs.declared.name.Name.{Name}
 use Rattle.bulletin.specs.Stores.{noPages}
 use borrow.Author.Needs.{needs}

@@ -1,5 +1,4 @@
 -- `bulletin::store::Store::open` meets its contract. Assumes nothing.
-use mathlib.Core.Path.{_≡_, sym, ap, _∙_}
 use Rattle.bulletin.proofs.Opened.{opened-fine, opened-refused}
 use borrow.Author.Needs.{needs}
 use Rattle.bulletin.proofs.store.Store.open.Statement.{statement}

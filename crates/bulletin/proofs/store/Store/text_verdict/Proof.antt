@@ -1,5 +1,5 @@
 -- `bulletin::store::Store::text_verdict` meets its contract. Assumes nothing.
-use mathlib.Core.Path.{_≡_, sym, _∙_}
+use mathlib.Core.Path.{sym, _∙_}
 use borrow.Author.Tests.{not-true, not-false, eq-eqb, ne-eqb}
 use Rattle.bulletin.specs.Text.{textVerdict}
 use borrow.Author.Needs.{needs}
