@@ -33,7 +33,8 @@ use Rattle.bulletin.specs.declared.store.Store.{Store}
 use Rattle.bulletin.specs.Names.{sameName}
 use Rattle.bulletin.specs.Stores.{soundStore}
 use Rattle.bulletin.specs.declared.take.Taking.{Taking}
-use Rattle.bulletin.specs.Takings.{nameOf, belongs, writable, admission, putPage, taking, takeOf, soundness, refusing}
+use Rattle.bulletin.specs.Takings.{nameOf, belongs, writable, admission, putPage, taking, takeOf}
+use Rattle.bulletin.specs.Steps.{soundness, refusing}
 
 no0 : _≡_ {A = ℕ} 3 0 → ⊥
 no0 z = omega arith

@@ -2,6 +2,7 @@ pub mod Pages
 pub mod Names
 pub mod Stores
 pub mod Takings
+pub mod Steps
 pub mod Merges
 pub mod Counts
 pub mod Text

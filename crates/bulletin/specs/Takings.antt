@@ -12,7 +12,6 @@ use Rattle.report.specs.declared.record.Page.{Page as Numbers}
 use Rattle.report.specs.declared.refusal.Verdict.{Verdict}
 use Rattle.report.specs.declared.refusal.Verdict.the-variants.{Fine, Refused as Refuses}
 use Rattle.report.specs.declared.refusal.Refusal.the-variants.{NoPage, OtherBulletin, Unsound}
-use Rattle.report.specs.Refusals.{unless}
 use Rattle.report.specs.Writing.{writeAnswer}
 use Rattle.bulletin.specs.declared.page.Page.{Page}
 use Rattle.bulletin.specs.declared.name.Name.{Name}
@@ -66,19 +65,3 @@ taking (NotAdmitted x) s t = record { answer = Refused x; store = s }
 
 abbrev pub takeOf : Store → Record → Taking
 takeOf s r = taking (admission s r) s (r .text)
-
--- ---- the same step by step
-
--- 14
-unfoldable pub soundness : Store → Verdict
-soundness s = unless (soundStore s) Unsound
-
--- 12, 13
-abbrev pub found : Admission → Verdict
-found (Number k) = Fine
-found (NotAdmitted x) = Refuses x
-
--- a step's refusal; `Fine` is none, and goes on to the next step
-abbrev pub refusing : Verdict → Store → Taking
-refusing (Refuses x) s = record { answer = Refused x; store = s }
-refusing Fine s = record { answer = Same; store = s }

@@ -2,7 +2,8 @@
 ghost use mathlib.Core.Path.{_≡_};
 ghost use Prim.Native.Nat.{_-_, _≤_};
 ghost use Rattle.report.specs.Writing.{writeAnswer};
-ghost use Rattle.bulletin.specs.Takings.{told, belongs, soundness, found, refusing, putPage, takeOf};
+ghost use Rattle.bulletin.specs.Takings.{told, belongs, putPage, takeOf};
+ghost use Rattle.bulletin.specs.Steps.{soundness, found, refusing};
 use crate::name::Name;
 use crate::page::Page;
 use crate::store::Store;

@@ -2,7 +2,7 @@
 use mathlib.Core.Path.{_∙_}
 use Rattle.report.proofs.Outcomes.{fine-then}
 use Rattle.report.proofs.Walks.{asked}
-use Rattle.bulletin.specs.Takings.{soundness}
+use Rattle.bulletin.specs.Steps.{soundness}
 use borrow.Author.Needs.{needs}
 use Rattle.bulletin.proofs.store.Store.soundness.Statement.{statement}
 use Rattle.bulletin.proofs.store.Store.soundness.Tie as tie

@@ -2,7 +2,8 @@
 use mathlib.Core.Path.{_≡_, ap, sym, _∙_}
 use native.Mathlib.Omega.{arith}
 use Rattle.report.proofs.Shapes.{Shaped}
-use Rattle.bulletin.specs.Takings.{found, admission}
+use Rattle.bulletin.specs.Takings.{admission}
+use Rattle.bulletin.specs.Steps.{found}
 use Rattle.bulletin.proofs.Texts.{unmapped}
 use Rattle.bulletin.proofs.Admitted.{admits, numbered, unsound-store, sound-store, unwritable, writable-record, taken-refused, taken-in}
 use borrow.Author.Needs.{needs}

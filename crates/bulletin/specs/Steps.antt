@@ -1,0 +1,25 @@
+-- Cited by private functions alone: a taking step by step, each step with a verdict of its own.
+use Rattle.report.specs.declared.refusal.Verdict.{Verdict}
+use Rattle.report.specs.declared.refusal.Verdict.the-variants.{Fine, Refused as Refuses}
+use Rattle.report.specs.declared.refusal.Refusal.the-variants.{Unsound}
+use Rattle.report.specs.Refusals.{unless}
+use Rattle.bulletin.specs.declared.store.Store.{Store}
+use Rattle.bulletin.specs.declared.take.Taken.the-variants.{Same, Refused}
+use Rattle.bulletin.specs.declared.take.Taking.{Taking}
+use Rattle.bulletin.specs.declared.take.Admission.{Admission}
+use Rattle.bulletin.specs.declared.take.Admission.the-variants.{Number, Refused as NotAdmitted}
+use Rattle.bulletin.specs.Stores.{soundStore}
+
+-- 14
+unfoldable pub soundness : Store → Verdict
+soundness s = unless (soundStore s) Unsound
+
+-- 12, 13
+abbrev pub found : Admission → Verdict
+found (Number k) = Fine
+found (NotAdmitted x) = Refuses x
+
+-- what a step's refusal comes to. No step hands on `Fine`, which is none; a function by value needs an answer there too
+abbrev pub refusing : Verdict → Store → Taking
+refusing (Refuses x) s = record { answer = Refused x; store = s }
+refusing Fine s = record { answer = Same; store = s }
