@@ -14,15 +14,16 @@ use Rattle.report.specs.declared.record.Body.{Body}
 use Rattle.report.specs.declared.record.Body.the-variants.{Nothing, Hypocenter, Intensity, Nankai, AshFall}
 use Rattle.report.specs.declared.record.Page.{Page as Numbers}
 use Rattle.report.specs.declared.record.Record.{Record}
-use Rattle.report.specs.declared.refusal.Verdict.{Verdict}
-use Rattle.report.specs.declared.refusal.Verdict.the-variants.{Fine, Refused as Refuses}
-use Rattle.report.specs.declared.refusal.Refusal.{Refusal}
-use Rattle.report.specs.declared.refusal.Refusal.the-variants.{NoPage, OtherBulletin, Unsound}
-use Rattle.report.specs.Layout.{layout, bytes, page}
+use Rattle.rows.specs.declared.refusal.Verdict.{Verdict}
+use Rattle.rows.specs.declared.refusal.Verdict.the-variants.{Fine, Refused as Refuses}
+use Rattle.rows.specs.declared.refusal.Refusal.{Refusal}
+use Rattle.rows.specs.declared.refusal.Refusal.the-variants.{NoPage, OtherBulletin, Unsound}
+use Rattle.report.specs.Layout.{layout, page}
+use Rattle.rows.specs.Layout.{bytes}
 use Rattle.report.specs.Records.{values, bodyValues}
-use Rattle.report.specs.Conforms.{Kept}
+use Rattle.rows.specs.Kept.{Kept}
 use Rattle.report.specs.Writing.{writeAnswer, Valid}
-use Rattle.report.proofs.Outcomes.{unless-fine, unless-refused}
+use Rattle.rows.proofs.Outcomes.{unless-fine, unless-refused}
 use Rattle.report.proofs.Shapes.{Shaped}
 use Rattle.report.proofs.Claims.{valid-keeps-rules}
 use Rattle.report.proofs.record.Body as B

@@ -12,11 +12,11 @@ use lib.ListN.{length, getD, set}
 use Rattle.report.specs.declared.record.Record.{Record}
 use Rattle.report.specs.declared.record.Page.{Page as Numbers}
 use Rattle.report.specs.declared.record.Body.the-variants.{Nankai}
-use Rattle.report.specs.declared.refusal.Refusal.{Refusal}
-use Rattle.report.specs.declared.refusal.Refusal.the-variants.{Unsound}
+use Rattle.rows.specs.declared.refusal.Refusal.{Refusal}
+use Rattle.rows.specs.declared.refusal.Refusal.the-variants.{Unsound}
 use Rattle.report.specs.Writing.{writeAnswer, Valid}
-use Rattle.report.specs.declared.refusal.Verdict.{Verdict}
-use Rattle.report.specs.declared.refusal.Verdict.the-variants.{Fine, Refused}
+use Rattle.rows.specs.declared.refusal.Verdict.{Verdict}
+use Rattle.rows.specs.declared.refusal.Verdict.the-variants.{Fine, Refused}
 use Rattle.bulletin.specs.declared.page.Page.{Page}
 use Rattle.bulletin.specs.declared.name.Name.{Name}
 use Rattle.bulletin.specs.declared.store.Store.{Store}
@@ -26,7 +26,7 @@ use Rattle.bulletin.specs.declared.take.Taken.the-variants.{New, Same, D
 use Rattle.bulletin.specs.Pages.{noPage, join, heldPage, disputedPage}
 use Rattle.report.specs.Layout.{nankai}
 use Rattle.report.specs.Records.{values}
-use Rattle.report.specs.Reasons.{Lowest}
+use Rattle.rows.specs.Faults.{Lowest}
 use Rattle.bulletin.specs.Names.{firstPage, nameVerdict, sameName}
 use Rattle.bulletin.specs.Stores.{noPages, zeroStore, opening, openOf, soundStore, at}
 use Rattle.bulletin.specs.Takings.{told, nameOf, belongs, writable, admission, putPage, taking, takeOf}

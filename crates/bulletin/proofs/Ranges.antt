@@ -2,17 +2,17 @@
 use mathlib.Core.Path.{_≡_, refl}
 use mathlib.Core.Bool.{Bool, true, false, cond}
 use Prim.Native.Nat.{_≤_}
-use Rattle.report.specs.declared.refusal.Verdict.{Verdict}
-use Rattle.report.specs.declared.refusal.Verdict.the-variants.{Fine, Refused}
-use Rattle.report.specs.declared.refusal.Refusal.{Refusal}
-use Rattle.report.specs.declared.refusal.Refusal.the-variants.{Unsound}
+use Rattle.rows.specs.declared.refusal.Verdict.{Verdict}
+use Rattle.rows.specs.declared.refusal.Verdict.the-variants.{Fine, Refused}
+use Rattle.rows.specs.declared.refusal.Refusal.{Refusal}
+use Rattle.rows.specs.declared.refusal.Refusal.the-variants.{Unsound}
 use Rattle.report.specs.Layout.{layout, nankai}
 use Rattle.report.specs.Records.{values, bodyValues}
-use Rattle.report.specs.Conforms.{Holds}
-use Rattle.report.specs.Reasons.{Lowest}
-use Rattle.report.proofs.Frames.{turn-place}
-use Rattle.report.proofs.Outcomes.{not-both, false-not-true}
-use Rattle.report.proofs.JudgedFrames.{JudgesAll}
+use Rattle.rows.specs.Kept.{Holds}
+use Rattle.rows.specs.Faults.{Lowest}
+use Rattle.rows.proofs.Judged.{turn-place}
+use Rattle.rows.proofs.Outcomes.{not-both, false-not-true}
+use Rattle.rows.proofs.JudgedFrames.{JudgesAll}
 use Rattle.report.proofs.Validity.{judged-record}
 use Rattle.bulletin.specs.declared.name.Name.{Name}
 use Rattle.bulletin.specs.declared.store.Store.{Store}

@@ -1,9 +1,9 @@
 -- Merging: "14, 13", then page by page.
 use mathlib.Core.List.{List, [], _∷_}
-use Rattle.report.specs.declared.refusal.Verdict.{Verdict}
-use Rattle.report.specs.declared.refusal.Verdict.the-variants.{Fine, Refused}
-use Rattle.report.specs.declared.refusal.Refusal.the-variants.{OtherBulletin, Unsound}
-use Rattle.report.specs.Refusals.{_then_, unless}
+use Rattle.rows.specs.declared.refusal.Verdict.{Verdict}
+use Rattle.rows.specs.declared.refusal.Verdict.the-variants.{Fine, Refused}
+use Rattle.rows.specs.declared.refusal.Refusal.the-variants.{OtherBulletin, Unsound}
+use Rattle.rows.specs.Refusals.{_then_, unless}
 use Rattle.bulletin.specs.declared.page.Page.{Page}
 use Rattle.bulletin.specs.declared.store.Store.{Store}
 use Rattle.bulletin.specs.declared.merge.Merging.{Merging}

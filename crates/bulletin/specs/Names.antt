@@ -5,11 +5,11 @@ use lib.ListN.{replicate}
 use Rattle.report.specs.declared.record.Common.{Common}
 use Rattle.report.specs.declared.record.Body.the-variants.{Nankai}
 use Rattle.report.specs.declared.record.Record.{Record}
-use Rattle.report.specs.declared.refusal.Verdict.{Verdict}
-use Rattle.report.specs.declared.refusal.Verdict.the-variants.{Fine, Refused}
+use Rattle.rows.specs.declared.refusal.Verdict.{Verdict}
+use Rattle.rows.specs.declared.refusal.Verdict.the-variants.{Fine, Refused}
 use Rattle.report.specs.Layout.{nankai}
 use Rattle.report.specs.Records.{noSlot, values}
-use Rattle.report.specs.Verdict.{verdict}
+use Rattle.rows.specs.Verdict.{verdict}
 use Rattle.bulletin.specs.declared.name.Name.{Name}
 
 abbrev pub zeroName : Name

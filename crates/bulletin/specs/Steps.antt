@@ -1,8 +1,8 @@
 -- Cited by private functions alone: a taking step by step, each step with a verdict of its own.
-use Rattle.report.specs.declared.refusal.Verdict.{Verdict}
-use Rattle.report.specs.declared.refusal.Verdict.the-variants.{Fine, Refused as Refuses}
-use Rattle.report.specs.declared.refusal.Refusal.the-variants.{Unsound}
-use Rattle.report.specs.Refusals.{unless}
+use Rattle.rows.specs.declared.refusal.Verdict.{Verdict}
+use Rattle.rows.specs.declared.refusal.Verdict.the-variants.{Fine, Refused as Refuses}
+use Rattle.rows.specs.declared.refusal.Refusal.the-variants.{Unsound}
+use Rattle.rows.specs.Refusals.{unless}
 use Rattle.bulletin.specs.declared.store.Store.{Store}
 use Rattle.bulletin.specs.declared.take.Taken.the-variants.{Same, Refused}
 use Rattle.bulletin.specs.declared.take.Taking.{Taking}

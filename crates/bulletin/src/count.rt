@@ -3,8 +3,8 @@ ghost use mathlib.Core.Path.{_≡_};
 ghost use Prim.Native.Nat.{_≤_};
 ghost use Rattle.bulletin.specs.Counts.{marked, lowest, reportOf};
 use crate::store::Store;
-use report::refusal::Refusal;
-use report::refusal::Verdict;
+use rows::refusal::Refusal;
+use rows::refusal::Verdict;
 
 // Lowest is 0 where every page is held. A refused report gives zeros.
 pub struct Count {

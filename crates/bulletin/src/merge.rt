@@ -2,8 +2,8 @@
 ghost use mathlib.Core.Path.{_≡_};
 ghost use Rattle.bulletin.specs.Merges.{joined, mergeVerdict, mergeOf};
 use crate::store::Store;
-use report::refusal::Refusal;
-use report::refusal::Verdict;
+use rows::refusal::Refusal;
+use rows::refusal::Verdict;
 
 // A store after a merge: where that is refused, the first store as it was.
 pub struct Merging {

@@ -9,7 +9,7 @@ use report::record::Common;
 use report::record::Page;
 use report::record::Record;
 use report::record::Slot;
-use report::refusal::Verdict;
+use rows::refusal::Verdict;
 
 pub struct Name {
     pub common: Common,

@@ -3,7 +3,7 @@ ghost use mathlib.Core.Path.{_≡_};
 ghost use Rattle.bulletin.specs.Stores.{noPages, zeroStore, openOf, soundStore, ShapedStore};
 use crate::name::Name;
 use crate::page::Page;
-use report::refusal::Verdict;
+use rows::refusal::Verdict;
 
 pub struct Store {
     pub name: Name,

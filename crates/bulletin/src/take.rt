@@ -9,8 +9,8 @@ use crate::page::Page;
 use crate::store::Store;
 use report::record::Body;
 use report::record::Record;
-use report::refusal::Refusal;
-use report::refusal::Verdict;
+use rows::refusal::Refusal;
+use rows::refusal::Verdict;
 
 // What a taking answers.
 pub enum Taken {

@@ -6,8 +6,8 @@ ghost use lib.ListN.{length, getD, take, drop};
 ghost use Rattle.bulletin.specs.Text.{flat, textLength, absence, textVerdict, tellOf, textOf};
 use crate::page::Page;
 use crate::store::Store;
-use report::refusal::Refusal;
-use report::refusal::Verdict;
+use rows::refusal::Refusal;
+use rows::refusal::Verdict;
 
 // The answer, and how many bytes were written.
 pub struct Telling {

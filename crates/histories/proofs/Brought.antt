@@ -11,8 +11,8 @@ use Rattle.report.specs.declared.record.Common.{Common}
 use Rattle.report.specs.declared.record.Body.the-variants.{Nankai}
 use Rattle.report.specs.declared.record.Page.{Page as Numbers}
 use Rattle.report.specs.declared.record.Record.{Record}
-use Rattle.report.specs.declared.refusal.Refusal.{Refusal}
-use Rattle.report.proofs.Outcomes.{and-both}
+use Rattle.rows.specs.declared.refusal.Refusal.{Refusal}
+use Rattle.rows.proofs.Outcomes.{and-both}
 use Rattle.bulletin.specs.declared.page.Page.{Page}
 use Rattle.bulletin.specs.declared.name.Name.{Name}
 use Rattle.bulletin.specs.declared.store.Store.{Store}

@@ -9,9 +9,10 @@ use lib.ListN.{length, getD, replicate}
 use Rattle.report.specs.declared.record.Body.the-variants.{Nankai}
 use Rattle.report.specs.declared.record.Record.{Record}
 use Rattle.report.specs.declared.record.Slot.{Slot}
-use Rattle.report.specs.Layout.{_to_, layout, nankai, bytes, page}
+use Rattle.rows.specs.Layout.{_to_, bytes}
+use Rattle.report.specs.Layout.{layout, nankai, page}
 use Rattle.report.specs.Records.{values, bodyValues}
-use Rattle.report.specs.Conforms.{In, Kept, Holds}
+use Rattle.rows.specs.Kept.{In, Kept, Holds}
 use Rattle.bulletin.specs.declared.name.Name.{Name}
 use Rattle.bulletin.proofs.Marks.{Text}
 use Rattle.histories.specs.Soundness.{InRange}

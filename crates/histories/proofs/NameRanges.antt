@@ -2,7 +2,7 @@
 use mathlib.Core.Path.{_≡_, refl}
 use native.Mathlib.Omega.{arith}
 use lib.ListN.{replicate}
-use Rattle.report.specs.declared.refusal.Verdict.the-variants.{Fine}
+use Rattle.rows.specs.declared.refusal.Verdict.the-variants.{Fine}
 use Rattle.report.specs.Layout.{layout}
 use Rattle.report.specs.Records.{noSlot, values, bodyValues}
 use Rattle.bulletin.specs.declared.name.Name.{Name}

@@ -10,9 +10,10 @@ use Rattle.report.specs.declared.record.Body.{Body}
 use Rattle.report.specs.declared.record.Body.the-variants.{Nothing}
 use Rattle.report.specs.declared.record.Slot.{Slot}
 use Rattle.report.specs.declared.record.Record.{Record}
-use Rattle.report.specs.Layout.{Row, layout, bytes, page}
+use Rattle.rows.specs.Layout.{Row, bytes}
+use Rattle.report.specs.Layout.{layout, page}
 use Rattle.report.specs.Records.{noSlot, values, bodyValues}
-use Rattle.report.specs.Conforms.{Kept}
+use Rattle.rows.specs.Kept.{Kept}
 use Rattle.report.specs.Writing.{KeepsRules}
 use Rattle.report.proofs.Claims.{valid-keeps-rules, keeping-rules-is-valid}
 use Rattle.bulletin.specs.declared.name.Name.{Name}

@@ -5,8 +5,8 @@ use Prim.Native.Nat.{ℕ}
 use native.Mathlib.Omega.{arith}
 use lib.ListN.{replicate}
 use Rattle.report.specs.declared.record.Record.{Record}
-use Rattle.report.specs.declared.refusal.Verdict.the-variants.{Fine}
-use Rattle.report.specs.declared.refusal.Refusal.the-variants.{NotHeld}
+use Rattle.rows.specs.declared.refusal.Verdict.the-variants.{Fine}
+use Rattle.rows.specs.declared.refusal.Refusal.the-variants.{NotHeld}
 use Rattle.bulletin.specs.declared.count.Count.{Count}
 use Rattle.bulletin.specs.Counts.{reportOf}
 use Rattle.bulletin.proofs.Marks.{Text}

@@ -8,10 +8,10 @@ use lib.ListN.{length, set}
 use lib.Dec.{eqb, ltb}
 use borrow.Author.Tests.{eq-eqb}
 use Rattle.report.specs.declared.record.Record.{Record}
-use Rattle.report.specs.declared.refusal.Verdict.{Verdict}
-use Rattle.report.specs.declared.refusal.Verdict.the-variants.{Fine, Refused}
-use Rattle.report.specs.declared.refusal.Refusal.the-variants.{Short}
-use Rattle.report.specs.Refusals.{answers}
+use Rattle.rows.specs.declared.refusal.Verdict.{Verdict}
+use Rattle.rows.specs.declared.refusal.Verdict.the-variants.{Fine, Refused}
+use Rattle.rows.specs.declared.refusal.Refusal.the-variants.{Short}
+use Rattle.rows.specs.Refusals.{answers}
 use Rattle.bulletin.specs.declared.name.Name.{Name}
 use Rattle.bulletin.specs.declared.store.Store.{Store}
 use Rattle.bulletin.specs.declared.store.Opening.{Opening}

@@ -5,9 +5,9 @@ use Prim.Native.Nat.{ℕ}
 use mathlib.Core.List.{List}
 use lib.ListN.{length}
 use borrow.Author.Tests.{eq-eqb}
-use Rattle.report.specs.declared.refusal.Verdict.{Verdict}
+use Rattle.rows.specs.declared.refusal.Verdict.{Verdict}
 use Rattle.report.specs.declared.record.Record.{Record}
-use Rattle.report.specs.Refusals.{plain, answers}
+use Rattle.rows.specs.Refusals.{plain, answers}
 use Rattle.report.specs.Writing.{writeAnswer, writeOf}
 use Rattle.packed.specs.Unpacked.{unpacked, recordFrom}
 use Rattle.inserter.specs.Answers.{Left, word, left, writeFrom}

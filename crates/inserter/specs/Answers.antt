@@ -5,11 +5,11 @@ use mathlib.Core.List.{List, [], _∷_}
 use lib.ListN.{length}
 use lib.Dec.{eqb}
 use Rattle.parity.specs.Parity.{parityOf}
-use Rattle.report.specs.declared.refusal.Verdict.{Verdict}
-use Rattle.report.specs.declared.refusal.Verdict.the-variants.{Fine, Refused}
+use Rattle.rows.specs.declared.refusal.Verdict.{Verdict}
+use Rattle.rows.specs.declared.refusal.Verdict.the-variants.{Fine, Refused}
 use Rattle.report.specs.declared.record.Record.{Record}
 use Rattle.report.specs.declared.read.Reading.{Reading}
-use Rattle.report.specs.Refusals.{Said, plain, says, answers}
+use Rattle.rows.specs.Refusals.{Said, plain, says, answers}
 use Rattle.report.specs.Reading.{readOf}
 use Rattle.report.specs.Writing.{writeAnswer, writeOf}
 use Rattle.line.specs.Lines.{lineReading, lineAnswer, lineInto}

@@ -5,7 +5,7 @@ use crate::words::refusal_word;
 use crate::words::verdict_word;
 use crate::words::wrong_call;
 use report::read::Reading;
-use report::refusal::Verdict;
+use rows::refusal::Verdict;
 
 // The parity of a lent frame in the low three bytes. A slice that is no frame has 1, the number of
 // that refusal, in the high byte, and zeros below it.

@@ -7,7 +7,7 @@ use crate::words::taken_word;
 use crate::words::verdict_word;
 use crate::words::wrong_call;
 use bulletin::store::Store;
-use report::refusal::Verdict;
+use rows::refusal::Verdict;
 
 // Opens a store for the bulletin that 8 bytes name: Rc, month, day, hour, minute, It, Is, page total.
 // 8 with its place where a value is out of range, and then the store is zeros.

@@ -1,11 +1,11 @@
 // An answer as one word: the number of the refusal in the high byte, then its place, page and mark.
 ghost use mathlib.Core.Path.{_≡_};
 ghost use Prim.Native.Nat.{_+_, _*_, _^_};
-ghost use Rattle.report.specs.Refusals.{says, answers, plain};
+ghost use Rattle.rows.specs.Refusals.{says, answers, plain};
 ghost use Rattle.inserter.specs.Answers.{word, takenWord};
 use bulletin::take::Taken;
-use report::refusal::Refusal;
-use report::refusal::Verdict;
+use rows::refusal::Refusal;
+use rows::refusal::Verdict;
 
 fn word(number: u8, place: u8, page: u8, mark: u8) -> u32
     ensures { λ r. ⌜ r ≡ number * 2 ^ 24 + place * 2 ^ 16 + page * 2 ^ 8 + mark ⌝ }

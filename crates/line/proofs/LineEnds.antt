@@ -8,15 +8,15 @@ use lib.ListN.{length, take, drop, take-append-drop}
 use lib.Seq.{take-all}
 use borrow.Author.Tests.{eq-eqb, ne-eqb, le-leb, lt-leb}
 use Rattle.bits.specs.Frame.{fieldOf}
-use Rattle.report.specs.declared.refusal.Verdict.the-variants.{Fine, Refused}
-use Rattle.report.specs.declared.refusal.Refusal.{Refusal}
-use Rattle.report.specs.declared.refusal.Refusal.the-variants.{Length, Padding, Short, Line}
+use Rattle.rows.specs.declared.refusal.Verdict.the-variants.{Fine, Refused}
+use Rattle.rows.specs.declared.refusal.Refusal.{Refusal}
+use Rattle.rows.specs.declared.refusal.Refusal.the-variants.{Length, Padding, Short, Line}
 use Rattle.report.specs.declared.record.Record.{Record}
 use Rattle.report.specs.declared.read.Reading.{Reading}
-use Rattle.report.specs.Refusals.{_then_, unless}
+use Rattle.rows.specs.Refusals.{_then_, unless}
 use Rattle.report.specs.Records.{zeros}
 use Rattle.report.specs.Reading.{reading, readOf}
-use Rattle.report.proofs.Outcomes.{not-both}
+use Rattle.rows.proofs.Outcomes.{not-both}
 use Rattle.line.specs.declared.from_line.Framing.{Framing}
 use Rattle.line.specs.Lines.{isLine, frameOfLine, noLine, framing, lineReading, lineOf, lineAnswer, lineInto}
 use Rattle.line.proofs.Pairs.{line-length}

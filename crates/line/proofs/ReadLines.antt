@@ -6,13 +6,13 @@ use Prim.Native.Nat.{ℕ, _%_}
 use native.Mathlib.Omega.{arith}
 use lib.ListN.{length, replicate}
 use Rattle.bits.specs.Frame.{Bytes, bytesOf, fieldOf}
-use Rattle.report.specs.declared.refusal.Verdict.{Verdict}
-use Rattle.report.specs.declared.refusal.Verdict.the-variants.{Fine, Refused}
-use Rattle.report.specs.declared.refusal.Refusal.{Refusal}
-use Rattle.report.specs.declared.refusal.Refusal.the-variants.{Line}
+use Rattle.rows.specs.declared.refusal.Verdict.{Verdict}
+use Rattle.rows.specs.declared.refusal.Verdict.the-variants.{Fine, Refused}
+use Rattle.rows.specs.declared.refusal.Refusal.{Refusal}
+use Rattle.rows.specs.declared.refusal.Refusal.the-variants.{Line}
 use Rattle.report.specs.declared.record.Record.{Record}
 use Rattle.report.specs.declared.read.Reading.{Reading}
-use Rattle.report.specs.Refusals.{answers}
+use Rattle.rows.specs.Refusals.{answers}
 use Rattle.report.specs.Records.{recordOf, zeros}
 use Rattle.report.specs.Reading.{readAnswer, reading, readOf}
 use Rattle.report.specs.Writing.{frame, Valid}

@@ -9,10 +9,10 @@ use native.Mathlib.Omega.{arith}
 use lib.ListN.{getD}
 use lib.Dec.{leb}
 use borrow.Author.Tests.{leb-true}
-use Rattle.report.specs.Layout.{Span, _to_}
-use Rattle.report.specs.Verdict.{allowed}
-use Rattle.report.specs.Records.{each}
-use Rattle.report.proofs.Spans.{allowed-in}
+use Rattle.rows.specs.Layout.{Span, _to_}
+use Rattle.rows.specs.Verdict.{allowed}
+use Rattle.rows.specs.Values.{each}
+use Rattle.rows.proofs.Spans.{allowed-in}
 use Rattle.line.specs.Lines.{digits, worth, capital, upper}
 
 -- ---- a table, and two that are the same

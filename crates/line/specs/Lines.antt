@@ -6,13 +6,13 @@ use mathlib.Core.List.{List, [], _∷_, _++_, map}
 use lib.ListN.{length, take, drop, replicate}
 use lib.Dec.{eqb, ltb, leb}
 use Rattle.bits.specs.Frame.{fieldOf}
-use Rattle.report.specs.declared.refusal.Verdict.{Verdict}
-use Rattle.report.specs.declared.refusal.Verdict.the-variants.{Fine, Refused}
-use Rattle.report.specs.declared.refusal.Refusal.the-variants.{Length, Padding, Short, Line}
+use Rattle.rows.specs.declared.refusal.Verdict.{Verdict}
+use Rattle.rows.specs.declared.refusal.Verdict.the-variants.{Fine, Refused}
+use Rattle.rows.specs.declared.refusal.Refusal.the-variants.{Length, Padding, Short, Line}
 use Rattle.report.specs.declared.read.Reading.{Reading}
-use Rattle.report.specs.Refusals.{_then_, unless}
-use Rattle.report.specs.Layout.{Span, _to_}
-use Rattle.report.specs.Verdict.{allowed}
+use Rattle.rows.specs.Refusals.{_then_, unless}
+use Rattle.rows.specs.Layout.{Span, _to_}
+use Rattle.rows.specs.Verdict.{allowed}
 use Rattle.report.specs.Records.{zeros}
 use Rattle.report.specs.Reading.{reading, readOf}
 use Rattle.line.specs.declared.from_line.Framing.{Framing}

@@ -4,8 +4,8 @@ ghost use Rattle.line.specs.Lines.{noLine, framing, lineReading};
 use crate::digits::DIGITS;
 use report::decode::record_of_zeros;
 use report::read::Reading;
-use report::refusal::Refusal;
-use report::refusal::Verdict;
+use rows::refusal::Refusal;
+use rows::refusal::Verdict;
 
 // The frame of a line, or 17: then the frame is that of zeros.
 pub struct Framing {

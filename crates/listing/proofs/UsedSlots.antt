@@ -5,8 +5,9 @@ use mathlib.Core.List.{List, [], _∷_}
 use native.Mathlib.Omega.{arith}
 use lib.ListN.{length, take, length-map, length-take}
 use Rattle.report.specs.declared.record.Record.{Record}
-use Rattle.report.specs.Verdict.{empty}
-use Rattle.report.specs.Layout.{layout, slotCount}
+use Rattle.rows.specs.Verdict.{empty}
+use Rattle.report.specs.Layout.{layout}
+use Rattle.rows.specs.Layout.{slotCount}
 use Rattle.report.specs.Records.{slotValues}
 use Rattle.report.specs.Meaning.{usedAmong, usedOf, slotsOfCategory}
 use Rattle.report.proofs.SlotTurns.{at-most-sixteen}

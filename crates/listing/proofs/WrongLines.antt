@@ -8,10 +8,10 @@ use borrow.Author.Tests.{ne-eqb, ltb-true, ltb-false}
 use lib.Dec.{ltb, eqb}
 use lib.ListN.{length, take, length-take}
 use lib.Seq.{take-all}
-use Rattle.report.specs.declared.refusal.Verdict.the-variants.{Refused}
-use Rattle.report.specs.declared.refusal.Refusal.the-variants.{Line}
+use Rattle.rows.specs.declared.refusal.Verdict.the-variants.{Refused}
+use Rattle.rows.specs.declared.refusal.Refusal.the-variants.{Line}
 use Rattle.report.specs.declared.read.Reading.{Reading}
-use Rattle.report.specs.Verdict.{allowed}
+use Rattle.rows.specs.Verdict.{allowed}
 use Rattle.report.specs.Records.{zeros}
 use Rattle.report.specs.Reading.{reading}
 use Rattle.line.specs.Lines.{digits, allDigits, isLine, lineReading}

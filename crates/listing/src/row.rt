@@ -2,9 +2,9 @@
 ghost use mathlib.Core.Path.{_≡_};
 ghost use Prim.Native.Nat.{_+_, _≤_};
 ghost use lib.ListN.{length};
-ghost use Rattle.report.specs.Refusals.{says};
+ghost use Rattle.rows.specs.Refusals.{says};
 ghost use Rattle.report.specs.Meaning.{usedOf};
-ghost use Rattle.report.specs.declared.refusal.Verdict.the-variants.{Fine};
+ghost use Rattle.rows.specs.declared.refusal.Verdict.the-variants.{Fine};
 ghost use Rattle.listing.specs.Rows.{rowFor, rowOf, refusedRow, placeEntry, slotsEntry, entryText, rowText, headingText, cutText, filled, laid};
 ghost use Rattle.listing.specs.Pieces.{Wrote};
 use crate::text::put_byte;
@@ -12,9 +12,9 @@ use crate::text::put_number;
 use crate::text::put_text;
 use report::read::Reading;
 use report::record::Record;
-use report::record::SlotKind;
-use report::refusal::Refusal;
-use report::refusal::Verdict;
+use rows::refusal::Refusal;
+use rows::refusal::Verdict;
+use rows::slot::SlotKind;
 
 // No line of a listing is longer: its heading is the longest.
 pub const LONGEST: usize = 27;

@@ -14,8 +14,8 @@ use Rattle.report.specs.declared.record.Body.the-variants.{Nothing, Hypocenter,
 use Rattle.report.specs.declared.record.Slot.{Slot}
 use Rattle.report.specs.declared.record.Record.{Record}
 use Rattle.report.specs.Layout.{layout}
-use Rattle.report.specs.Verdict.{empty}
-use Rattle.report.specs.Records.{each}
+use Rattle.rows.specs.Verdict.{empty}
+use Rattle.rows.specs.Values.{each}
 use Rattle.packed.specs.Packed.{wide, padded, headBytes, bodyBytes, slotBytes, slotsBytes, packed}
 use Rattle.packed.specs.Unpacked.{fourAt, slotAt, bodyBy, bodyFrom, stray, slotsFrom, marked, textFrom, unpackedAs, unpacked}
 use Rattle.packed.proofs.Whole.{front, most, length-front, length-most}

@@ -4,10 +4,10 @@ use mathlib.Core.Bool.{true}
 use Prim.Native.Nat.{ℕ}
 use mathlib.Core.List.{List}
 use lib.ListN.{length, getD}
-use Rattle.report.specs.declared.refusal.Verdict.the-variants.{Refused}
-use Rattle.report.specs.declared.refusal.Refusal.the-variants.{Unused}
+use Rattle.rows.specs.declared.refusal.Verdict.the-variants.{Refused}
+use Rattle.rows.specs.declared.refusal.Refusal.the-variants.{Unused}
 use Rattle.report.specs.declared.record.Record.{Record}
-use Rattle.report.specs.Verdict.{allowed}
+use Rattle.rows.specs.Verdict.{allowed}
 use Rattle.report.specs.Reading.{preambles}
 use Rattle.report.specs.Writing.{known, writeAnswer}
 use Rattle.packed.specs.Packed.{packed}

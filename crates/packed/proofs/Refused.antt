@@ -5,16 +5,17 @@ use Prim.Native.Nat.{ℕ, zero, suc, _+_, _*_, _≤_}
 use native.Mathlib.Omega.{arith}
 use mathlib.Core.List.{List, [], _∷_, _++_}
 use lib.ListN.{length, getD}
-use Rattle.report.specs.declared.refusal.Verdict.the-variants.{Refused}
-use Rattle.report.specs.declared.refusal.Refusal.the-variants.{Unused}
+use Rattle.rows.specs.declared.refusal.Verdict.the-variants.{Refused}
+use Rattle.rows.specs.declared.refusal.Refusal.the-variants.{Unused}
 use Rattle.report.specs.declared.record.Body.{Body}
 use Rattle.report.specs.declared.record.Slot.{Slot}
-use Rattle.report.specs.declared.record.SlotKind.{SlotKind}
-use Rattle.report.specs.declared.record.SlotKind.the-variants.{Nothing, Prefectures, Places}
-use Rattle.report.specs.Refusals.{_then_, unless}
-use Rattle.report.specs.Layout.{layout, slotCount}
-use Rattle.report.specs.Verdict.{allowed, empty}
-use Rattle.report.specs.Records.{each}
+use Rattle.rows.specs.declared.slot.SlotKind.{SlotKind}
+use Rattle.rows.specs.declared.slot.SlotKind.the-variants.{Nothing, Prefectures, Places}
+use Rattle.rows.specs.Refusals.{_then_, unless}
+use Rattle.report.specs.Layout.{layout}
+use Rattle.rows.specs.Layout.{slotCount}
+use Rattle.rows.specs.Verdict.{allowed, empty}
+use Rattle.rows.specs.Values.{each}
 use Rattle.report.specs.Reading.{preambles}
 use Rattle.report.specs.Writing.{known, unused, tidySlots, tidyText, tidy, writeAnswer}
 use Rattle.packed.specs.Unpacked.{slotAt, bodyFrom, stray, slotsFrom, misplaced, marked, textFrom, unpackedAs, unpacked}

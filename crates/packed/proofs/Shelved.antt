@@ -5,7 +5,7 @@ use native.Mathlib.Omega.{arith}
 use mathlib.Core.List.{List, [], _∷_, _++_}
 use lib.ListN.{length, getD, take, drop, length-drop, take-append-drop, length-append}
 use lib.Seq.{drop-at, take-append-seam}
-use Rattle.report.specs.Records.{each}
+use Rattle.rows.specs.Values.{each}
 use Rattle.bulletin.specs.declared.page.Page.{Page}
 use Rattle.bulletin.specs.declared.store.Store.{Store}
 use Rattle.packed.specs.Shelves.{nameBytes, pageBytes, pagesBytes, storeBytes, nameFrom, pageAt, pagesFrom, storeFrom}

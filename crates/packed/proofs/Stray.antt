@@ -8,7 +8,7 @@ use lib.ListN.{length, getD, take, drop}
 use lib.Seq.{length-take-le, getD-take}
 use Rattle.report.specs.declared.record.Body.{Body}
 use Rattle.report.specs.declared.record.Slot.{Slot}
-use Rattle.report.specs.Verdict.{empty}
+use Rattle.rows.specs.Verdict.{empty}
 use Rattle.report.proofs.TidyTurns.{blank-so-far, not-blank, all-blank}
 use Rattle.packed.specs.Packed.{bodyBytes}
 use Rattle.packed.specs.Unpacked.{stray, marked}

@@ -21,13 +21,14 @@ use mathlib.Core.List.{List, [], _∷_, _++_}
 use lib.ListN.{length, replicate}
 use lib.Dec.{eqb}
 use Rattle.bits.specs.Layout.{decode}
-use Rattle.report.specs.declared.record.Quake.{Quake}
+use Rattle.hypocenter.specs.declared.Quake.{Quake}
 use Rattle.report.specs.declared.record.Body.{Body}
 use Rattle.report.specs.declared.record.Body.the-variants.{Nothing, Hypocenter, Intensity, Nankai, AshFall}
 use Rattle.report.specs.declared.record.Slot.{Slot}
 use Rattle.report.specs.declared.record.Record.{Record}
 use Rattle.report.specs.Layout.{layout}
-use Rattle.report.specs.Records.{timeValues, angleValues}
+use Rattle.rows.specs.Values.{timeValues}
+use Rattle.hypocenter.specs.Hypocenter.{angleValues}
 
 -- v in n bytes; a number of one byte is written as it is
 abbrev pub wide : ℕ → ℕ → List ℕ

@@ -10,17 +10,18 @@ use lib.ListN.{length, getD, set, take, drop}
 use lib.Dec.{eqb}
 use Rattle.bits.specs.Frame.{number}
 use Rattle.report.specs.declared.record.Common.{Common}
-use Rattle.report.specs.declared.record.Time.{Time}
-use Rattle.report.specs.declared.record.Angle.{Angle}
-use Rattle.report.specs.declared.record.Quake.{Quake}
+use Rattle.rows.specs.declared.time.Time.{Time}
+use Rattle.hypocenter.specs.declared.angle.Angle.{Angle}
+use Rattle.hypocenter.specs.declared.Quake.{Quake}
 use Rattle.report.specs.declared.record.Page.{Page}
-use Rattle.report.specs.declared.record.Eruption.{Eruption}
+use Rattle.ash_fall.specs.declared.Eruption.{Eruption}
 use Rattle.report.specs.declared.record.Body.{Body}
 use Rattle.report.specs.declared.record.Body.the-variants.{Nothing, Hypocenter, Intensity, Nankai, AshFall}
 use Rattle.report.specs.declared.record.Slot.{Slot}
 use Rattle.report.specs.declared.record.Record.{Record}
-use Rattle.report.specs.Verdict.{empty}
-use Rattle.report.specs.Records.{each, zeros}
+use Rattle.rows.specs.Verdict.{empty}
+use Rattle.rows.specs.Values.{each}
+use Rattle.report.specs.Records.{zeros}
 use Rattle.packed.specs.Packed.{bodyBytes}
 
 -- ---- from the byte k on

@@ -5,20 +5,20 @@ ghost use mathlib.Core.List.{[], _∷_};
 ghost use Prim.Native.Nat.{_+_, _≤_};
 ghost use lib.ListN.{length, set, take, drop};
 ghost use Rattle.bits.specs.Frame.{number};
-ghost use Rattle.report.specs.Verdict.{empty};
+ghost use Rattle.rows.specs.Verdict.{empty};
 ghost use Rattle.packed.specs.Packed.{bodyBytes};
 ghost use Rattle.packed.specs.Unpacked.{twoAt, fourAt, timeAt, angleAt, slotAt, commonFrom, quakeFrom, pageFrom, eruptionFrom, bodyFrom, stray, slotsFrom, misplaced, marked, recordFrom};
 use crate::text::text_at;
+use ash_fall::Eruption;
+use hypocenter::Quake;
+use hypocenter::angle::Angle;
 use report::decode::record_of_zeros;
-use report::record::Angle;
 use report::record::Body;
 use report::record::Common;
-use report::record::Eruption;
 use report::record::Page;
-use report::record::Quake;
 use report::record::Record;
 use report::record::Slot;
-use report::record::Time;
+use rows::time::Time;
 
 // ---- numbers
 

@@ -3,18 +3,19 @@ ghost use mathlib.Core.Path.{_≡_};
 ghost use Prim.Native.Nat.{_+_, _≤_};
 ghost use lib.ListN.{length, replicate};
 ghost use Rattle.bits.specs.Frame.{number};
-ghost use Rattle.report.specs.Records.{timeValues, angleValues};
+ghost use Rattle.rows.specs.Values.{timeValues};
+ghost use Rattle.hypocenter.specs.Hypocenter.{angleValues};
 ghost use Rattle.packed.specs.Packed.{wide, padded, headBytes, notificationBytes, sourceBytes, quakeBytes, bodyBytes, slotBytes, slotsBytes, packedInto};
 ghost use Rattle.packed.specs.Writing.{Wrote};
 use crate::text::put_text;
-use report::record::Angle;
+use ash_fall::Eruption;
+use hypocenter::Quake;
+use hypocenter::angle::Angle;
 use report::record::Body;
-use report::record::Eruption;
 use report::record::Page;
-use report::record::Quake;
 use report::record::Record;
 use report::record::Slot;
-use report::record::Time;
+use rows::time::Time;
 
 // ---- numbers
 

@@ -1,25 +1,27 @@
 -- The values of the record of a frame are the values of the frame. Assumes nothing.
 use mathlib.Core.Path.{_≡_, refl, ap, ap₂, _∙_, subst}
 use mathlib.Core.Logic.{⊎-elim}
-use Prim.Native.Nat.{ℕ, _+_, _-_, _*_, _≤_}
+use Prim.Native.Nat.{ℕ, _+_, _*_, _≤_}
 use native.Mathlib.Omega.{arith}
 use mathlib.Core.List.{List, map}
 use lib.ListN.{take}
 use borrow.Author.Tests.{eqb-true}
 use Rattle.bits.specs.Frame.{fieldOf}
-use Rattle.report.specs.declared.refusal.Verdict.{Verdict}
-use Rattle.report.specs.declared.refusal.Verdict.the-variants.{Fine}
+use Rattle.rows.specs.declared.refusal.Verdict.{Verdict}
+use Rattle.rows.specs.declared.refusal.Verdict.the-variants.{Fine}
 use Rattle.report.specs.declared.record.Record.{Record}
 use Rattle.report.specs.declared.read.Reading.{Reading}
-use Rattle.report.specs.declared.record.SlotKind.{SlotKind}
-use Rattle.report.specs.declared.record.SlotKind.the-variants.{Nothing, Prefectures, Places}
-use Rattle.report.specs.Layout.{Layout, common, ending, layout, slotCount, slotFirst, slotBits, slotRows}
-use Rattle.report.specs.Verdict.{Values, verdict}
-use Rattle.report.specs.Records.{each, commonOf, bodyBy, bodyOf, slotsOf, textOf, recordAs, recordOf, cut, valuesOf, headValues, lastValues, bodyValues, slotValues, values}
+use Rattle.rows.specs.declared.slot.SlotKind.{SlotKind}
+use Rattle.rows.specs.declared.slot.SlotKind.the-variants.{Nothing, Prefectures, Places}
+use Rattle.rows.specs.Layout.{Layout, common, ending, slotCount, slotFirst, slotBits, slotRows}
+use Rattle.report.specs.Layout.{layout}
+use Rattle.rows.specs.Verdict.{Values, verdict}
+use Rattle.rows.specs.Values.{each, cut, valuesOf, lastValues}
+use Rattle.report.specs.Records.{commonOf, bodyBy, bodyOf, slotsOf, textOf, recordAs, recordOf, headValues, bodyValues, slotValues, values}
 use Rattle.report.specs.Reading.{categories, outerOf, innerOf, reading}
-use Rattle.report.specs.Conforms.{In}
-use Rattle.report.proofs.Spans.{allowed-in}
-use Rattle.report.proofs.Outcomes.{fine-both, unless-fine}
+use Rattle.rows.specs.Kept.{In}
+use Rattle.rows.proofs.Spans.{allowed-in}
+use Rattle.rows.proofs.Outcomes.{fine-both, unless-fine}
 
 -- what 5, 6 and 7 leave
 pub record Outer (s : List ℕ) : Type 0 where

@@ -7,27 +7,32 @@ use Prim.Native.Nat.{ℕ, _≤_, _<_}
 use lib.ListN.{length, getD}
 use types.Run.{OneOf}
 use Rattle.bits.specs.Frame.{Bytes, bytesOf}
-use Rattle.report.specs.declared.refusal.Verdict.{Verdict}
-use Rattle.report.specs.declared.refusal.Verdict.the-variants.{Fine, Refused}
-use Rattle.report.specs.declared.refusal.Refusal.{Refusal}
-use Rattle.report.specs.declared.refusal.Refusal.the-variants.{Range, Gap}
+use Rattle.rows.specs.declared.refusal.Verdict.{Verdict}
+use Rattle.rows.specs.declared.refusal.Verdict.the-variants.{Fine, Refused}
+use Rattle.rows.specs.declared.refusal.Refusal.{Refusal}
+use Rattle.rows.specs.declared.refusal.Refusal.the-variants.{Range, Gap}
 use Rattle.report.specs.declared.record.Body.{Body}
 use Rattle.report.specs.declared.record.Record.{Record}
-use Rattle.report.specs.Refusals.{says, answers}
-use Rattle.report.specs.Layout.{layout, slotCount, allRows, tiles, allFit}
-use Rattle.report.specs.Records.{bodyOf, recordOf, zeros, valuesOf, values}
-use Rattle.report.specs.Verdict.{empty}
+use Rattle.rows.specs.Refusals.{says, answers}
+use Rattle.report.specs.Layout.{layout}
+use Rattle.rows.specs.Layout.{slotCount, allRows, tiles, allFit}
+use Rattle.report.specs.Records.{bodyOf, recordOf, zeros, values}
+use Rattle.rows.specs.Values.{valuesOf}
+use Rattle.rows.specs.Verdict.{empty}
 use Rattle.report.specs.Meaning.{slotsOfCategory, usedOf}
 use Rattle.report.specs.Reading.{readAnswer, reading, readOf}
 use Rattle.report.specs.Conforms.{Conforms}
-use Rattle.report.specs.Reasons.{Fault, Lowest, readQuestions, WhyNotRead, WhyNotWritten}
+use Rattle.rows.specs.Faults.{Fault, Lowest}
+use Rattle.report.specs.Reasons.{readQuestions, WhyNotRead, WhyNotWritten}
 use Rattle.report.specs.Writing.{frame, written, writeAnswer, writeOf, Valid, KeepsRules}
 use Rattle.report.proofs.Tables.{layouts, all, tables-tile as tiled, rules-fit as fit}
-use Rattle.report.proofs.Ordered.{Met}
+use Rattle.rows.proofs.Ordered.{Met}
 use Rattle.report.proofs.Frames.{layoutOf, frameValues, conforming-fine, fine-conforming, reason, faulty, faultless, no-gap}
-use Rattle.report.proofs.Lengths.{Filled, frame-filled, record-filled}
+use Rattle.rows.proofs.Lengths.{Filled, frame-filled}
+use Rattle.report.proofs.Lengths.{record-filled}
 use Rattle.report.proofs.Used.{counted-used, others-empty}
-use Rattle.report.proofs.Numbers.{says-apart, read-ten, refused-zeros}
+use Rattle.rows.proofs.Numbers.{says-apart}
+use Rattle.report.proofs.Numbers.{read-ten, refused-zeros}
 use Rattle.report.proofs.PaperValues.{found, expected, paperValues, every-row}
 use Rattle.report.proofs.Shapes.{Shaped, frame-shaped}
 use Rattle.report.proofs.Validity.{recordLayout, recordValues, valid-keeps, keeps-valid, reason as write-reason}

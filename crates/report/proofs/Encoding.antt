@@ -19,10 +19,12 @@ use Rattle.parity.proofs.Front.{parity-of-front}
 use Rattle.report.specs.declared.record.Body.{Body}
 use Rattle.report.specs.declared.record.Body.the-variants.{Nothing, Hypocenter, Intensity, Nankai, AshFall}
 use Rattle.report.specs.declared.record.Record.{Record}
-use Rattle.report.specs.Layout.{Row, Layout, common, ending, layout, slotsRows, slotCount, slotFirst}
-use Rattle.report.specs.Records.{headValues, lastValues, bodyValues, slotValues, values}
-use Rattle.report.specs.Writing.{known, writeAnswer, frontValues, frontWidths, widths, joined, front, frame, Valid}
-use Rattle.report.proofs.Outcomes.{fine-both, unless-fine}
+use Rattle.rows.specs.Layout.{Row, Layout, common, ending, slotsRows, slotCount, slotFirst}
+use Rattle.report.specs.Layout.{layout}
+use Rattle.report.specs.Records.{headValues, bodyValues, slotValues, values}
+use Rattle.rows.specs.Values.{lastValues, widths, joined}
+use Rattle.report.specs.Writing.{known, writeAnswer, frontValues, frontWidths, front, frame, Valid}
+use Rattle.rows.proofs.Outcomes.{fine-both, unless-fine}
 use Rattle.report.proofs.Laying.{runs-length, slots-widths}
 use Rattle.report.proofs.Lengths.{record-filled}
 use Rattle.report.proofs.Rows.{front-total}

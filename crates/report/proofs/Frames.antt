@@ -1,7 +1,6 @@
 -- What reading a frame answers, and what the frame is. Assumes nothing.
-use mathlib.Core.Path.{_≡_, refl, ap, _∙_}
-use mathlib.Core.Bool.{Bool, true, false, cond}
-use Prim.Native.Nat.{ℕ, zero, suc, _+_, _≤_}
+use mathlib.Core.Path.{_≡_, refl, _∙_}
+use Prim.Native.Nat.{ℕ, _≤_}
 use native.Mathlib.Omega.{arith}
 use mathlib.Core.List.{List}
 use lib.ListN.{length}
@@ -9,28 +8,29 @@ use lib.Dec.{eqb}
 use borrow.Author.Tests.{eqb-true, eq-eqb}
 use Rattle.bits.specs.Frame.{fieldOf}
 use Rattle.parity.specs.Parity.{parityOf, parityRight}
-use Rattle.report.specs.declared.refusal.Verdict.{Verdict}
-use Rattle.report.specs.declared.refusal.Verdict.the-variants.{Fine, Refused}
-use Rattle.report.specs.declared.refusal.Refusal.{Refusal}
-use Rattle.report.specs.declared.refusal.Refusal.the-variants.{Length, Padding, Preamble, Parity, Message, Version, Category, Range, Gap}
-use Rattle.report.specs.Refusals.{says}
-use Rattle.report.specs.Layout.{Layout, layout, slotCount}
-use Rattle.report.specs.Verdict.{Values, allowed}
-use Rattle.report.specs.Records.{each, bodyOf, valuesOf}
+use Rattle.rows.specs.declared.refusal.Verdict.{Verdict}
+use Rattle.rows.specs.declared.refusal.Verdict.the-variants.{Fine, Refused}
+use Rattle.rows.specs.declared.refusal.Refusal.{Refusal}
+use Rattle.rows.specs.declared.refusal.Refusal.the-variants.{Length, Padding, Preamble, Parity, Message, Version, Category, Range, Gap}
+use Rattle.rows.specs.Layout.{Layout, slotCount}
+use Rattle.report.specs.Layout.{layout}
+use Rattle.rows.specs.Verdict.{Values, allowed}
+use Rattle.rows.specs.Values.{valuesOf}
+use Rattle.report.specs.Records.{bodyOf}
 use Rattle.report.specs.Reading.{preambles, categories, outerOf, innerOf, readAnswer}
-use Rattle.report.specs.Conforms.{In, Conforms}
-use Rattle.report.specs.Reasons.{place, Fault, Lowest, readQuestions, WhyNotRead}
-use Rattle.report.proofs.Outcomes.{then-assoc}
-use Rattle.report.proofs.Judged.{turn}
-use Rattle.report.proofs.Spans.{allowed-in, in-allowed}
-use Rattle.report.proofs.JudgedFrames.{JudgesAll, whole}
-use Rattle.report.proofs.Ordered.{Met, Answers, unquestioned, question, past}
+use Rattle.rows.specs.Kept.{In}
+use Rattle.report.specs.Conforms.{Conforms}
+use Rattle.rows.specs.Faults.{Fault, Lowest}
+use Rattle.report.specs.Reasons.{readQuestions, WhyNotRead}
+use Rattle.rows.proofs.Outcomes.{then-assoc}
+use Rattle.rows.proofs.Judged.{turn-place, turn}
+use Rattle.rows.proofs.Spans.{allowed-in, in-allowed}
+use Rattle.rows.proofs.JudgedFrames.{JudgesAll}
+use Rattle.report.proofs.JudgedFrames.{whole}
+use Rattle.rows.proofs.Ordered.{Met, Answers, unquestioned, question, past}
+use Rattle.rows.proofs.Lengths.{length-each}
 
 -- ---- 8, 9, 10
-
-pub length-each : {A : Type 0} (n : ℕ) (f : ℕ → A) → length (each n f) ≡ n
-length-each zero f = refl
-length-each (suc n) f = ap suc (length-each n (λ i. f (suc i)))
 
 -- the layout and the values of a frame
 abbrev pub layoutOf : List ℕ → Layout
@@ -42,16 +42,6 @@ frameValues s = valuesOf s (layoutOf s)
 inner : (s : List ℕ) → JudgesAll (layoutOf s) (frameValues s)
 unfolding valuesOf
 inner s = whole (bodyOf s) (frameValues s) (length-each (slotCount (layoutOf s .slots)) _)
-
-by-place : (p q i j : ℕ) → j ≤ 1 → p + p + i ≤ q + q + j → p ≤ q
-by-place p q i j h k = omega arith
-
-at-most-one : (b : Bool) → cond b 0 1 ≤ 1
-at-most-one true = omega arith
-at-most-one false = omega arith
-
-pub turn-place : (x y : Refusal) → turn x ≤ turn y → place x ≤ place y
-turn-place x y h = by-place (place x) (place y) _ _ (at-most-one (eqb (says y .number) 10)) h
 
 lowest : (s : List ℕ) (x : Refusal) → innerOf s ≡ Refused x → Lowest (layoutOf s) (frameValues s) x
 lowest s x e = record { there = inner s .found x e; lowest = λ y f. turn-place x y (inner s .earliest x y e f) }

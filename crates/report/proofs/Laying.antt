@@ -1,7 +1,7 @@
 -- Fields laid on a frame: the turns of the loops, and the spare. Assumes nothing.
 use mathlib.Core.Path.{_≡_, refl, sym, ap, ap₂, _∙_}
 use mathlib.Core.Bool.{true}
-use Prim.Native.Nat.{ℕ, zero, suc, _+_, _-_, _*_, _≤_, _<_}
+use Prim.Native.Nat.{ℕ, zero, suc, _+_, _*_, _≤_, _<_}
 use native.Mathlib.Numerals.{add-one}
 use native.Mathlib.Omega.{arith}
 use mathlib.Core.List.{List, [], _∷_, _++_, map, append-assoc, append-nil}
@@ -13,12 +13,14 @@ use Rattle.bits.proofs.Laid.{laid-append}
 use Rattle.report.specs.declared.record.Body.{Body}
 use Rattle.report.specs.declared.record.Body.the-variants.{Nothing, Hypocenter, Intensity, Nankai, AshFall}
 use Rattle.report.specs.declared.record.Slot.{Slot}
-use Rattle.report.specs.declared.record.SlotKind.{SlotKind}
-use Rattle.report.specs.declared.record.SlotKind.the-variants.{Nothing as NoSlots, Prefectures, Places}
-use Rattle.report.specs.Layout.{layout, nankai, slotBits, slotRows, slotsRows}
+use Rattle.rows.specs.declared.slot.SlotKind.{SlotKind}
+use Rattle.rows.specs.declared.slot.SlotKind.the-variants.{Nothing as NoSlots, Prefectures, Places}
+use Rattle.report.specs.Layout.{layout, nankai}
+use Rattle.rows.specs.Layout.{slotBits, slotRows, slotsRows}
 use Rattle.report.specs.Records.{noSlot, slotValues}
-use Rattle.report.specs.Writing.{known, widths, joined}
-use Rattle.report.proofs.Outcomes.{false-not-true}
+use Rattle.report.specs.Writing.{known}
+use Rattle.rows.specs.Values.{widths, joined}
+use Rattle.rows.proofs.Outcomes.{false-not-true}
 
 -- ---- bytes
 

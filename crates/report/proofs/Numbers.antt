@@ -1,118 +1,22 @@
 -- The numbers of refusals, and those that reading answers. Assumes nothing.
-use mathlib.Core.Path.{_≡_, refl, sym, ap, _∙_}
-use mathlib.Core.Bool.{Bool, true, false, not, cond}
-use Prim.Native.Nat.{ℕ, _+_, _-_, _≤_}
-use mathlib.Core.List.{List, [], _∷_}
-use lib.ListN.{getD}
+use mathlib.Core.Path.{_≡_, refl}
+use Prim.Native.Nat.{ℕ, _≤_}
+use mathlib.Core.List.{List}
 use lib.Dec.{lit≤}
-use Rattle.report.specs.declared.refusal.Verdict.{Verdict}
-use Rattle.report.specs.declared.refusal.Verdict.the-variants.{Fine, Refused}
-use Rattle.report.specs.declared.refusal.Refusal.{Refusal}
-use Rattle.report.specs.declared.refusal.Refusal.the-variants.{Length, Padding, Preamble, Parity, Message, Version, Category, Range, Spare, Gap, Unused, NoPage, OtherBulletin, Unsound, NotHeld, Short, Line}
-use Rattle.report.specs.declared.record.SlotKind.{SlotKind}
+use Rattle.rows.specs.declared.refusal.Verdict.{Verdict}
+use Rattle.rows.specs.declared.refusal.Verdict.the-variants.{Fine, Refused}
+use Rattle.rows.specs.declared.refusal.Refusal.{Refusal}
+use Rattle.rows.specs.declared.refusal.Refusal.the-variants.{Length, Padding, Preamble, Parity, Message, Version, Category}
 use Rattle.report.specs.declared.record.Record.{Record}
-use Rattle.report.specs.Refusals.{Said, says, answers, _then_, unless}
-use Rattle.report.specs.Layout.{Rule, among, rising, spare, Row, Layout, common, ending, slotFirst, slotBits, slotRows}
-use Rattle.report.specs.Verdict.{Values, judge, walk, empty, later, slotsVerdict, verdict}
+use Rattle.rows.specs.Refusals.{answers}
 use Rattle.report.specs.Records.{zeros}
 use Rattle.report.specs.Reading.{outerOf, readAnswer, reading}
-use Rattle.report.proofs.Outcomes.{not-both}
+use Rattle.rows.proofs.Outcomes.{not-both}
+use Rattle.rows.proofs.Numbers.{verdict-ten, unless-ten, then-ten, UpToTen}
 
 -- ---- from what is said back to the refusal
 
-unsaid : Said → Refusal
-unsaid a =
-    getD
-    (Length
-    ∷ Padding
-    ∷ Preamble
-    ∷ Parity
-    ∷ Message
-    ∷ Version
-    ∷ Category
-    ∷ Range (a .place)
-    ∷ Spare (a .place)
-    ∷ Gap (a .place)
-    ∷ Unused
-    ∷ NoPage
-    ∷ OtherBulletin
-    ∷ Unsound
-    ∷ NotHeld (a .page) (a .mark)
-    ∷ Short
-    ∷ Line ∷ [])
-    (a .number - 1) Line
-
-unsaid-says : (x : Refusal) → unsaid (says x) ≡ x
-unfolding unsaid
-unsaid-says Length = refl
-unsaid-says Padding = refl
-unsaid-says Preamble = refl
-unsaid-says Parity = refl
-unsaid-says Message = refl
-unsaid-says Version = refl
-unsaid-says Category = refl
-unsaid-says (Range p) = refl
-unsaid-says (Spare p) = refl
-unsaid-says (Gap p) = refl
-unsaid-says Unused = refl
-unsaid-says NoPage = refl
-unsaid-says OtherBulletin = refl
-unsaid-says Unsound = refl
-unsaid-says (NotHeld page mark) = refl
-unsaid-says Short = refl
-unsaid-says Line = refl
-
-pub says-apart : (x y : Refusal) → says x ≡ says y → x ≡ y
-says-apart x y e = sym (unsaid-says x) ∙ ap unsaid e ∙ unsaid-says y
-
 -- ---- reading answers 0 to 10
-
-abbrev UpToTen : Verdict → Type 0
-UpToTen v = answers v .number ≤ 10
-
-then-ten : (a b : Verdict) → UpToTen a → UpToTen b → UpToTen (a then b)
-unfolding _then_
-then-ten Fine b h k = k
-then-ten (Refused r) b h k = h
-
-unless-ten : (b : Bool) (r : Refusal) → says r .number ≤ 10 → UpToTen (unless b r)
-unfolding unless
-unless-ten true r h = lit≤ tt
-unless-ten false r h = h
-
-cond-ten : (b : Bool) (v w : Verdict) → UpToTen v → UpToTen w → UpToTen (cond b v w)
-cond-ten true v w h k = h
-cond-ten false v w h k = k
-
-judge-ten : (r : Rule) (at before v : ℕ) → UpToTen (judge r at before v)
-unfolding judge
-judge-ten (among ss) at before v = unless-ten _ (Range at) (lit≤ tt)
-judge-ten (rising hi) at before v = unless-ten _ (Range at) (lit≤ tt)
-judge-ten spare at before v = unless-ten _ (Spare at) (lit≤ tt)
-
-walk-ten : (before : ℕ) (rs : List Row) (vs : List ℕ) → UpToTen (walk before rs vs)
-unfolding walk
-walk-ten before [] vs = lit≤ tt
-walk-ten before (r ∷ rs) [] = lit≤ tt
-walk-ten before (r ∷ rs) (v ∷ vs) = then-ten _ _ (judge-ten (r .rule) (r .first) before v) (walk-ten v rs vs)
-
-later-ten : (k : SlotKind) (gap : Bool) (at : ℕ) (vs : List (List ℕ)) → UpToTen (later k gap at vs)
-unfolding later
-later-ten k gap at [] = lit≤ tt
-later-ten k gap at (v ∷ vs) =
-    cond-ten (empty v) _ _ (later-ten k true (at + slotBits k) vs)
-    (then-ten _ _ (unless-ten (not gap) (Gap at) (lit≤ tt)) (then-ten _ _ (walk-ten 0 (slotRows k at) v) (later-ten k gap (at + slotBits k) vs)))
-
-slots-ten : (k : SlotKind) (vs : List (List ℕ)) → UpToTen (slotsVerdict k vs)
-unfolding slotsVerdict
-slots-ten k [] = lit≤ tt
-slots-ten k (v ∷ vs) = then-ten _ _ (walk-ten 0 (slotRows k (slotFirst k)) v) (later-ten k false (slotFirst k + slotBits k) vs)
-
-verdict-ten : (l : Layout) (v : Values) → UpToTen (verdict l v)
-unfolding verdict
-verdict-ten l v =
-    then-ten _ _ (walk-ten 0 (common l) (v .head))
-    (then-ten _ _ (walk-ten 0 (l .body) (v .body)) (then-ten _ _ (slots-ten (l .slots) (v .slots)) (walk-ten 0 (ending l) (v .last))))
 
 outer-ten : (s : List ℕ) → UpToTen (outerOf s)
 unfolding outerOf

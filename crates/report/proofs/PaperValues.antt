@@ -5,18 +5,19 @@ use mathlib.Core.List.{List, [], _∷_, _++_, map}
 use Prim.Native.Nat.{ℕ}
 use lib.ListN.{replicate}
 use Rattle.bits.specs.Layout.{encode}
-use Rattle.report.specs.declared.record.Time.{Time}
-use Rattle.report.specs.declared.record.Angle.{Angle}
+use Rattle.rows.specs.declared.time.Time.{Time}
+use Rattle.hypocenter.specs.declared.angle.Angle.{Angle}
 use Rattle.report.specs.declared.record.Body.{Body}
 use Rattle.report.specs.declared.record.Body.the-variants.{Hypocenter, Intensity, Nankai}
 use Rattle.report.specs.declared.record.Slot.{Slot}
-use Rattle.report.specs.declared.record.SlotKind.the-variants.{Prefectures}
+use Rattle.rows.specs.declared.slot.SlotKind.the-variants.{Prefectures}
 use Rattle.report.specs.declared.meaning.Prefecture.{Prefecture}
 use Rattle.report.specs.declared.meaning.Prefecture.the-variants.{Number, Nowhere}
 use Rattle.report.specs.Meaning.{prefectureOf}
-use Rattle.report.specs.Refusals.{Said, plain, at, answers, _then_, unless}
-use Rattle.report.specs.Layout.{Row, layout, slotFirst, slotRows}
-use Rattle.report.specs.Verdict.{allowed, judge, walk, empty, later, slotsVerdict, verdict}
+use Rattle.rows.specs.Refusals.{Said, plain, at, answers, _then_, unless}
+use Rattle.rows.specs.Layout.{Row, slotFirst, slotRows}
+use Rattle.report.specs.Layout.{layout}
+use Rattle.rows.specs.Verdict.{allowed, judge, walk, empty, later, slotsVerdict, verdict}
 use Rattle.report.specs.Records.{noSlot, slotValues, bodyValues, values}
 
 -- ---- samples

@@ -7,23 +7,24 @@ use mathlib.Core.List.{List, [], _∷_, _++_, map}
 use lib.ListN.{length, getD, take, drop, replicate}
 use lib.Seq.{take-at, drop-at}
 use Rattle.bits.specs.Frame.{fieldOf}
-use Rattle.report.specs.declared.record.Time.{Time}
-use Rattle.report.specs.declared.record.Angle.{Angle}
-use Rattle.report.specs.declared.record.Quake.{Quake}
+use Rattle.rows.specs.declared.time.Time.{Time}
+use Rattle.hypocenter.specs.declared.angle.Angle.{Angle}
+use Rattle.hypocenter.specs.declared.Quake.{Quake}
 use Rattle.report.specs.declared.record.Page.{Page}
-use Rattle.report.specs.declared.record.Eruption.{Eruption}
+use Rattle.ash_fall.specs.declared.Eruption.{Eruption}
 use Rattle.report.specs.declared.record.Body.{Body}
 use Rattle.report.specs.declared.record.Body.the-variants.{Nothing, Hypocenter, Intensity, Nankai, AshFall}
 use Rattle.report.specs.declared.record.Slot.{Slot}
-use Rattle.report.specs.declared.record.SlotKind.{SlotKind}
-use Rattle.report.specs.declared.record.SlotKind.the-variants.{Nothing as NoSlots, Prefectures, Places}
+use Rattle.rows.specs.declared.slot.SlotKind.{SlotKind}
+use Rattle.rows.specs.declared.slot.SlotKind.the-variants.{Nothing as NoSlots, Prefectures, Places}
 use Rattle.report.specs.Layout.{layout}
-use Rattle.report.specs.Verdict.{empty}
-use Rattle.report.specs.Records.{cut, bodyBy, textOf, bodyValues, slotValues}
-use Rattle.report.specs.Conforms.{Empty}
+use Rattle.rows.specs.Verdict.{empty}
+use Rattle.rows.specs.Values.{cut}
+use Rattle.report.specs.Records.{bodyBy, textOf, bodyValues, slotValues}
+use Rattle.rows.specs.Kept.{Empty}
 use Rattle.report.specs.Writing.{unused, tidySlots, tidyText}
-use Rattle.report.proofs.Outcomes.{and-both}
-use Rattle.report.proofs.JudgedSlots.{empty-is}
+use Rattle.rows.proofs.Outcomes.{and-both}
+use Rattle.rows.proofs.JudgedSlots.{empty-is}
 
 -- ---- from values, counted from i on
 

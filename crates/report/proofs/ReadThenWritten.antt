@@ -13,20 +13,23 @@ use Rattle.bits.proofs.Bytes.{bytesOf-number}
 use Rattle.bits.proofs.Frames.{number-256}
 use Rattle.parity.specs.Parity.{parityOfFront}
 use Rattle.parity.proofs.Front.{parity-of-front}
-use Rattle.report.specs.declared.refusal.Verdict.{Verdict}
-use Rattle.report.specs.declared.refusal.Verdict.the-variants.{Fine, Refused}
+use Rattle.rows.specs.declared.refusal.Verdict.{Verdict}
+use Rattle.rows.specs.declared.refusal.Verdict.the-variants.{Fine, Refused}
 use Rattle.report.specs.declared.record.Body.{Body}
 use Rattle.report.specs.declared.record.Body.the-variants.{Nothing}
 use Rattle.report.specs.declared.record.Record.{Record}
 use Rattle.report.specs.Layout.{layout}
-use Rattle.report.specs.Records.{bodyOf, recordAs, recordOf, valuesOf, values}
+use Rattle.report.specs.Records.{bodyOf, recordAs, recordOf, values}
+use Rattle.rows.specs.Values.{valuesOf, flat}
 use Rattle.report.specs.Reading.{readAnswer, reading, readOf}
-use Rattle.report.specs.Conforms.{Conforms, Holds}
-use Rattle.report.specs.Writing.{frontWidths, flat, front, frame, written, writeAnswer, writeOf, Valid, KeepsRules}
+use Rattle.report.specs.Conforms.{Conforms}
+use Rattle.rows.specs.Kept.{Holds}
+use Rattle.report.specs.Writing.{frontWidths, front, frame, written, writeAnswer, writeOf, Valid, KeepsRules}
 use Rattle.report.proofs.Agree.{Outer, suits, agree}
 use Rattle.report.proofs.Frames.{layoutOf, frameValues, fine-conforming}
 use Rattle.report.proofs.Shapes.{frame-shaped}
-use Rattle.report.proofs.Rows.{front-total, front-fields, values-flat}
+use Rattle.report.proofs.Rows.{front-total, front-fields}
+use Rattle.rows.proofs.Rows.{values-flat}
 use Rattle.report.proofs.Tidy.{is-tidy, frame-tidy}
 use Rattle.report.proofs.Validity.{keeps-valid}
 use Rattle.report.proofs.Ends.{ended-again}

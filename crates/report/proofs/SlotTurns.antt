@@ -7,17 +7,17 @@ use native.Mathlib.Numerals.{add-one}
 use mathlib.Core.List.{List, _∷_, map}
 use lib.ListN.{length, getD, take, drop, length-take, drop-of-length-le}
 use lib.Seq.{drop-cons, getD-take}
-use Rattle.report.specs.declared.refusal.Verdict.{Verdict}
+use Rattle.rows.specs.declared.refusal.Verdict.{Verdict}
 use Rattle.report.specs.declared.record.Slot.{Slot}
-use Rattle.report.specs.declared.record.SlotKind.{SlotKind}
-use Rattle.report.specs.declared.record.SlotKind.the-variants.{Nothing, Prefectures, Places}
+use Rattle.rows.specs.declared.slot.SlotKind.{SlotKind}
+use Rattle.rows.specs.declared.slot.SlotKind.the-variants.{Nothing, Prefectures, Places}
 use Rattle.report.specs.declared.check.Run.{Run}
-use Rattle.report.specs.Refusals.{_then_}
-use Rattle.report.specs.Layout.{slotCount, slotFirst, slotBits, slotRows}
-use Rattle.report.specs.Verdict.{empty, walk, later, slotsVerdict}
+use Rattle.rows.specs.Refusals.{_then_}
+use Rattle.rows.specs.Layout.{slotCount, slotFirst, slotBits, slotRows}
+use Rattle.rows.specs.Verdict.{empty, walk, later, slotsVerdict}
 use Rattle.report.specs.Records.{noSlot, slotValues}
 use Rattle.report.specs.Slots.{laterRun}
-use Rattle.report.proofs.Outcomes.{then-assoc, then-fine}
+use Rattle.rows.proofs.Outcomes.{then-assoc, then-fine}
 
 -- ---- where a slot stands
 

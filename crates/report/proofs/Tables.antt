@@ -2,7 +2,10 @@
 use mathlib.Core.Path.{_≡_, refl}
 use mathlib.Core.Bool.{Bool, true, _&&_}
 use mathlib.Core.List.{List, [], _∷_}
-use Rattle.report.specs.Layout.{Layout, hypocenter, intensity, nankai, ashFall, nothing, allRows, tiles, allFit}
+use Rattle.rows.specs.Layout.{Layout, nothing, allRows, tiles, allFit}
+use Rattle.hypocenter.specs.Hypocenter.{hypocenter}
+use Rattle.report.specs.Layout.{intensity, nankai}
+use Rattle.ash_fall.specs.AshFall.{ashFall}
 
 abbrev pub layouts : List Layout
 layouts = hypocenter ∷ intensity ∷ nankai ∷ ashFall ∷ nothing ∷ []

@@ -9,17 +9,18 @@ use lib.ListN.{getD}
 use Rattle.report.specs.declared.record.Body.{Body}
 use Rattle.report.specs.declared.record.Body.the-variants.{Nothing, Hypocenter, Intensity, Nankai, AshFall}
 use Rattle.report.specs.declared.record.Slot.{Slot}
-use Rattle.report.specs.declared.record.SlotKind.{SlotKind}
-use Rattle.report.specs.declared.record.SlotKind.the-variants.{Nothing as NoSlots, Prefectures, Places}
+use Rattle.rows.specs.declared.slot.SlotKind.{SlotKind}
+use Rattle.rows.specs.declared.slot.SlotKind.the-variants.{Nothing as NoSlots, Prefectures, Places}
 use Rattle.report.specs.declared.record.Record.{Record}
-use Rattle.report.specs.Layout.{layout, slotCount}
-use Rattle.report.specs.Verdict.{empty}
+use Rattle.report.specs.Layout.{layout}
+use Rattle.rows.specs.Layout.{slotCount}
+use Rattle.rows.specs.Verdict.{empty}
 use Rattle.report.specs.Records.{noSlot, slotsOf, textOf, recordAs}
-use Rattle.report.specs.Conforms.{Empty}
+use Rattle.rows.specs.Kept.{Empty}
 use Rattle.report.specs.Writing.{unused, tidySlots, tidyText, tidy, TextUnused}
 use Rattle.report.specs.Reasons.{Tidy}
-use Rattle.report.proofs.Outcomes.{and-both, both-and}
-use Rattle.report.proofs.JudgedSlots.{empty-is, is-empty}
+use Rattle.rows.proofs.Outcomes.{and-both, both-and}
+use Rattle.rows.proofs.JudgedSlots.{empty-is, is-empty}
 
 -- ---- slots
 

@@ -10,9 +10,9 @@ use lib.Seq.{drop-cons}
 use lib.Dec.{eqb, ltb}
 use borrow.Author.Tests.{eq-eqb, ne-eqb, ltb-true, ltb-false}
 use Rattle.report.specs.declared.record.Slot.{Slot}
-use Rattle.report.specs.declared.record.SlotKind.{SlotKind}
-use Rattle.report.specs.declared.record.SlotKind.the-variants.{Nothing}
-use Rattle.report.specs.Verdict.{empty}
+use Rattle.rows.specs.declared.slot.SlotKind.{SlotKind}
+use Rattle.rows.specs.declared.slot.SlotKind.the-variants.{Nothing}
+use Rattle.rows.specs.Verdict.{empty}
 use Rattle.report.specs.Records.{noSlot}
 use Rattle.report.specs.Writing.{unused, tidySlots}
 

@@ -4,7 +4,7 @@ use Prim.Native.Nat.{ℕ}
 use mathlib.Core.List.{List}
 use Rattle.bits.specs.Frame.{Bytes, bytesOf}
 use Rattle.bits.proofs.Laid.{bytesOf-frame}
-use Rattle.report.specs.declared.refusal.Verdict.the-variants.{Fine}
+use Rattle.rows.specs.declared.refusal.Verdict.the-variants.{Fine}
 use Rattle.report.specs.declared.record.Record.{Record}
 use Rattle.report.specs.declared.read.Reading.{Reading}
 use Rattle.report.specs.Records.{bodyOf, recordOf}

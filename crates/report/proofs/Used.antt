@@ -2,7 +2,7 @@
 use mathlib.Core.Path.{_≡_, refl, sym, ap, _∙_, subst}
 use mathlib.Core.Bool.{Bool, true, false}
 use mathlib.Core.Logic.{⊎-elim}
-use Prim.Native.Nat.{ℕ, zero, suc, _+_, _-_, _*_, _≤_, _<_}
+use Prim.Native.Nat.{ℕ, zero, suc, _+_, _*_, _≤_, _<_}
 use native.Mathlib.Nat.{not-suc-le-zero, le-of-suc-le-suc}
 use native.Mathlib.Omega.{arith}
 use native.Mathlib.Numerals.{add-one}
@@ -11,15 +11,18 @@ use lib.ListN.{length, getD, take, drop, length-map, drop-of-length-le}
 use Rattle.report.specs.declared.record.Slot.{Slot}
 use borrow.Author.Tests.{ne-eqb}
 use Rattle.report.specs.declared.record.Record.{Record}
-use Rattle.report.specs.declared.record.SlotKind.{SlotKind}
-use Rattle.report.specs.declared.record.SlotKind.the-variants.{Nothing, Prefectures, Places}
-use Rattle.report.specs.Layout.{_to_, layout, slotCount, slotFirst, slotBits, slotRows}
-use Rattle.report.specs.Verdict.{empty}
-use Rattle.report.specs.Records.{each, bodyOf, recordAs, recordOf, valuesOf, cut, noSlot, slotValues}
-use Rattle.report.specs.Conforms.{In, Empty, AllEmpty, LaterKept, SlotsKept, Conforms}
+use Rattle.rows.specs.declared.slot.SlotKind.{SlotKind}
+use Rattle.rows.specs.declared.slot.SlotKind.the-variants.{Nothing, Prefectures, Places}
+use Rattle.rows.specs.Layout.{_to_, slotCount, slotFirst, slotBits, slotRows}
+use Rattle.report.specs.Layout.{layout}
+use Rattle.rows.specs.Verdict.{empty}
+use Rattle.rows.specs.Values.{each, valuesOf, cut}
+use Rattle.report.specs.Records.{bodyOf, recordAs, recordOf, noSlot, slotValues}
+use Rattle.rows.specs.Kept.{In, Empty, AllEmpty, LaterKept, SlotsKept}
+use Rattle.report.specs.Conforms.{Conforms}
 use Rattle.report.specs.Meaning.{usedAmong, slotsOfCategory, usedOf}
 use Rattle.report.proofs.Agree.{slots-agree}
-use Rattle.report.proofs.JudgedSlots.{empty-is, is-empty}
+use Rattle.rows.proofs.JudgedSlots.{empty-is, is-empty}
 use Rattle.report.proofs.SlotTurns.{taken, split}
 
 -- the length of an array of structs, as it is told of a field

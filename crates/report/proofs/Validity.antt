@@ -5,25 +5,28 @@ use Prim.Native.Nat.{ℕ}
 use lib.ListN.{length, take, length-map}
 use lib.Dec.{eqb}
 use borrow.Author.Tests.{eqb-true, eq-eqb}
-use Rattle.report.specs.declared.refusal.Verdict.{Verdict}
-use Rattle.report.specs.declared.refusal.Verdict.the-variants.{Refused}
-use Rattle.report.specs.declared.refusal.Refusal.{Refusal}
-use Rattle.report.specs.declared.refusal.Refusal.the-variants.{Length, Preamble, Category, Unused}
+use Rattle.rows.specs.declared.refusal.Verdict.{Verdict}
+use Rattle.rows.specs.declared.refusal.Verdict.the-variants.{Refused}
+use Rattle.rows.specs.declared.refusal.Refusal.{Refusal}
+use Rattle.rows.specs.declared.refusal.Refusal.the-variants.{Length, Preamble, Category, Unused}
 use Rattle.report.specs.declared.record.Body.{Body}
 use Rattle.report.specs.declared.record.Body.the-variants.{Nothing, Hypocenter, Intensity, Nankai, AshFall}
 use Rattle.report.specs.declared.record.Record.{Record}
-use Rattle.report.specs.Layout.{Layout, layout, slotCount}
-use Rattle.report.specs.Verdict.{Values, allowed, verdict}
+use Rattle.rows.specs.Layout.{Layout, slotCount}
+use Rattle.report.specs.Layout.{layout}
+use Rattle.rows.specs.Verdict.{Values, allowed, verdict}
 use Rattle.report.specs.Records.{slotValues, values}
 use Rattle.report.specs.Reading.{preambles}
-use Rattle.report.specs.Conforms.{In}
-use Rattle.report.specs.Reasons.{Lowest, Tidy, writeQuestions, WhyNotWritten}
+use Rattle.rows.specs.Kept.{In}
+use Rattle.rows.specs.Faults.{Lowest}
+use Rattle.report.specs.Reasons.{Tidy, writeQuestions, WhyNotWritten}
 use Rattle.report.specs.Writing.{known, tidy, writeAnswer, Valid, KeepsRules}
-use Rattle.report.proofs.Frames.{turn-place}
-use Rattle.report.proofs.Outcomes.{false-not-true}
-use Rattle.report.proofs.Spans.{allowed-in, in-allowed}
-use Rattle.report.proofs.JudgedFrames.{JudgesAll, whole}
-use Rattle.report.proofs.Ordered.{Met, Answers, unquestioned, question}
+use Rattle.rows.proofs.Judged.{turn-place}
+use Rattle.rows.proofs.Outcomes.{false-not-true}
+use Rattle.rows.proofs.Spans.{allowed-in, in-allowed}
+use Rattle.rows.proofs.JudgedFrames.{JudgesAll}
+use Rattle.report.proofs.JudgedFrames.{whole}
+use Rattle.rows.proofs.Ordered.{Met, Answers, unquestioned, question}
 use Rattle.report.proofs.SlotTurns.{taken}
 use Rattle.report.proofs.Shapes.{Shaped}
 use Rattle.report.proofs.Tidy.{is-tidy, tidy-is}

@@ -1,6 +1,6 @@
 -- Walks over the fields of a category, cut into the pieces that the code asks. Assumes nothing.
 use mathlib.Core.Path.{_≡_, refl, sym, ap, _∙_}
-use mathlib.Core.Bool.{Bool, _&&_}
+use mathlib.Core.Bool.{_&&_}
 use Prim.Native.Nat.{ℕ, zero, suc, _+_, _≤_, _<_, zero-le}
 use native.Mathlib.Nat.{suc-ne-zero, suc-inj}
 use native.Mathlib.Omega.{arith}
@@ -9,19 +9,18 @@ use mathlib.Core.List.{List, [], _∷_, _++_}
 use lib.ListN.{length}
 use lib.Dec.{leb, eqb}
 use Rattle.bits.specs.Frame.{Bytes}
-use Rattle.report.specs.declared.refusal.Verdict.{Verdict}
-use Rattle.report.specs.declared.refusal.Refusal.{Refusal}
-use Rattle.report.specs.declared.refusal.Refusal.the-variants.{Range, Spare}
+use Rattle.rows.specs.declared.refusal.Verdict.{Verdict}
+use Rattle.rows.specs.declared.refusal.Refusal.the-variants.{Range, Spare}
 use Rattle.report.specs.declared.record.Common.{Common}
-use Rattle.report.specs.declared.record.Quake.{Quake}
 use Rattle.report.specs.declared.record.Page.{Page}
 use Rattle.report.specs.declared.record.Body.the-variants.{Nankai}
-use Rattle.report.specs.Refusals.{_then_, unless}
-use Rattle.report.specs.Layout.{_to_, Layout, common, time, angle, depth, magnitude, hypocenter, nankai, bytes, page}
-use Rattle.report.specs.Verdict.{allowed, judge, walk}
-use Rattle.report.specs.Records.{headValues, timeValues, angleValues, quakeValues, bodyValues}
-use Rattle.report.proofs.Outcomes.{then-assoc, then-fine, fine-then, unless-true}
-use Rattle.report.proofs.Spans.{allowed-one, in-allowed, only-yes}
+use Rattle.rows.specs.Refusals.{_then_, unless}
+use Rattle.rows.specs.Layout.{_to_, Layout, common, bytes}
+use Rattle.report.specs.Layout.{nankai, page}
+use Rattle.rows.specs.Verdict.{allowed, judge, walk}
+use Rattle.report.specs.Records.{headValues, bodyValues}
+use Rattle.rows.proofs.Outcomes.{then-fine, fine-then, unless-true}
+use Rattle.rows.proofs.Spans.{allowed-one, in-allowed, only-yes}
 
 -- bits 8 to 52: message type and category are what they are
 pub common-walk : (l : Layout) (c : Common) (x : ℕ)
@@ -35,21 +34,6 @@ pub common-walk : (l : Layout) (c : Common) (x : ℕ)
     then unless (eqb x 0) (Spare 43)
 unfolding walk judge
 common-walk l c x = simp (unless-true _ (Range 8) (only-yes 43), unless-true _ (Range 17) (only-yes (l .code)), fine-then, then-fine) (simp allowed-one)
-
--- category 2
-pub quake-walk : (q : Quake)
-    → walk 0 (hypocenter .body) (quakeValues q)
-    ≡ unless (allowed (0 to 0 ∷ 101 to 500 ∷ []) (q .notification1)) (Range 53)
-    then unless (allowed (0 to 0 ∷ 101 to 500 ∷ []) (q .notification2)) (Range 62)
-    then unless (allowed (0 to 0 ∷ 101 to 500 ∷ []) (q .notification3)) (Range 71)
-    then walk 0 (time 80) (timeValues (q .time))
-    then unless (allowed (0 to 501 ∷ 511 to 511 ∷ []) (q .depth)) (Range 96)
-    then unless (allowed (1 to 101 ∷ 126 to 126 ∷ 127 to 127 ∷ []) (q .magnitude)) (Range 105)
-    then unless (leb 11 (q .epicenter) && leb (q .epicenter) 1000) (Range 112)
-    then walk 0 (angle 122 7 89) (angleValues (q .latitude))
-    then walk 0 (angle 142 8 179) (angleValues (q .longitude))
-unfolding walk judge
-quake-walk q = simp (then-assoc, fine-then, allowed-one)
 
 -- category 4: bytes pass, whatever they are
 byte : (x : ℕ) → x < 256 → x ≤ 255
@@ -77,11 +61,3 @@ page-walk p text h l =
     ∙ simp (then-fine, allowed-one)
 
 -- ---- a chain of questions, each put behind those before it
-
--- the test in a question is known by another name
-pub asked : (r v : Verdict) (x : Refusal) (met b : Bool) → r ≡ v then unless met x → met ≡ b → r ≡ v then unless b x
-asked r v x met b e q = rw q at e
-
--- one more link in front
-pub link : (v x y a z : Verdict) → x ≡ v then a → y ≡ x then z → y ≡ v then a then z
-link v x y a z e f = f ∙ ap (λ (w : Verdict). w then z) e ∙ then-assoc v a z

@@ -5,17 +5,17 @@ use mathlib.Core.List.{List}
 use lib.ListN.{length}
 use borrow.Author.Tests.{eq-eqb, ne-eqb, eqb-true}
 use Rattle.bits.specs.Frame.{bytesOf}
-use Rattle.report.specs.declared.refusal.Verdict.{Verdict}
-use Rattle.report.specs.declared.refusal.Verdict.the-variants.{Fine, Refused}
-use Rattle.report.specs.declared.refusal.Refusal.{Refusal}
-use Rattle.report.specs.declared.refusal.Refusal.the-variants.{Length}
+use Rattle.rows.specs.declared.refusal.Verdict.{Verdict}
+use Rattle.rows.specs.declared.refusal.Verdict.the-variants.{Fine, Refused}
+use Rattle.rows.specs.declared.refusal.Refusal.{Refusal}
+use Rattle.rows.specs.declared.refusal.Refusal.the-variants.{Length}
 use Rattle.report.specs.declared.record.Record.{Record}
 use Rattle.report.specs.declared.read.Reading.{Reading}
-use Rattle.report.specs.Refusals.{_then_, unless}
+use Rattle.rows.specs.Refusals.{_then_, unless}
 use Rattle.report.specs.Records.{recordOf}
 use Rattle.report.specs.Reading.{outerOf, innerOf, readAnswer, reading, readOf}
 use Rattle.report.specs.Writing.{writeAnswer, frame, written, writeOf, Valid}
-use Rattle.report.proofs.Outcomes.{fine-both, unless-fine}
+use Rattle.rows.proofs.Outcomes.{fine-both, unless-fine}
 
 pub not-a-frame : (s : List ℕ) (r : Record) (out : Reading) → (length s ≡ 32 → ⊥) → out ≡ reading (Refused Length) r → out ≡ readOf s
 unfolding unless _then_

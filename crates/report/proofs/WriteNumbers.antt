@@ -7,21 +7,22 @@ use mathlib.Core.List.{List, [], _∷_}
 use lib.Dec.{eqb}
 use types.Run.{OneOf}
 use borrow.Author.Tests.{eq-eqb}
-use Rattle.report.specs.declared.refusal.Verdict.{Verdict}
-use Rattle.report.specs.declared.refusal.Verdict.the-variants.{Fine, Refused}
-use Rattle.report.specs.declared.refusal.Refusal.{Refusal}
-use Rattle.report.specs.declared.refusal.Refusal.the-variants.{Length, Preamble, Category, Range, Spare, Gap, Unused}
+use Rattle.rows.specs.declared.refusal.Verdict.{Verdict}
+use Rattle.rows.specs.declared.refusal.Verdict.the-variants.{Fine, Refused}
+use Rattle.rows.specs.declared.refusal.Refusal.{Refusal}
+use Rattle.rows.specs.declared.refusal.Refusal.the-variants.{Length, Preamble, Category, Range, Spare, Gap, Unused}
 use Rattle.report.specs.declared.record.Body.{Body}
 use Rattle.report.specs.declared.record.Body.the-variants.{Nothing, Hypocenter, Intensity, Nankai, AshFall}
-use Rattle.report.specs.declared.record.SlotKind.{SlotKind}
-use Rattle.report.specs.declared.record.SlotKind.the-variants.{Nothing as NoSlots, Prefectures, Places}
+use Rattle.rows.specs.declared.slot.SlotKind.{SlotKind}
+use Rattle.rows.specs.declared.slot.SlotKind.the-variants.{Nothing as NoSlots, Prefectures, Places}
 use Rattle.report.specs.declared.record.Record.{Record}
-use Rattle.report.specs.Refusals.{says, answers, _then_, unless}
-use Rattle.report.specs.Layout.{Rule, among, rising, spare, Row, common, ending, layout, slotFirst, slotBits, slotRows}
-use Rattle.report.specs.Verdict.{judge, walk, empty, later, slotsVerdict, verdict}
+use Rattle.rows.specs.Refusals.{says, answers, _then_, unless}
+use Rattle.rows.specs.Layout.{Rule, among, rising, spare, Row, common, ending, slotFirst, slotBits, slotRows}
+use Rattle.report.specs.Layout.{layout}
+use Rattle.rows.specs.Verdict.{judge, walk, empty, later, slotsVerdict, verdict}
 use Rattle.report.specs.Records.{values}
 use Rattle.report.specs.Writing.{writeAnswer}
-use Rattle.report.proofs.Outcomes.{false-not-true, and-both, unless-true}
+use Rattle.rows.proofs.Outcomes.{false-not-true, and-both, unless-true}
 
 abbrev pub writeNumbers : List ℕ
 writeNumbers = 0 ∷ 1 ∷ 3 ∷ 7 ∷ 8 ∷ 10 ∷ 11 ∷ []

@@ -7,19 +7,22 @@ use native.Mathlib.Omega.{arith}
 use mathlib.Core.List.{List, [], _∷_}
 use lib.Dec.{eqb}
 use borrow.Author.Tests.{le-leb, lt-leb, eqb-false, not-true}
-use Rattle.report.specs.declared.refusal.Verdict.{Verdict}
-use Rattle.report.specs.declared.refusal.Verdict.the-variants.{Fine, Refused}
-use Rattle.report.specs.declared.refusal.Refusal.{Refusal}
-use Rattle.report.specs.declared.refusal.Refusal.the-variants.{Range, Gap}
+use Rattle.rows.specs.declared.refusal.Verdict.{Verdict}
+use Rattle.rows.specs.declared.refusal.Verdict.the-variants.{Fine, Refused}
+use Rattle.rows.specs.declared.refusal.Refusal.{Refusal}
+use Rattle.rows.specs.declared.refusal.Refusal.the-variants.{Range, Gap}
 use Rattle.report.specs.declared.record.Record.{Record}
-use Rattle.report.specs.Refusals.{says, _then_, unless}
-use Rattle.report.specs.Layout.{Layout, common, ending, layout}
-use Rattle.report.specs.Verdict.{allowed, judge, walk, slotsVerdict, verdict}
-use Rattle.report.specs.Records.{lastValues, values}
-use Rattle.report.specs.Reasons.{Question, _or_, First, Fault, writeQuestions}
+use Rattle.rows.specs.Refusals.{says, _then_, unless}
+use Rattle.rows.specs.Layout.{Layout, common, ending}
+use Rattle.report.specs.Layout.{layout}
+use Rattle.rows.specs.Verdict.{allowed, judge, walk, slotsVerdict, verdict}
+use Rattle.rows.specs.Values.{lastValues}
+use Rattle.report.specs.Records.{values}
+use Rattle.rows.specs.Faults.{Question, _or_, First, Fault}
+use Rattle.report.specs.Reasons.{writeQuestions}
 use Rattle.report.specs.Writing.{writeAnswer, Valid}
-use Rattle.report.proofs.Outcomes.{fine-both, and-both}
-use Rattle.report.proofs.Judged.{turn}
+use Rattle.rows.proofs.Outcomes.{fine-both, and-both}
+use Rattle.rows.proofs.Judged.{turn}
 use Rattle.report.proofs.Shapes.{Shaped}
 use Rattle.report.proofs.Validity.{recordLayout, recordValues, innerWrite, judged-record, answered}
 

@@ -12,24 +12,29 @@ use Rattle.bits.proofs.Layouts.{encode-lt, decode-encode}
 use Rattle.bits.proofs.Bytes.{number-bytesOf}
 use Rattle.parity.specs.Parity.{parityOf, parityOfFront}
 use Rattle.parity.proofs.Front.{parity-of-front}
-use Rattle.report.specs.declared.refusal.Verdict.the-variants.{Fine}
+use Rattle.rows.specs.declared.refusal.Verdict.the-variants.{Fine}
 use Rattle.report.specs.declared.record.Body.{Body}
 use Rattle.report.specs.declared.record.Body.the-variants.{Nothing, Hypocenter, Intensity, Nankai, AshFall}
 use Rattle.report.specs.declared.record.Record.{Record}
-use Rattle.report.specs.Layout.{layout, allRows, slotCount}
-use Rattle.report.specs.Verdict.{Values}
-use Rattle.report.specs.Records.{bodyOf, slotsOf, cut, recordAs, recordOf, valuesOf, values}
+use Rattle.report.specs.Layout.{layout}
+use Rattle.rows.specs.Layout.{allRows, slotCount}
+use Rattle.rows.specs.Verdict.{Values}
+use Rattle.report.specs.Records.{bodyOf, slotsOf, recordAs, recordOf, values}
+use Rattle.rows.specs.Values.{cut, valuesOf}
 use Rattle.report.specs.Reading.{preambles, categories, reading, readOf}
-use Rattle.report.specs.Conforms.{In, Holds, Conforms}
+use Rattle.rows.specs.Kept.{In, Holds}
+use Rattle.report.specs.Conforms.{Conforms}
 use Rattle.report.specs.Writing.{frontValues, frontWidths, tidySlots, tidyText, front, frame, writeOf, Valid, KeepsRules}
-use Rattle.report.proofs.Outcomes.{and-both}
+use Rattle.rows.proofs.Outcomes.{and-both}
 use Rattle.report.proofs.Frames.{conforming-fine}
 use Rattle.report.proofs.Agree.{slots-agree}
-use Rattle.report.proofs.Lengths.{frame-filled, record-filled}
+use Rattle.rows.proofs.Lengths.{frame-filled}
+use Rattle.report.proofs.Lengths.{record-filled}
 use Rattle.report.proofs.Shapes.{Shaped, frame-shaped}
-use Rattle.report.proofs.Rows.{fits-all, front-total, front-fields, values-flat}
-use Rattle.report.proofs.Fits.{in-below, holds-fit}
-use Rattle.report.proofs.Flattened.{flat-same}
+use Rattle.report.proofs.Rows.{fits-all, front-total, front-fields}
+use Rattle.rows.proofs.Rows.{values-flat}
+use Rattle.rows.proofs.Fits.{in-below, holds-fit}
+use Rattle.rows.proofs.Flattened.{flat-same}
 use Rattle.report.proofs.Parts.{same-body, same-text, same-slots}
 use Rattle.report.proofs.Tidy.{tidy-is, frame-slots-tidy}
 use Rattle.report.proofs.Validity.{valid-keeps}

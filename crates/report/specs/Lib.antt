@@ -1,6 +1,4 @@
-pub mod Refusals
 pub mod Layout
-pub mod Verdict
 pub mod Records
 pub mod Reading
 pub mod Writing

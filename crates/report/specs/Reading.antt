@@ -5,15 +5,17 @@ use lib.ListN.{length}
 use lib.Dec.{eqb}
 use Rattle.bits.specs.Frame.{fieldOf}
 use Rattle.parity.specs.Parity.{parityRight}
-use Rattle.report.specs.declared.refusal.Verdict.{Verdict}
-use Rattle.report.specs.declared.refusal.Verdict.the-variants.{Fine, Refused}
-use Rattle.report.specs.declared.refusal.Refusal.the-variants.{Length, Padding, Preamble, Parity, Message, Version, Category}
+use Rattle.rows.specs.declared.refusal.Verdict.{Verdict}
+use Rattle.rows.specs.declared.refusal.Verdict.the-variants.{Fine, Refused}
+use Rattle.rows.specs.declared.refusal.Refusal.the-variants.{Length, Padding, Preamble, Parity, Message, Version, Category}
 use Rattle.report.specs.declared.record.Record.{Record}
 use Rattle.report.specs.declared.read.Reading.{Reading}
-use Rattle.report.specs.Refusals.{_then_, unless}
-use Rattle.report.specs.Layout.{Span, _to_, layout}
-use Rattle.report.specs.Verdict.{allowed, verdict}
-use Rattle.report.specs.Records.{bodyOf, recordOf, zeros, valuesOf}
+use Rattle.rows.specs.Refusals.{_then_, unless}
+use Rattle.rows.specs.Layout.{Span, _to_}
+use Rattle.report.specs.Layout.{layout}
+use Rattle.rows.specs.Verdict.{allowed, verdict}
+use Rattle.report.specs.Records.{bodyOf, recordOf, zeros}
+use Rattle.rows.specs.Values.{valuesOf}
 
 -- "53, 9A or C6 hexadecimal"
 abbrev pub preambles : List Span

@@ -1,31 +1,26 @@
 -- The record of a frame (document 01, "The record"), and the values of a frame and of a record, in the order of the frame.
-use Prim.Native.Nat.{ℕ, zero, suc, _+_, _-_, _*_}
+use Prim.Native.Nat.{ℕ, _+_, _-_, _*_}
 use mathlib.Core.Bool.{cond}
 use mathlib.Core.List.{List, [], _∷_, _++_, map}
 use lib.ListN.{replicate, take}
 use lib.Dec.{eqb}
 use Rattle.bits.specs.Frame.{fieldOf}
 use Rattle.report.specs.declared.record.Common.{Common}
-use Rattle.report.specs.declared.record.Time.{Time}
-use Rattle.report.specs.declared.record.Angle.{Angle}
-use Rattle.report.specs.declared.record.Quake.{Quake}
 use Rattle.report.specs.declared.record.Page.{Page}
-use Rattle.report.specs.declared.record.Eruption.{Eruption}
 use Rattle.report.specs.declared.record.Body.{Body}
 use Rattle.report.specs.declared.record.Body.the-variants.{Nothing, Hypocenter, Intensity, Nankai, AshFall}
 use Rattle.report.specs.declared.record.Slot.{Slot}
-use Rattle.report.specs.declared.record.SlotKind.{SlotKind}
-use Rattle.report.specs.declared.record.SlotKind.the-variants.{Nothing as NoSlots, Prefectures, Places}
+use Rattle.rows.specs.declared.slot.SlotKind.{SlotKind}
+use Rattle.rows.specs.declared.slot.SlotKind.the-variants.{Nothing as NoSlots, Prefectures, Places}
 use Rattle.report.specs.declared.record.Record.{Record}
-use Rattle.report.specs.Layout.{Row, Layout, common, ending, layout, slotCount, slotFirst, slotBits, slotRows}
-use Rattle.report.specs.Verdict.{Values}
+use Rattle.rows.specs.Layout.{common, slotCount, slotFirst, slotBits}
+use Rattle.report.specs.Layout.{layout}
+use Rattle.rows.specs.Verdict.{Values}
+use Rattle.hypocenter.specs.Hypocenter.{quakeValues, quakeOf}
+use Rattle.rows.specs.Values.{timeValues, timeOf, lastValues, each}
+use Rattle.ash_fall.specs.AshFall.{eruptionValues, eruptionOf}
 
 -- ---- from a frame
-
--- f 0, f 1, .., f (n - 1)
-abbrev pub each : {A : Type 0} → ℕ → (ℕ → A) → List A
-each zero f = []
-each (suc n) f = f 0 ∷ each n (λ i. f (suc i))
 
 abbrev pub commonOf : List ℕ → Common
 commonOf s = record {
@@ -37,31 +32,8 @@ commonOf s = record {
   it = fieldOf s 41 2;
 }
 
-abbrev pub timeOf : List ℕ → ℕ → Time
-timeOf s a = record { day = fieldOf s a 5; hour = fieldOf s (a + 5) 5; minute = fieldOf s (a + 10) 6 }
-
--- an angle whose degrees have w bits
-abbrev pub angleOf : List ℕ → ℕ → ℕ → Angle
-angleOf s a w = record { side = fieldOf s a 1; degrees = fieldOf s (a + 1) w; minutes = fieldOf s (a + 1 + w) 6; seconds = fieldOf s (a + 7 + w) 6 }
-
-abbrev pub quakeOf : List ℕ → Quake
-quakeOf s = record {
-  notification1 = fieldOf s 53 9;
-  notification2 = fieldOf s 62 9;
-  notification3 = fieldOf s 71 9;
-  time = timeOf s 80;
-  depth = fieldOf s 96 9;
-  magnitude = fieldOf s 105 7;
-  epicenter = fieldOf s 112 10;
-  latitude = angleOf s 122 7;
-  longitude = angleOf s 142 8;
-}
-
 abbrev pub pageOf : List ℕ → Page
 pageOf s = record { serial = fieldOf s 53 4; number = fieldOf s 201 6; total = fieldOf s 207 6 }
-
-abbrev pub eruptionOf : List ℕ → Eruption
-eruptionOf s = record { time = timeOf s 53; warning = fieldOf s 69 2; volcano = fieldOf s 71 12 }
 
 -- by the category's code
 unfoldable pub bodyBy : List ℕ → ℕ → Body
@@ -122,50 +94,18 @@ zeros = record {
 
 -- ---- the values of a frame, row by row
 
-abbrev pub cut : List ℕ → Row → ℕ
-cut s r = fieldOf s (r .first) (r .width)
-
-unfoldable pub valuesOf : List ℕ → Layout → Values
-valuesOf s l = record {
-  head = map (cut s) (common l);
-  body = map (cut s) (l .body);
-  slots = each (slotCount (l .slots)) (λ i. map (cut s) (slotRows (l .slots) (slotFirst (l .slots) + slotBits (l .slots) * i)));
-  last = map (cut s) (ending l);
-}
-
 -- ---- the values of a record, with those of the two spares, which are not in it
 
 abbrev pub headValues : Common → ℕ → ℕ → List ℕ
 headValues c dc spare =
     43 ∷ c .rc ∷ dc ∷ c .month ∷ c .day ∷ c .hour ∷ c .minute ∷ c .it ∷ spare ∷ []
 
-abbrev pub lastValues : ℕ → ℕ → List ℕ
-lastValues spare reserved = spare ∷ 1 ∷ reserved ∷ []
-
-abbrev pub timeValues : Time → List ℕ
-timeValues t = t .day ∷ t .hour ∷ t .minute ∷ []
-
-abbrev pub angleValues : Angle → List ℕ
-angleValues a = a .side ∷ a .degrees ∷ a .minutes ∷ a .seconds ∷ []
-
-abbrev pub quakeValues : Quake → List ℕ
-quakeValues q =
-    q .notification1
-    ∷ q .notification2
-    ∷ q .notification3
-    ∷ timeValues (q .time)
-    ++ q .depth
-    ∷ q .magnitude
-    ∷ q .epicenter
-    ∷ angleValues (q .latitude)
-    ++ angleValues (q .longitude)
-
 unfoldable pub bodyValues : Body → List ℕ → List ℕ
 bodyValues Nothing text = []
 bodyValues (Hypocenter q) text = quakeValues q
 bodyValues (Intensity t) text = timeValues t
 bodyValues (Nankai p) text = p .serial ∷ text ++ p .number ∷ p .total ∷ []
-bodyValues (AshFall e) text = timeValues (e .time) ++ e .warning ∷ e .volcano ∷ []
+bodyValues (AshFall e) text = eruptionValues e
 
 abbrev pub slotValues : SlotKind → Slot → List ℕ
 slotValues NoSlots s = []

@@ -2,12 +2,12 @@
 use Prim.Native.Nat.{ℕ}
 use mathlib.Core.Bool.{true, not, cond}
 use mathlib.Core.List.{List}
-use Rattle.report.specs.declared.record.SlotKind.{SlotKind}
+use Rattle.rows.specs.declared.slot.SlotKind.{SlotKind}
 use Rattle.report.specs.declared.check.Run.{Run}
-use Rattle.report.specs.declared.refusal.Refusal.the-variants.{Gap}
-use Rattle.report.specs.Refusals.{_then_, unless}
-use Rattle.report.specs.Layout.{slotRows}
-use Rattle.report.specs.Verdict.{empty, walk}
+use Rattle.rows.specs.declared.refusal.Refusal.the-variants.{Gap}
+use Rattle.rows.specs.Refusals.{_then_, unless}
+use Rattle.rows.specs.Layout.{slotRows}
+use Rattle.rows.specs.Verdict.{empty, walk}
 
 -- what has been found among the slots so far, with one later slot more
 unfoldable pub laterRun : SlotKind → Run → ℕ → List ℕ → Run

@@ -3,27 +3,29 @@
 use Prim.Native.Nat.{ℕ, zero, suc, _+_, _*_, _^_, _≤_, _<_}
 use mathlib.Core.Path.{_≡_}
 use mathlib.Core.Bool.{Bool, true, false, _&&_}
-use mathlib.Core.List.{List, [], _∷_, _++_, map}
+use mathlib.Core.List.{List, [], _∷_}
 use lib.ListN.{length, getD}
 use lib.Dec.{eqb}
 use Rattle.bits.specs.Layout.{encode}
 use Rattle.bits.specs.Frame.{bytesOf}
 use Rattle.parity.specs.Parity.{parityOfFront}
-use Rattle.report.specs.declared.refusal.Verdict.{Verdict}
-use Rattle.report.specs.declared.refusal.Verdict.the-variants.{Fine, Refused}
-use Rattle.report.specs.declared.refusal.Refusal.the-variants.{Length, Preamble, Category, Unused}
+use Rattle.rows.specs.declared.refusal.Verdict.{Verdict}
+use Rattle.rows.specs.declared.refusal.Verdict.the-variants.{Fine, Refused}
+use Rattle.rows.specs.declared.refusal.Refusal.the-variants.{Length, Preamble, Category, Unused}
 use Rattle.report.specs.declared.record.Body.{Body}
 use Rattle.report.specs.declared.record.Body.the-variants.{Nothing, Hypocenter, Intensity, Nankai, AshFall}
 use Rattle.report.specs.declared.record.Slot.{Slot}
-use Rattle.report.specs.declared.record.SlotKind.{SlotKind}
-use Rattle.report.specs.declared.record.SlotKind.the-variants.{Nothing as NoSlots, Prefectures, Places}
+use Rattle.rows.specs.declared.slot.SlotKind.{SlotKind}
+use Rattle.rows.specs.declared.slot.SlotKind.the-variants.{Nothing as NoSlots, Prefectures, Places}
 use Rattle.report.specs.declared.record.Record.{Record}
-use Rattle.report.specs.Refusals.{_then_, unless}
-use Rattle.report.specs.Layout.{Row, Layout, layout, allRows, slotCount}
-use Rattle.report.specs.Verdict.{allowed, empty, Values, verdict}
+use Rattle.rows.specs.Refusals.{_then_, unless}
+use Rattle.rows.specs.Layout.{Layout, allRows, slotCount}
+use Rattle.report.specs.Layout.{layout}
+use Rattle.rows.specs.Verdict.{allowed, empty, verdict}
 use Rattle.report.specs.Records.{noSlot, values}
 use Rattle.report.specs.Reading.{preambles}
-use Rattle.report.specs.Conforms.{In, Empty, Holds}
+use Rattle.rows.specs.Kept.{In, Empty, Holds}
+use Rattle.rows.specs.Values.{flat, widths}
 
 -- ---- what is refused
 
@@ -68,17 +70,6 @@ writeAnswer r size =
     then verdict (layout (r .body)) (values r 0 0)
 
 -- ---- the frame
-
-abbrev pub joined : List (List ℕ) → List ℕ
-joined [] = []
-joined (v ∷ vs) = v ++ joined vs
-
--- the values one behind the other
-abbrev pub flat : Values → List ℕ
-flat v = v .head ++ (v .body ++ (joined (v .slots) ++ v .last))
-
-abbrev pub widths : List Row → List ℕ
-widths = map (λ r. r .width)
 
 -- the preamble and the rows, with their values
 abbrev pub frontWidths : Layout → List ℕ

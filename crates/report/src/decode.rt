@@ -2,17 +2,16 @@
 // asked of it afterwards.
 ghost use mathlib.Core.Path.{_≡_};
 ghost use Prim.Native.Nat.{_≤_};
-ghost use Rattle.report.specs.Records.{commonOf, timeOf, angleOf, quakeOf, pageOf, eruptionOf, bodyOf, slotOf, slotsOf, pageText, textOf, recordOf, zeros};
-use crate::record::Angle;
+ghost use Rattle.report.specs.Records.{commonOf, pageOf, bodyOf, slotOf, slotsOf, pageText, textOf, recordOf, zeros};
 use crate::record::Body;
 use crate::record::Common;
-use crate::record::Eruption;
 use crate::record::Page;
-use crate::record::Quake;
 use crate::record::Record;
 use crate::record::Slot;
-use crate::record::SlotKind;
-use crate::record::Time;
+use ash_fall::Eruption;
+use hypocenter::Quake;
+use rows::slot::SlotKind;
+use rows::time::Time;
 
 fn common_of(f: [u8; 32]) -> Common
     ensures { λ r. ⌜ r ≡ commonOf f ⌝ }
@@ -27,46 +26,6 @@ fn common_of(f: [u8; 32]) -> Common
     }
 }
 
-fn time_at(f: [u8; 32], at: usize) -> Time
-    requires { ⌜ at ≤ 200 ⌝ }
-    ensures { λ r. ⌜ r ≡ timeOf f at ⌝ }
-{
-    Time {
-        day: bits::field8(f, at, 5),
-        hour: bits::field8(f, at + 5, 5),
-        minute: bits::field8(f, at + 10, 6),
-    }
-}
-
-// An angle whose degrees have `width` bits.
-fn angle_at(f: [u8; 32], at: usize, width: usize) -> Angle
-    requires { ⌜ (at ≤ 200) × (width ≤ 8) ⌝ }
-    ensures { λ r. ⌜ r ≡ angleOf f at width ⌝ }
-{
-    Angle {
-        side: bits::field8(f, at, 1),
-        degrees: bits::field8(f, at + 1, width),
-        minutes: bits::field8(f, at + 1 + width, 6),
-        seconds: bits::field8(f, at + 7 + width, 6),
-    }
-}
-
-fn quake_of(f: [u8; 32]) -> Quake
-    ensures { λ r. ⌜ r ≡ quakeOf f ⌝ }
-{
-    Quake {
-        notification1: bits::field16(f, 53, 9),
-        notification2: bits::field16(f, 62, 9),
-        notification3: bits::field16(f, 71, 9),
-        time: time_at(f, 80),
-        depth: bits::field16(f, 96, 9),
-        magnitude: bits::field8(f, 105, 7),
-        epicenter: bits::field16(f, 112, 10),
-        latitude: angle_at(f, 122, 7),
-        longitude: angle_at(f, 142, 8),
-    }
-}
-
 fn page_of(f: [u8; 32]) -> Page
     ensures { λ r. ⌜ r ≡ pageOf f ⌝ }
 {
@@ -77,24 +36,14 @@ fn page_of(f: [u8; 32]) -> Page
     }
 }
 
-fn eruption_of(f: [u8; 32]) -> Eruption
-    ensures { λ r. ⌜ r ≡ eruptionOf f ⌝ }
-{
-    Eruption {
-        time: time_at(f, 53),
-        warning: bits::field8(f, 69, 2),
-        volcano: bits::field16(f, 71, 12),
-    }
-}
-
 fn body_of(f: [u8; 32]) -> Body
     ensures { λ r. ⌜ r ≡ bodyOf f ⌝ }
 {
     match bits::field8(f, 17, 4) {
-        2 => Body::Hypocenter(quake_of(f)),
-        3 => Body::Intensity(time_at(f, 53)),
+        2 => Body::Hypocenter(Quake::of(f)),
+        3 => Body::Intensity(Time::at(f, 53)),
         4 => Body::Nankai(page_of(f)),
-        9 => Body::AshFall(eruption_of(f)),
+        9 => Body::AshFall(Eruption::of(f)),
         _ => Body::Nothing,
     }
 }

@@ -2,23 +2,21 @@
 // Nothing is refused here; what may be written is asked before.
 ghost use mathlib.Core.Path.{_≡_};
 ghost use mathlib.Core.Bool.{true};
-ghost use mathlib.Core.List.{_∷_, [], map};
+ghost use mathlib.Core.List.{map};
 ghost use Prim.Native.Nat.{_≤_};
 ghost use lib.ListN.{replicate, take};
 ghost use Rattle.bits.specs.Frame.{laid, bytesOf};
-ghost use Rattle.report.specs.Layout.{layout, common, ending, time, angle, hypocenter, nankai, ashFall, page, slotRows, slotsRows, slotCount, slotFirst};
-ghost use Rattle.report.specs.Records.{headValues, lastValues, timeValues, angleValues, quakeValues, bodyValues, slotValues};
-ghost use Rattle.report.specs.Writing.{known, widths, joined, frontWidths, frontValues, frame, Valid};
-use crate::record::Angle;
+ghost use Rattle.report.specs.Layout.{layout, nankai};
+ghost use Rattle.rows.specs.Layout.{common, ending, slotRows, slotsRows, slotCount, slotFirst};
+ghost use Rattle.report.specs.Records.{headValues, bodyValues, slotValues};
+ghost use Rattle.rows.specs.Values.{lastValues, widths, joined};
+ghost use Rattle.report.specs.Writing.{known, frontWidths, frontValues, frame, Valid};
 use crate::record::Body;
 use crate::record::Common;
-use crate::record::Eruption;
 use crate::record::Page;
-use crate::record::Quake;
 use crate::record::Record;
 use crate::record::Slot;
-use crate::record::SlotKind;
-use crate::record::Time;
+use rows::slot::SlotKind;
 
 // Bits 8 to 52.
 fn lay_common(f: [u8; 32], c: Common, b: Body) -> [u8; 32]
@@ -33,43 +31,6 @@ fn lay_common(f: [u8; 32], c: Common, b: Body) -> [u8; 32]
     let minute = bits::put(hour, 35, 6, c.minute as u64);
     let it = bits::put(minute, 41, 2, c.it as u64);
     bits::put(it, 43, 10, 0)
-}
-
-fn lay_time(f: [u8; 32], at: usize, t: Time) -> [u8; 32]
-    requires { ⌜ at ≤ 200 ⌝ }
-    ensures { λ r. ⌜ r ≡ laid f at (widths (time at)) (timeValues t) ⌝ }
-{
-    let day = bits::put(f, at, 5, t.day as u64);
-    let hour = bits::put(day, at + 5, 5, t.hour as u64);
-    bits::put(hour, at + 10, 6, t.minute as u64)
-}
-
-// An angle whose degrees have `width` bits.
-fn lay_angle(f: [u8; 32], at: usize, width: usize, a: Angle) -> [u8; 32]
-    requires { ⌜ (at ≤ 200) × (width ≤ 8) ⌝ }
-    ensures { λ r. ⌜ r ≡ laid f at (1 ∷ width ∷ 6 ∷ 6 ∷ []) (angleValues a) ⌝ }
-{
-    let side = bits::put(f, at, 1, a.side as u64);
-    let degrees = bits::put(side, at + 1, width, a.degrees as u64);
-    let minutes = bits::put(degrees, at + 1 + width, 6, a.minutes as u64);
-    bits::put(minutes, at + 1 + width + 6, 6, a.seconds as u64)
-}
-
-fn lay_quake(f: [u8; 32], q: Quake) -> [u8; 32]
-    ensures { λ r. ⌜ r ≡ laid f 53 (widths (hypocenter .body)) (quakeValues q) ⌝ }
-{
-    let first = bits::put(f, 53, 9, q.notification1 as u64);
-    let second = bits::put(first, 62, 9, q.notification2 as u64);
-    let third = bits::put(second, 71, 9, q.notification3 as u64);
-    let quake_time = q.time;
-    let time = lay_time(third, 80, quake_time);
-    let depth = bits::put(time, 96, 9, q.depth as u64);
-    let magnitude = bits::put(depth, 105, 7, q.magnitude as u64);
-    let epicenter = bits::put(magnitude, 112, 10, q.epicenter as u64);
-    let quake_latitude = q.latitude;
-    let quake_longitude = q.longitude;
-    let latitude = lay_angle(epicenter, 122, 7, quake_latitude);
-    lay_angle(latitude, 142, 8, quake_longitude)
 }
 
 fn lay_text(f: [u8; 32], text: [u8; 18]) -> [u8; 32]
@@ -94,25 +55,16 @@ fn lay_page(f: [u8; 32], p: Page, text: [u8; 18]) -> [u8; 32]
     bits::put(number, 207, 6, p.total as u64)
 }
 
-fn lay_eruption(f: [u8; 32], e: Eruption) -> [u8; 32]
-    ensures { λ r. ⌜ r ≡ laid f 53 (widths (ashFall .body)) (bodyValues (Body.AshFall e) []) ⌝ }
-{
-    let eruption_time = e.time;
-    let time = lay_time(f, 53, eruption_time);
-    let warning = bits::put(time, 69, 2, e.warning as u64);
-    bits::put(warning, 71, 12, e.volcano as u64)
-}
-
 // The fields of the category, from bit 53 on.
 fn lay_body(f: [u8; 32], b: Body, text: [u8; 18]) -> [u8; 32]
     ensures { λ r. ⌜ r ≡ laid f 53 (widths (layout b .body)) (bodyValues b text) ⌝ }
 {
     match b {
         Body::Nothing => f,
-        Body::Hypocenter(q) => lay_quake(f, q),
-        Body::Intensity(t) => lay_time(f, 53, t),
+        Body::Hypocenter(q) => q.lay(f),
+        Body::Intensity(t) => t.lay(f, 53),
         Body::Nankai(p) => lay_page(f, p, text),
-        Body::AshFall(e) => lay_eruption(f, e),
+        Body::AshFall(e) => e.lay(f),
     }
 }
 

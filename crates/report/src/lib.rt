@@ -1,7 +1,6 @@
 // DC Report frames of message type 43 in categories 2 (hypocenter), 3 (seismic intensity), 4 (Nankai
 // Trough) and 9 (ash fall): from lent bytes to a record or the one refusal that fits. Gathering the
 // pages of a bulletin and listing files is for the crates above.
-pub mod refusal; // why a call is refused
 pub mod record; // what a frame says
 pub mod meaning; // what the numbers in it say
 pub mod decode; // bits as a record

@@ -8,8 +8,8 @@ use crate::codes::is_preamble;
 use crate::decode::decode;
 use crate::decode::record_of_zeros;
 use crate::record::Record;
-use crate::refusal::Refusal;
-use crate::refusal::Verdict;
+use rows::refusal::Refusal;
+use rows::refusal::Verdict;
 
 // The record of a frame, or why there is none: then the record is that of zeros.
 pub struct Reading {

@@ -1,9 +1,13 @@
 // What a frame says, as numbers in the narrowest type that holds them. Any value may stand in a
 // record; which of them can be written is for the check.
 ghost use mathlib.Core.Path.{_≡_};
-ghost use Rattle.report.specs.Layout.{layout, slotCount, slotFirst, slotBits};
-ghost use Rattle.report.specs.Verdict.{empty};
+ghost use Rattle.report.specs.Layout.{layout};
+ghost use Rattle.rows.specs.Verdict.{empty};
 ghost use Rattle.report.specs.Records.{slotValues};
+use ash_fall::Eruption;
+use hypocenter::Quake;
+use rows::slot::SlotKind;
+use rows::time::Time;
 
 // The fields that every category has.
 pub struct Common {
@@ -15,46 +19,11 @@ pub struct Common {
     pub it: u8,
 }
 
-// When an earthquake or an eruption was.
-pub struct Time {
-    pub day: u8,
-    pub hour: u8,
-    pub minute: u8,
-}
-
-// A latitude or a longitude: side 0 is north or east, 1 is south or west.
-pub struct Angle {
-    pub side: u8,
-    pub degrees: u8,
-    pub minutes: u8,
-    pub seconds: u8,
-}
-
-// Category 2. What its depth and its magnitude say is told by `Depth::of` and `Magnitude::of`.
-pub struct Quake {
-    pub notification1: u16,
-    pub notification2: u16,
-    pub notification3: u16,
-    pub time: Time,
-    pub depth: u16,
-    pub magnitude: u8,
-    pub epicenter: u16,
-    pub latitude: Angle,
-    pub longitude: Angle,
-}
-
 // Category 4: the kind of information (Is), and which page of how many this is.
 pub struct Page {
     pub serial: u8,
     pub number: u8,
     pub total: u8,
-}
-
-// Category 9. Its places are slots.
-pub struct Eruption {
-    pub time: Time,
-    pub warning: u8,
-    pub volcano: u16,
 }
 
 // What the category of a record has beside slots and text. `Nothing` is no category: the record of
@@ -75,13 +44,6 @@ pub struct Slot {
     pub place: u32,
 }
 
-// What the slots of a category list.
-pub enum SlotKind {
-    Nothing,
-    Prefectures,
-    Places,
-}
-
 // A report. What its category does not use is zero.
 pub struct Record {
     pub preamble: u8,
@@ -90,41 +52,6 @@ pub struct Record {
     pub body: Body,
     pub slots: [Slot; 16],
     pub text: [u8; 18],
-}
-
-impl SlotKind {
-    // How many slots there are.
-    pub(crate) fn count(self) -> usize
-        ensures { λ r. ⌜ r ≡ slotCount self ⌝ }
-    {
-        match self {
-            SlotKind::Nothing => 0,
-            SlotKind::Prefectures => 16,
-            SlotKind::Places => 4,
-        }
-    }
-
-    // The first bit of the first one.
-    pub(crate) fn first(self) -> u8
-        ensures { λ r. ⌜ r ≡ slotFirst self ⌝ }
-    {
-        match self {
-            SlotKind::Nothing => 0,
-            SlotKind::Prefectures => 69,
-            SlotKind::Places => 83,
-        }
-    }
-
-    // How wide each is.
-    pub(crate) fn bits(self) -> u8
-        ensures { λ r. ⌜ r ≡ slotBits self ⌝ }
-    {
-        match self {
-            SlotKind::Nothing => 0,
-            SlotKind::Prefectures => 9,
-            SlotKind::Places => 29,
-        }
-    }
 }
 
 impl Body {

@@ -1,11 +1,9 @@
 // Writing a record to a lent frame: first whether, then what.
 ghost use mathlib.Core.Path.{_≡_};
-ghost use mathlib.Core.Bool.{cond};
-ghost use lib.Dec.{ltb};
 ghost use lib.ListN.{length};
-ghost use Rattle.report.specs.Refusals.{_then_};
-ghost use Rattle.report.specs.Layout.{slotCount};
-ghost use Rattle.report.specs.Verdict.{empty};
+ghost use Rattle.rows.specs.Refusals.{_then_};
+ghost use Rattle.rows.specs.Layout.{slotCount};
+ghost use Rattle.rows.specs.Verdict.{empty};
 ghost use Rattle.report.specs.Writing.{known, unused, tidySlots, tidyText, tidy, writeAnswer, writeOf};
 use crate::check::check;
 use crate::codes::is_preamble;
@@ -13,9 +11,9 @@ use crate::encode::encode;
 use crate::record::Body;
 use crate::record::Record;
 use crate::record::Slot;
-use crate::record::SlotKind;
-use crate::refusal::Refusal;
-use crate::refusal::Verdict;
+use rows::refusal::Refusal;
+use rows::refusal::Verdict;
+use rows::slot::SlotKind;
 
 impl Body {
     fn is_known(self) -> bool
@@ -28,18 +26,6 @@ impl Body {
             Body::Nankai(_) => true,
             Body::AshFall(_) => true,
         }
-    }
-}
-
-impl SlotKind {
-    // What slot i lists: past the category's slots, nothing.
-    fn of_slot(self, i: usize) -> SlotKind
-        ensures { λ r. ⌜ r ≡ cond (ltb i (slotCount self)) self SlotKind.Nothing ⌝ }
-    {
-        if i < self.count() {
-            return self;
-        }
-        SlotKind::Nothing
     }
 }
 
@@ -106,17 +92,6 @@ fn is_tidy(r: Record) -> bool
         return has_tidy_text(body, text);
     }
     false
-}
-
-impl Verdict {
-    fn then(self, next: Verdict) -> Verdict
-        ensures { λ r. ⌜ r ≡ self then next ⌝ }
-    {
-        match self {
-            Verdict::Fine => next,
-            Verdict::Refused(_) => self,
-        }
-    }
 }
 
 // What writing answers, by the buffer's length. The spares are not in a record: they are zero.

@@ -1,16 +1,16 @@
 // The sample reports of document 004 in the four categories, of both deliveries, as lines. What an
 // independent program makes of the same values is this program's `stdout`.
 ghost use Prim.Native.Nat.{_≤_};
+use ash_fall::Eruption;
+use hypocenter::Quake;
+use hypocenter::angle::Angle;
 use libc::STDOUT_FILENO;
-use report::record::Angle;
 use report::record::Body;
 use report::record::Common;
-use report::record::Eruption;
 use report::record::Page;
-use report::record::Quake;
 use report::record::Record;
 use report::record::Slot;
-use report::record::Time;
+use rows::time::Time;
 
 // Tables 2-4-2 and 2-5-1: Aso city, Takamori town and Minamiaso village in Kumamoto.
 const ASO: u32 = 4321400;

@@ -1,6 +1,9 @@
 pub mod Law
 pub mod Bits
 pub mod Parity
+pub mod Rows
+pub mod Hypocenter
+pub mod AshFall
 pub mod Report
 pub mod Line
 pub mod Listing

@@ -3,12 +3,6 @@ use Rattle.report.proofs as report
 use Rattle.settled.specs.Settled.{Settled}
 use Rattle.settled.proofs.Law.{answer, both, second}
 
-pub Depth-of-is-settled : Settled report.meaning.Depth.of.ended report.meaning.Depth.of.Reads.Post
-Depth-of-is-settled κs a x y = answer
-
-pub Magnitude-of-is-settled : Settled report.meaning.Magnitude.of.ended report.meaning.Magnitude.of.Reads.Post
-Magnitude-of-is-settled κs a x y = answer
-
 pub Prefecture-of-is-settled : Settled report.meaning.Prefecture.of.ended report.meaning.Prefecture.of.Reads.Post
 Prefecture-of-is-settled κs a x y = answer
 
@@ -23,9 +17,6 @@ Record-slots-used-is-settled κs a x y = answer
 
 pub record-of-zeros-is-settled : Settled report.decode.record_of_zeros.ended report.decode.record_of_zeros.Reads.Post
 record-of-zeros-is-settled κs a x y = answer
-
-pub Verdict-unless-is-settled : Settled report.refusal.Verdict.unless.ended report.refusal.Verdict.unless.Reads.Post
-Verdict-unless-is-settled κs a x y = answer
 
 pub check-is-settled : Settled report.check.check.ended report.check.check.Reads.Post
 check-is-settled κs a x y = answer

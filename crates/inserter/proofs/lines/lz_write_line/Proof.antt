@@ -1,6 +1,6 @@
 -- `inserter::lines::lz_write_line` meets its contract. Assumes nothing.
-use Rattle.report.specs.declared.refusal.Verdict.{Verdict}
-use Rattle.report.specs.Refusals.{answers}
+use Rattle.rows.specs.declared.refusal.Verdict.{Verdict}
+use Rattle.rows.specs.Refusals.{answers}
 use mathlib.Core.Path.{_∙_, ap}
 use Rattle.inserter.specs.Answers.{left, word}
 use borrow.Author.Needs.{needs}

@@ -3,7 +3,7 @@ use mathlib.Core.Path.{sym, ap, _∙_}
 use Prim.Native.Nat.{_≤_}
 use native.Mathlib.Omega.{arith}
 use borrow.Author.Tests.{ne-eqb}
-use Rattle.report.specs.declared.refusal.Verdict.{Verdict}
+use Rattle.rows.specs.declared.refusal.Verdict.{Verdict}
 use Rattle.inserter.specs.Answers.{lengthOr, textInto}
 use Rattle.inserter.proofs.StoreDoors.{text-left, text-is-small}
 use borrow.Author.Needs.{needs}

@@ -5,9 +5,9 @@ use Prim.Native.Nat.{ℕ, _+_, _-_, _*_, _≤_}
 use native.Mathlib.Omega.{arith}
 use lib.ListN.{length, replicate, length-set}
 use Rattle.bulletin.specs.declared.page.Page.{Page}
-use Rattle.report.specs.Records.{each}
+use Rattle.rows.specs.Values.{each}
 use Rattle.bulletin.specs.Pages.{absentPage}
-use Rattle.report.proofs.Filling.{fill, filled}
+use Rattle.rows.proofs.Filling.{fill, filled}
 use Rattle.packed.specs.Shelves.{pageAt}
 use Rattle.packed.proofs.store_from_bytes.pages_of.Statement.{statement}
 use Rattle.packed.proofs.store_from_bytes.pages_of.Tie as tie

@@ -1,10 +1,9 @@
 -- `report::check::check` meets its contract. Assumes nothing.
 use Rattle.bits.specs.Frame.{Bytes}
-use Rattle.report.proofs.Outcomes.{then-assoc, fine-then}
+use Rattle.rows.proofs.Outcomes.{then-assoc, fine-then}
 use Rattle.report.specs.Records.{values}
-use Rattle.report.specs.Verdict.{verdict}
-use borrow.Author.Needs.{elem-fits-field, length-unmapped}
-use borrow.Author.Needs.{needs}
+use Rattle.rows.specs.Verdict.{verdict}
+use borrow.Author.Needs.{elem-fits-field, length-unmapped, needs}
 use lib.ListN.{length}
 use mathlib.Core.Path.{_≡_}
 use mir.Syntax.{w8}
@@ -36,10 +35,10 @@ returns c =
     let b : Bytes text = λ i. elem-fits-field w8 w8 text _ i (good .1 .1) tt .fits in
     simp (
       c .last .ensures,
-      c .before .slots2 .ensures,
+      c .before .slots .ensures,
       c .before .before .slot-kind .ensures,
       c .before .before .before .body .ensures text b l,
-      c .before .before .before .before .common2 .ensures,
+      c .before .before .before .before .common .ensures,
       then-assoc,
       fine-then,
     )

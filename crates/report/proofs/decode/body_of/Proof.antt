@@ -10,25 +10,25 @@ use Rattle.report.proofs.decode.body_of.Tie as tie
 field8-requires : tie.Need-field8-requires
 field8-requires c κs = search needs
 
-quake-of-requires : tie.Need-quake-of-requires
-quake-of-requires c κs = search needs
+of-requires : tie.Need-of-requires
+of-requires c κs = search needs
 
-time-at-requires : tie.Need-time-at-requires
-time-at-requires c κs = search needs
+at-requires : tie.Need-at-requires
+at-requires c κs = search needs
 
 page-of-requires : tie.Need-page-of-requires
 page-of-requires c κs = search needs
 
-eruption-of-requires : tie.Need-eruption-of-requires
-eruption-of-requires c κs = search needs
+of-requires-2 : tie.Need-of-requires-2
+of-requires-2 c κs = search needs
 
 returns : tie.Need-returns
 unfolding bodyBy
-returns c = ap Hypocenter (c .quake-of .ensures) ∙ sym (ap (bodyBy (c .before .before .before .args .f)) (sym (c .before .before .field8 .ensures .0) ∙ c .before .match .keys1))
+returns c = ap Hypocenter (c .of .ensures) ∙ sym (ap (bodyBy (c .before .before .before .args .f)) (sym (c .before .before .field8 .ensures .0) ∙ c .before .match .keys1))
 
 returns-2 : tie.Need-returns-2
 unfolding bodyBy
-returns-2 c = ap Intensity (c .time-at .ensures) ∙ sym (ap (bodyBy (c .before .before .before .args .f)) (sym (c .before .before .field8 .ensures .0) ∙ c .before .match .keys2))
+returns-2 c = ap Intensity (c .at .ensures) ∙ sym (ap (bodyBy (c .before .before .before .args .f)) (sym (c .before .before .field8 .ensures .0) ∙ c .before .match .keys2))
 
 returns-3 : tie.Need-returns-3
 unfolding bodyBy
@@ -36,7 +36,7 @@ returns-3 c = ap Nankai (c .page-of .ensures) ∙ sym (ap (bodyBy (c .before .be
 
 returns-4 : tie.Need-returns-4
 unfolding bodyBy
-returns-4 c = ap AshFall (c .eruption-of .ensures) ∙ sym (ap (bodyBy (c .before .before .before .args .f)) (sym (c .before .before .field8 .ensures .0) ∙ c .before .match .keys4))
+returns-4 c = ap AshFall (c .of2 .ensures) ∙ sym (ap (bodyBy (c .before .before .before .args .f)) (sym (c .before .before .field8 .ensures .0) ∙ c .before .match .keys4))
 
 returns-5 : tie.Need-returns-5
 unfolding bodyBy
@@ -55,10 +55,10 @@ body-of-spec =
     tie.close
     (tie.spec
     field8-requires
-    quake-of-requires
-    time-at-requires
+    of-requires
+    at-requires
     page-of-requires
-    eruption-of-requires
+    of-requires-2
     returns
     returns-2
     returns-3

@@ -3,8 +3,8 @@ use Prim.Native.Nat.{ℕ, _+_, _-_, _*_, _≤_}
 use borrow.Author.Needs.{needs}
 use Rattle.bits.specs.Frame.{fieldOf}
 use Rattle.bits.proofs.Inside.{field-in}
-use Rattle.report.proofs.Filling.{fill, filled}
-use Rattle.report.specs.Records.{each}
+use Rattle.rows.proofs.Filling.{fill, filled}
+use Rattle.rows.specs.Values.{each}
 use lib.ListN.{length, replicate, length-set}
 use mathlib.Core.List.{List, _++_}
 use mathlib.Core.Path.{_≡_, refl, ap, _∙_}

@@ -1,12 +1,13 @@
 -- `report::decode::slots_of` meets its contract: the slots passed are the frame's, the others empty. Assumes nothing.
 use Prim.Native.Nat.{ℕ, _+_, _-_, _*_, _≤_, _<_}
 use borrow.Author.Needs.{needs}
-use Rattle.report.proofs.Filling.{fill}
+use Rattle.rows.proofs.Filling.{fill}
 use Rattle.report.proofs.SlotTurns.{at-most-sixteen, slot-place, start-place, more-place}
-use Rattle.report.specs.Layout.{slotCount, slotFirst, slotBits}
-use Rattle.report.specs.Records.{each, noSlot, slotOf, slotsOf}
+use Rattle.rows.specs.Layout.{slotCount, slotFirst, slotBits}
+use Rattle.rows.specs.Values.{each}
+use Rattle.report.specs.Records.{noSlot, slotOf, slotsOf}
 use Rattle.report.specs.declared.record.Slot.{Slot}
-use Rattle.report.specs.declared.record.SlotKind.{SlotKind}
+use Rattle.rows.specs.declared.slot.SlotKind.{SlotKind}
 use lib.ListN.{length, replicate, length-set}
 use mathlib.Core.List.{List, _++_}
 use mathlib.Core.Path.{_≡_, refl, ap, _∙_}

@@ -7,7 +7,6 @@ use Rattle.report.proofs.Used.{unmapped}
 use Rattle.report.specs.Layout.{layout}
 use Rattle.report.specs.Writing.{frontWidths, frontValues}
 use borrow.Author.Needs.{needs, length-unmapped}
-use borrow.Author.Needs.{needs}
 use mathlib.Core.List.{List}
 use mathlib.Core.Path.{ap, _∙_}
 use Rattle.report.proofs.encode.encode.Statement.{statement}

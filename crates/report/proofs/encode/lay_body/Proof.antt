@@ -11,14 +11,14 @@ enum-told c = search needs
 enum-known-b : tie.Need-enum-known-b
 enum-known-b c = search needs
 
-lay-quake-requires : tie.Need-lay-quake-requires
-lay-quake-requires c κs = search needs
+lay-requires : tie.Need-lay-requires
+lay-requires c κs = search needs
 
 enum-known-b-2 : tie.Need-enum-known-b-2
 enum-known-b-2 c = search needs
 
-lay-time-requires : tie.Need-lay-time-requires
-lay-time-requires c κs = search needs
+lay-requires-2 : tie.Need-lay-requires-2
+lay-requires-2 c κs = search needs
 
 enum-known-b-3 : tie.Need-enum-known-b-3
 enum-known-b-3 c = search needs
@@ -29,8 +29,8 @@ lay-page-requires c κs = search needs
 enum-known-b-4 : tie.Need-enum-known-b-4
 enum-known-b-4 c = search needs
 
-lay-eruption-requires : tie.Need-lay-eruption-requires
-lay-eruption-requires c κs = search needs
+lay-requires-3 : tie.Need-lay-requires-3
+lay-requires-3 c κs = search needs
 
 returns : tie.Need-returns
 unfolding layout bodyValues
@@ -38,11 +38,11 @@ returns c = simp (c .enum-told .given .1)
 
 returns-2 : tie.Need-returns-2
 unfolding layout bodyValues
-returns-2 c = simp (c .before .before .b .given .1, c .lay-quake .ensures)
+returns-2 c = simp (c .before .before .b .given .1, c .lay .ensures)
 
 returns-3 : tie.Need-returns-3
 unfolding layout bodyValues
-returns-3 c = simp (c .before .before .b2 .given .1, c .lay-time .ensures)
+returns-3 c = simp (c .before .before .b2 .given .1, c .lay2 .ensures)
 
 returns-4 : tie.Need-returns-4
 unfolding layout bodyValues
@@ -50,7 +50,7 @@ returns-4 c = simp (c .before .before .b3 .given .1, c .lay-page .ensures)
 
 returns-5 : tie.Need-returns-5
 unfolding layout bodyValues
-returns-5 c = simp (c .before .before .b4 .given .1, c .lay-eruption .ensures)
+returns-5 c = simp (c .before .before .b4 .given .1, c .lay3 .ensures)
 
 pub lay-body-spec : {M : Type 1} → statement M
 lay-body-spec =
@@ -58,13 +58,13 @@ lay-body-spec =
     (tie.spec
     enum-told
     enum-known-b
-    lay-quake-requires
+    lay-requires
     enum-known-b-2
-    lay-time-requires
+    lay-requires-2
     enum-known-b-3
     lay-page-requires
     enum-known-b-4
-    lay-eruption-requires
+    lay-requires-3
     returns
     returns-2
     returns-3

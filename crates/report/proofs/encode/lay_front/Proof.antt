@@ -3,12 +3,11 @@ use Rattle.bits.specs.Frame.{laid}
 use Rattle.report.proofs.Encoding.{all-laid}
 use Rattle.report.proofs.Shapes.{Shaped}
 use Rattle.report.proofs.Used.{unmapped}
-use Rattle.report.specs.Layout.{slotsRows, slotCount, slotFirst}
+use Rattle.rows.specs.Layout.{slotsRows, slotCount, slotFirst}
 use Rattle.report.specs.Records.{slotValues}
-use Rattle.report.specs.Writing.{widths, joined}
-use Rattle.report.specs.declared.record.SlotKind.{SlotKind}
+use Rattle.rows.specs.Values.{widths, joined}
+use Rattle.rows.specs.declared.slot.SlotKind.{SlotKind}
 use borrow.Author.Needs.{needs, length-unmapped}
-use borrow.Author.Needs.{needs}
 use lib.ListN.{take}
 use mathlib.Core.List.{map}
 use mathlib.Core.Path.{ap, _∙_}

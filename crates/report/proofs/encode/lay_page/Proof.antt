@@ -4,8 +4,7 @@ use Rattle.bits.specs.Frame.{placed, laid}
 use Rattle.report.proofs.Laying.{page-laid}
 use Rattle.report.specs.Records.{bodyValues}
 use borrow.Author.Needs.{needs}
-use lib.ListN.{length}
-use lib.ListN.{replicate}
+use lib.ListN.{length, replicate}
 use mathlib.Core.List.{List}
 use mathlib.Core.Path.{_≡_, ap, _∙_}
 use Rattle.report.proofs.encode.lay_page.Statement.{statement}

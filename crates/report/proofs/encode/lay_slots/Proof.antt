@@ -3,10 +3,10 @@ use Prim.Native.Nat.{ℕ, _+_, _-_, _*_, _≤_, _<_}
 use Rattle.bits.specs.Frame.{laid}
 use Rattle.report.proofs.Laying.{runs, slots-widths, slot-more}
 use Rattle.report.proofs.SlotTurns.{at-most-sixteen, slot-place, start-place, more-place}
-use Rattle.report.specs.Layout.{slotCount, slotFirst, slotBits, slotRows}
+use Rattle.rows.specs.Layout.{slotCount, slotFirst, slotBits, slotRows}
 use Rattle.report.specs.Records.{noSlot, slotValues}
-use Rattle.report.specs.Writing.{widths, joined}
-use Rattle.report.specs.declared.record.SlotKind.{SlotKind}
+use Rattle.rows.specs.Values.{widths, joined}
+use Rattle.rows.specs.declared.slot.SlotKind.{SlotKind}
 use borrow.Author.Needs.{needs}
 use lib.ListN.{length, getD, take}
 use mathlib.Core.List.{List, map}

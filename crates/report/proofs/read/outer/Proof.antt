@@ -2,10 +2,10 @@
 use mathlib.Core.Path.{ap, _∙_}
 use Prim.Native.Nat.{ℕ}
 use lib.Dec.{eqb}
-use Rattle.report.specs.Verdict.{allowed}
+use Rattle.rows.specs.Verdict.{allowed}
 use Rattle.report.specs.Reading.{preambles, categories, outerOf}
-use Rattle.report.proofs.Outcomes.{fine-then}
-use Rattle.report.proofs.Walks.{asked, link}
+use Rattle.rows.proofs.Outcomes.{fine-then}
+use Rattle.rows.proofs.Walks.{asked, link}
 use borrow.Author.Needs.{needs}
 use Rattle.report.proofs.read.outer.Statement.{statement}
 use Rattle.report.proofs.read.outer.Tie as tie

@@ -1,9 +1,9 @@
 -- `report::write::answer` meets its contract. Assumes nothing.
-use Rattle.report.proofs.Outcomes.{fine-then}
-use Rattle.report.proofs.Walks.{asked, link}
-use Rattle.report.specs.Refusals.{_then_}
+use Rattle.rows.proofs.Outcomes.{fine-then}
+use Rattle.rows.proofs.Walks.{asked, link}
+use Rattle.rows.specs.Refusals.{_then_}
 use Rattle.report.specs.Writing.{writeAnswer}
-use Rattle.report.specs.declared.refusal.Verdict.{Verdict}
+use Rattle.rows.specs.declared.refusal.Verdict.{Verdict}
 use borrow.Author.Needs.{needs}
 use mathlib.Core.Path.{ap, _∙_}
 use Rattle.report.proofs.write.answer.Statement.{statement}

@@ -1,12 +1,12 @@
 -- `report::write::are_tidy` meets its contract: what is left decides. Assumes nothing.
 use Prim.Native.Nat.{ℕ, _-_, _≤_}
 use Rattle.report.proofs.TidyTurns.{rest, tidy-so-far, not-tidy, all-tidy}
-use Rattle.report.specs.declared.record.SlotKind.the-variants.{Nothing}
-use Rattle.report.specs.Layout.{slotCount}
+use Rattle.rows.specs.declared.slot.SlotKind.the-variants.{Nothing}
+use Rattle.rows.specs.Layout.{slotCount}
 use Rattle.report.specs.Records.{noSlot}
-use Rattle.report.specs.Verdict.{empty}
+use Rattle.rows.specs.Verdict.{empty}
 use Rattle.report.specs.Writing.{unused, tidySlots}
-use Rattle.report.specs.declared.record.SlotKind.{SlotKind}
+use Rattle.rows.specs.declared.slot.SlotKind.{SlotKind}
 use borrow.Author.Needs.{needs}
 use borrow.Author.Tests.{not-true, not-false}
 use lib.ListN.{length, getD}

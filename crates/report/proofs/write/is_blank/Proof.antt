@@ -1,7 +1,7 @@
 -- `report::write::is_blank` meets its contract: what is left decides. Assumes nothing.
 use Prim.Native.Nat.{_-_, _≤_}
 use Rattle.report.proofs.TidyTurns.{blank-so-far, not-blank, all-blank}
-use Rattle.report.specs.Verdict.{empty}
+use Rattle.rows.specs.Verdict.{empty}
 use lib.ListN.{length, drop}
 use mathlib.Core.Path.{_≡_, refl, sym, _∙_}
 use native.Mathlib.Omega.{arith}

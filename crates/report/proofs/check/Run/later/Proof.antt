@@ -1,5 +1,5 @@
 -- `report::check::Run::later` meets its contract. Assumes nothing.
-use Rattle.report.proofs.Outcomes.{then-assoc}
+use Rattle.rows.proofs.Outcomes.{then-assoc}
 use Rattle.report.specs.Slots.{laterRun}
 use borrow.Author.Needs.{needs}
 use mathlib.Core.Path.{sym, _∙_}

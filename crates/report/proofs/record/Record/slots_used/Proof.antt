@@ -2,7 +2,7 @@
 use Prim.Native.Nat.{_+_, _-_, _≤_, _<_}
 use Rattle.report.proofs.SlotTurns.{at-most-sixteen}
 use Rattle.report.proofs.Used.{unmapped, used-more, used-end, used-all, of-record}
-use Rattle.report.specs.Layout.{slotCount}
+use Rattle.rows.specs.Layout.{slotCount}
 use Rattle.report.specs.Records.{slotValues}
 use Rattle.report.specs.Meaning.{usedAmong}
 use borrow.Author.Needs.{needs}

@@ -1,6 +1,6 @@
 -- `report::record::Slot::empty` meets its contract. Assumes nothing.
-use Rattle.report.proofs.Outcomes.{and-true}
-use Rattle.report.specs.Verdict.{empty}
+use Rattle.rows.proofs.Outcomes.{and-true}
+use Rattle.rows.specs.Verdict.{empty}
 use borrow.Author.Needs.{needs}
 use borrow.Author.Tests.{eq-eqb, ne-eqb}
 use Rattle.report.proofs.record.Slot.empty.Statement.{statement}

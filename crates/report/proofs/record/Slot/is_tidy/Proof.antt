@@ -1,6 +1,6 @@
 -- `report::record::Slot::is_tidy` meets its contract. Assumes nothing.
-use Rattle.report.proofs.Outcomes.{and-true}
-use Rattle.report.specs.Verdict.{empty}
+use Rattle.rows.proofs.Outcomes.{and-true}
+use Rattle.rows.specs.Verdict.{empty}
 use borrow.Author.Needs.{needs}
 use Rattle.report.proofs.record.Slot.is_tidy.Statement.{statement}
 use Rattle.report.proofs.record.Slot.is_tidy.Tie as tie

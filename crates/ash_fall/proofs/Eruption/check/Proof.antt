@@ -1,0 +1,38 @@
+-- `ash_fall::Eruption::check` meets its contract. Assumes nothing.
+use Rattle.rows.proofs.Outcomes.{then-assoc, then-fine}
+use Rattle.rows.proofs.Spans.{allowed-one}
+use Rattle.rows.specs.Verdict.{walk, judge}
+use borrow.Author.Needs.{needs}
+use Rattle.ash_fall.proofs.Eruption.check.Statement.{statement}
+use Rattle.ash_fall.proofs.Eruption.check.Tie as tie
+
+time-requires : tie.Need-time-requires
+time-requires c κs = search needs
+
+cast-within : tie.Need-cast-within
+cast-within c = search needs
+
+within-requires : tie.Need-within-requires
+within-requires c κs = search needs
+
+cast-within-2 : tie.Need-cast-within-2
+cast-within-2 c = search needs
+
+within-requires-2 : tie.Need-within-requires-2
+within-requires-2 c κs = search needs
+
+returns : tie.Need-returns
+unfolding walk judge
+returns c = simp (
+  c .within2 .ensures,
+  c .before .before .within .ensures,
+  c .before .before .before .before .time2 .ensures,
+  then-assoc,
+  then-fine,
+  allowed-one,
+)
+
+pub check-spec : {M : Type 1} → statement M
+check-spec =
+    tie.close
+    (tie.spec time-requires cast-within within-requires cast-within-2 within-requires-2 returns)

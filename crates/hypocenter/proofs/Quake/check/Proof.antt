@@ -1,0 +1,88 @@
+-- `hypocenter::Quake::check` meets its contract. Assumes nothing.
+use mathlib.Core.Path.{sym, ap, _∙_}
+use Rattle.rows.specs.declared.refusal.Verdict.{Verdict}
+use Rattle.rows.specs.Refusals.{_then_}
+use Rattle.hypocenter.proofs.Walks.{quake-walk}
+use Rattle.rows.proofs.Walks.{asked, link}
+use borrow.Author.Needs.{needs}
+use Rattle.hypocenter.proofs.Quake.check.Statement.{statement}
+use Rattle.hypocenter.proofs.Quake.check.Tie as tie
+
+is-notification-requires : tie.Need-is-notification-requires
+is-notification-requires c κs = search needs
+
+unless-requires : tie.Need-unless-requires
+unless-requires c κs = search needs
+
+is-notification-requires-2 : tie.Need-is-notification-requires-2
+is-notification-requires-2 c κs = search needs
+
+unless-requires-2 : tie.Need-unless-requires-2
+unless-requires-2 c κs = search needs
+
+is-notification-requires-3 : tie.Need-is-notification-requires-3
+is-notification-requires-3 c κs = search needs
+
+unless-requires-3 : tie.Need-unless-requires-3
+unless-requires-3 c κs = search needs
+
+time-requires : tie.Need-time-requires
+time-requires c κs = search needs
+
+is-depth-requires : tie.Need-is-depth-requires
+is-depth-requires c κs = search needs
+
+unless-requires-4 : tie.Need-unless-requires-4
+unless-requires-4 c κs = search needs
+
+is-magnitude-requires : tie.Need-is-magnitude-requires
+is-magnitude-requires c κs = search needs
+
+unless-requires-5 : tie.Need-unless-requires-5
+unless-requires-5 c κs = search needs
+
+cast-within : tie.Need-cast-within
+cast-within c = search needs
+
+within-requires : tie.Need-within-requires
+within-requires c κs = search needs
+
+check-requires : tie.Need-check-requires
+check-requires c κs = search needs
+
+check-requires-2 : tie.Need-check-requires-2
+check-requires-2 c κs = search needs
+
+returns : tie.Need-returns
+returns c =
+    link _ _ _ _ _ (asked _ _ _ _ _ (c .before .before .before .before .before .before .before .before .before .before .before .before .before .unless .ensures) (c .before .before .before .before .before .before .before .before .before .before .before .before .before .before .is-notification .ensures))
+    (link _ _ _ _ _ (asked _ _ _ _ _ (c .before .before .before .before .before .before .before .before .before .before .before .unless2 .ensures) (c .before .before .before .before .before .before .before .before .before .before .before .before .is-notification2 .ensures))
+    (link _ _ _ _ _ (asked _ _ _ _ _ (c .before .before .before .before .before .before .before .before .before .unless3 .ensures) (c .before .before .before .before .before .before .before .before .before .before .is-notification3 .ensures))
+    (link _ _ _ _ _ (c .before .before .before .before .before .before .before .before .time2 .ensures)
+    (link _ _ _ _ _ (asked _ _ _ _ _ (c .before .before .before .before .before .before .unless4 .ensures) (c .before .before .before .before .before .before .before .is-depth .ensures))
+    (link _ _ _ _ _ (asked _ _ _ _ _ (c .before .before .before .before .unless5 .ensures) (c .before .before .before .before .before .is-magnitude .ensures))
+    (link _ _ _ _ _ (c .before .before .within .ensures)
+    (link _ _ _ _ _ (c .before .check .ensures)
+    (c .check2 .ensures))))))))
+    ∙ sym (ap (λ (v : Verdict). c .before .before .before .before .before .before .before .before .before .before .before .before .before .before .before .before .before .before .args .found then v) (quake-walk (c .before .before .before .before .before .before .before .before .before .before .before .before .before .before .before .before .before .before .args .self)))
+
+pub check-spec : {M : Type 1} → statement M
+check-spec =
+    tie.close
+    (tie.spec
+    is-notification-requires
+    unless-requires
+    is-notification-requires-2
+    unless-requires-2
+    is-notification-requires-3
+    unless-requires-3
+    time-requires
+    is-depth-requires
+    unless-requires-4
+    is-magnitude-requires
+    unless-requires-5
+    cast-within
+    within-requires
+    check-requires
+    check-requires-2
+    returns)

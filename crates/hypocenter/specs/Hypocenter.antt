@@ -1,0 +1,89 @@
+-- Category 2, hypocenter: table 4.1.2-12 of document 001, what its record holds and what its numbers say.
+use Prim.Native.Nat.{ℕ, _+_}
+use mathlib.Core.Bool.{_&&_, cond}
+use mathlib.Core.List.{List, [], _∷_, _++_}
+use lib.Dec.{eqb, leb}
+use Rattle.rows.specs.declared.slot.SlotKind.the-variants.{Nothing as NoSlots}
+use Rattle.bits.specs.Frame.{fieldOf}
+use Rattle.hypocenter.specs.declared.angle.Angle.{Angle}
+use Rattle.hypocenter.specs.declared.Quake.{Quake}
+use Rattle.rows.specs.Layout.{_to_, time, within, among, uncorrected, row, Rule, Row, Layout}
+use Rattle.hypocenter.specs.declared.meaning.Depth.{Depth}
+use Rattle.hypocenter.specs.declared.meaning.Depth.the-variants.{Kilometres, Deeper, Unknown, OutOfRange}
+use Rattle.hypocenter.specs.declared.meaning.Magnitude.{Magnitude}
+use Rattle.hypocenter.specs.declared.meaning.Magnitude.the-variants.{InRange, UnknownAboveEight, Unknown as NoMagnitude, OutOfRange as NotAMagnitude}
+use Rattle.rows.specs.Values.{timeValues, timeOf}
+
+abbrev pub notification : Rule
+notification = among (0 to 0 ∷ 101 to 500 ∷ [])
+
+abbrev pub depth : Rule
+depth = among (0 to 501 ∷ 511 to 511 ∷ [])
+
+abbrev pub magnitude : Rule
+magnitude = among (1 to 101 ∷ 126 to 126 ∷ 127 to 127 ∷ [])
+
+-- side, degrees (so many bits, at most so many), minutes, seconds
+abbrev pub angle : ℕ → ℕ → ℕ → List Row
+angle a w most =
+    row a 1 (within 0 1) ∷ row (a + 1) w (within 0 most) ∷ row (a + 1 + w) 6 (within 0 59) ∷ row (a + 7 + w) 6 (within 0 59) ∷ []
+
+abbrev pub hypocenter : Layout
+hypocenter = record {
+  code = 2;
+  types = uncorrected;
+  body =
+      row 53 9 notification
+      ∷ row 62 9 notification
+      ∷ row 71 9 notification
+      ∷ time 80
+      ++ row 96 9 depth
+      ∷ row 105 7 magnitude
+      ∷ row 112 10 (within 11 1000)  -- epicenter
+      ∷ angle 122 7 89  -- latitude
+      ++ angle 142 8 179;  -- longitude
+  slots = NoSlots;
+  spareFirst = 163;
+  spareWidth = 51;
+}
+
+-- an angle whose degrees have w bits
+abbrev pub angleOf : List ℕ → ℕ → ℕ → Angle
+angleOf s a w = record { side = fieldOf s a 1; degrees = fieldOf s (a + 1) w; minutes = fieldOf s (a + 1 + w) 6; seconds = fieldOf s (a + 7 + w) 6 }
+
+abbrev pub quakeOf : List ℕ → Quake
+quakeOf s = record {
+  notification1 = fieldOf s 53 9;
+  notification2 = fieldOf s 62 9;
+  notification3 = fieldOf s 71 9;
+  time = timeOf s 80;
+  depth = fieldOf s 96 9;
+  magnitude = fieldOf s 105 7;
+  epicenter = fieldOf s 112 10;
+  latitude = angleOf s 122 7;
+  longitude = angleOf s 142 8;
+}
+
+abbrev pub angleValues : Angle → List ℕ
+angleValues a = a .side ∷ a .degrees ∷ a .minutes ∷ a .seconds ∷ []
+
+abbrev pub quakeValues : Quake → List ℕ
+quakeValues q =
+    q .notification1
+    ∷ q .notification2
+    ∷ q .notification3
+    ∷ timeValues (q .time)
+    ++ q .depth
+    ∷ q .magnitude
+    ∷ q .epicenter
+    ∷ angleValues (q .latitude)
+    ++ angleValues (q .longitude)
+
+-- "Depth 0 is a depth; 511 is unknown and 501 means deeper than 500 km"
+unfoldable pub depthOf : ℕ → Depth
+depthOf code = cond (leb code 500) (Kilometres code) (cond (eqb code 501) Deeper (cond (eqb code 511) Unknown OutOfRange))
+
+-- "Magnitude 127 is unknown, 126 is above 8.0 where no moment magnitude is known"
+unfoldable pub magnitudeOf : ℕ → Magnitude
+magnitudeOf code =
+    cond (leb 1 code && leb code 101) (InRange code) (cond (eqb code 126) UnknownAboveEight (cond (eqb code 127) NoMagnitude NotAMagnitude))

@@ -1,0 +1,74 @@
+-- `report::check::body` meets its contract. Assumes nothing.
+use Rattle.rows.proofs.Outcomes.{then-fine}
+use Rattle.report.specs.Layout.{layout}
+use Rattle.report.specs.Records.{bodyValues}
+use Rattle.rows.specs.Verdict.{walk}
+use borrow.Author.Needs.{needs}
+use Rattle.report.proofs.check.body.Statement.{statement}
+use Rattle.report.proofs.check.body.Tie as tie
+
+enum-told : tie.Need-enum-told
+enum-told c = search needs
+
+enum-known-b : tie.Need-enum-known-b
+enum-known-b c = search needs
+
+check-requires : tie.Need-check-requires
+check-requires c κs = search needs
+
+enum-known-b-2 : tie.Need-enum-known-b-2
+enum-known-b-2 c = search needs
+
+time-requires : tie.Need-time-requires
+time-requires c κs = search needs
+
+enum-known-b-3 : tie.Need-enum-known-b-3
+enum-known-b-3 c = search needs
+
+page-requires : tie.Need-page-requires
+page-requires c κs = search needs
+
+enum-known-b-4 : tie.Need-enum-known-b-4
+enum-known-b-4 c = search needs
+
+check-requires-2 : tie.Need-check-requires-2
+check-requires-2 c κs = search needs
+
+returns : tie.Need-returns
+unfolding layout bodyValues walk
+returns c = λ text b l. simp (c .enum-told .given .1, then-fine)
+
+returns-2 : tie.Need-returns-2
+unfolding layout bodyValues
+returns-2 c = λ text b l. simp (c .before .before .b .given .1, c .check .ensures)
+
+returns-3 : tie.Need-returns-3
+unfolding layout bodyValues
+returns-3 c = λ text b l. simp (c .before .before .b2 .given .1, c .time .ensures)
+
+returns-4 : tie.Need-returns-4
+unfolding layout bodyValues
+returns-4 c = λ text b l. simp (c .before .before .b3 .given .1, c .page .ensures text b l)
+
+returns-5 : tie.Need-returns-5
+unfolding layout bodyValues
+returns-5 c = λ text b l. simp (c .before .before .b4 .given .1, c .check2 .ensures)
+
+pub body-spec : {M : Type 1} → statement M
+body-spec =
+    tie.close
+    (tie.spec
+    enum-told
+    enum-known-b
+    check-requires
+    enum-known-b-2
+    time-requires
+    enum-known-b-3
+    page-requires
+    enum-known-b-4
+    check-requires-2
+    returns
+    returns-2
+    returns-3
+    returns-4
+    returns-5)

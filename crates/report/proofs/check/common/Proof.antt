@@ -1,0 +1,80 @@
+-- `report::check::common` meets its contract. Assumes nothing.
+use mathlib.Core.Path.{sym, ap, _∙_}
+use Rattle.rows.specs.declared.refusal.Verdict.{Verdict}
+use Rattle.report.specs.Layout.{layout}
+use Rattle.rows.specs.Refusals.{_then_}
+use Rattle.report.proofs.Walks.{common-walk}
+use Rattle.rows.proofs.Walks.{asked, link}
+use borrow.Author.Needs.{needs}
+use Rattle.report.proofs.check.common.Statement.{statement}
+use Rattle.report.proofs.check.common.Tie as tie
+
+is-classification-requires : tie.Need-is-classification-requires
+is-classification-requires c κs = search needs
+
+unless-requires : tie.Need-unless-requires
+unless-requires c κs = search needs
+
+cast-within : tie.Need-cast-within
+cast-within c = search needs
+
+within-requires : tie.Need-within-requires
+within-requires c κs = search needs
+
+cast-within-2 : tie.Need-cast-within-2
+cast-within-2 c = search needs
+
+within-requires-2 : tie.Need-within-requires-2
+within-requires-2 c κs = search needs
+
+cast-within-3 : tie.Need-cast-within-3
+cast-within-3 c = search needs
+
+within-requires-3 : tie.Need-within-requires-3
+within-requires-3 c κs = search needs
+
+cast-within-4 : tie.Need-cast-within-4
+cast-within-4 c = search needs
+
+within-requires-4 : tie.Need-within-requires-4
+within-requires-4 c κs = search needs
+
+has-type-requires : tie.Need-has-type-requires
+has-type-requires c κs = search needs
+
+unless-requires-2 : tie.Need-unless-requires-2
+unless-requires-2 c κs = search needs
+
+spare-requires : tie.Need-spare-requires
+spare-requires c κs = search needs
+
+returns : tie.Need-returns
+returns c =
+    let a = c .before .before .before .before .before .before .before .before .before .before .before .before .before .args in
+    link _ _ _ _ _ (asked _ _ _ _ _ (c .before .before .before .before .before .before .before .before .before .before .before .unless .ensures) (c .before .before .before .before .before .before .before .before .before .before .before .before .is-classification .ensures))
+    (link _ _ _ _ _ (c .before .before .before .before .before .before .before .before .before .within .ensures)
+    (link _ _ _ _ _ (c .before .before .before .before .before .before .before .within2 .ensures)
+    (link _ _ _ _ _ (c .before .before .before .before .before .within3 .ensures)
+    (link _ _ _ _ _ (c .before .before .before .within4 .ensures)
+    (link _ _ _ _ _ (asked _ _ _ _ _ (c .before .unless2 .ensures) (c .before .before .has-type .ensures))
+    (c .spare .ensures))))))
+    ∙ sym (ap (λ (v : Verdict). a .found then v) (common-walk (layout (a .b)) (a .c) (a .spare)))
+
+pub common-spec : {M : Type 1} → statement M
+common-spec =
+    tie.close
+    (tie.spec
+    is-classification-requires
+    unless-requires
+    cast-within
+    within-requires
+    cast-within-2
+    within-requires-2
+    cast-within-3
+    within-requires-3
+    cast-within-4
+    within-requires-4
+    has-type-requires
+    unless-requires-2
+    spare-requires
+    returns)

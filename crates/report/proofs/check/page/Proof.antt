@@ -1,0 +1,43 @@
+-- `report::check::page` meets its contract. Assumes nothing.
+use Rattle.rows.proofs.Outcomes.{then-assoc}
+use Rattle.report.proofs.Walks.{page-walk}
+use borrow.Author.Needs.{needs}
+use Rattle.report.proofs.check.page.Statement.{statement}
+use Rattle.report.proofs.check.page.Tie as tie
+
+cast-within : tie.Need-cast-within
+cast-within c = search needs
+
+within-requires : tie.Need-within-requires
+within-requires c κs = search needs
+
+cast-within-2 : tie.Need-cast-within-2
+cast-within-2 c = search needs
+
+within-requires-2 : tie.Need-within-requires-2
+within-requires-2 c κs = search needs
+
+cast-within-3 : tie.Need-cast-within-3
+cast-within-3 c = search needs
+
+cast-within-4 : tie.Need-cast-within-4
+cast-within-4 c = search needs
+
+within-requires-3 : tie.Need-within-requires-3
+within-requires-3 c κs = search needs
+
+returns : tie.Need-returns
+returns c = λ text b l. simp (c .within3 .ensures, c .before .before .before .within2 .ensures, c .before .before .before .before .before .within .ensures, then-assoc, page-walk (c .before .before .before .before .before .before .before .args .p) text b l)
+
+pub page-spec : {M : Type 1} → statement M
+page-spec =
+    tie.close
+    (tie.spec
+    cast-within
+    within-requires
+    cast-within-2
+    within-requires-2
+    cast-within-3
+    cast-within-4
+    within-requires-3
+    returns)

@@ -1,0 +1,102 @@
+-- The slots as a stretch of a frame. Assumes nothing.
+use mathlib.Core.Path.{_≡_, refl, sym, ap, _∙_}
+use mathlib.Core.Bool.{Bool, true, false, not}
+use mathlib.Core.Logic.{_⊎_, inl, inr, ⊎-elim}
+use Prim.Native.Nat.{ℕ, zero, suc, _+_}
+use native.Mathlib.Omega.{arith}
+use mathlib.Core.List.{List, [], _∷_}
+use lib.ListN.{length}
+use lib.Dec.{eqb}
+use borrow.Author.Tests.{eqb-true, eq-eqb, not-true}
+use Rattle.rows.specs.declared.refusal.Refusal.the-variants.{Gap}
+use Rattle.rows.specs.declared.slot.SlotKind.{SlotKind}
+use Rattle.rows.specs.declared.slot.SlotKind.the-variants.{Nothing as NoSlots, Prefectures, Places}
+use Rattle.rows.specs.Refusals.{unless}
+use Rattle.rows.specs.Layout.{slotFirst, slotBits, slotRows}
+use Rattle.rows.specs.Verdict.{empty, later, slotsVerdict}
+use Rattle.rows.specs.Kept.{Kept, Empty, AllEmpty, LaterKept, SlotsKept}
+use Rattle.rows.specs.Faults.{LaterFault, SlotsFault}
+use Rattle.rows.proofs.Outcomes.{false-not-true, and-both, both-and}
+use Rattle.rows.proofs.Judged.{Judges, unasked, asked, join, choice, restated, widened}
+use Rattle.rows.proofs.JudgedRows.{Rises, rows}
+
+pub empty-is : (vs : List ℕ) → empty vs ≡ true → Empty vs
+unfolding empty
+empty-is [] e = tt
+empty-is (v ∷ vs) e = let q = and-both (eqb v 0) (empty vs) e in (eqb-true v 0 (q .0), empty-is vs (q .1))
+
+pub is-empty : (vs : List ℕ) → Empty vs → empty vs ≡ true
+unfolding empty
+is-empty [] h = refl
+is-empty (v ∷ vs) h = both-and (eqb v 0) (empty vs) (eq-eqb v 0 (h .0)) (is-empty vs (h .1))
+
+-- ---- where slots end
+
+-- the bit behind n slots that start at the bit a
+abbrev pub behind : SlotKind → ℕ → ℕ → ℕ
+behind k at zero = at
+behind k at (suc n) = behind k (at + slotBits k) n
+
+slot-rises : (k : SlotKind) (at : ℕ) → Rises at (at + slotBits k) (slotRows k at)
+slot-rises NoSlots at = omega arith
+slot-rises Prefectures at = (omega arith, (omega arith, omega arith))
+slot-rises Places at = (omega arith, (omega arith, (omega arith, omega arith)))
+
+-- ---- the gap
+
+-- an empty slot has been seen: then all are empty
+abbrev pub LaterHolds : SlotKind → Bool → ℕ → List (List ℕ) → Type 0
+LaterHolds k true at vs = AllEmpty vs
+LaterHolds k false at vs = LaterKept k at vs
+
+gap-asked : (gap : Bool) (at : ℕ) → Judges at at (unless (not gap) (Gap at)) (gap ≡ false) (λ x. (gap ≡ true) × (x ≡ Gap at))
+gap-asked gap at = restated
+    (asked at at (not gap) (Gap at) (gap ≡ false) (not-true gap) (ap not) (omega arith) (omega arith))
+    (λ g. g)
+    (λ g. g)
+    (λ x b. (open-gap gap (b .0), b .1))
+    (λ x b. (λ g. false-not-true (sym g ∙ b .0), b .1))
+  where
+    open-gap : (gap : Bool) → (gap ≡ false → ⊥) → gap ≡ true
+    open-gap true h = refl
+    open-gap false h = absurd (h refl)
+
+-- what a slot and those behind it must be, by whether it is empty
+abbrev Either : SlotKind → Bool → ℕ → List ℕ → List (List ℕ) → Type 0
+Either k gap at v vs =
+    (Empty v × AllEmpty vs) ⊎ ((Empty v → ⊥) × ((gap ≡ false) × (Kept 0 (slotRows k at) v × LaterHolds k gap (at + slotBits k) vs)))
+
+slot-holds : (k : SlotKind) (gap : Bool) (at : ℕ) (v : List ℕ) (vs : List (List ℕ)) → Either k gap at v vs → LaterHolds k gap at (v ∷ vs)
+slot-holds k true at v vs = ⊎-elim (λ h. h) (λ h. absurd (false-not-true (sym (h .1 .0))))
+slot-holds k false at v vs = ⊎-elim inl (λ h. inr (h .0, h .1 .1))
+
+holds-slot : (k : SlotKind) (gap : Bool) (at : ℕ) (v : List ℕ) (vs : List (List ℕ)) → LaterHolds k gap at (v ∷ vs) → Either k gap at v vs
+holds-slot k true at v vs h = inl h
+holds-slot k false at v vs h = ⊎-elim inl (λ u. inr (u .0, (refl, u .1))) h
+
+-- ---- all slots
+
+pub later-slots : (k : SlotKind) (gap : Bool) (at : ℕ) (vs : List (List ℕ))
+    → Judges at (behind k at (length vs)) (later k gap at vs) (LaterHolds k gap at vs) (LaterFault k gap at vs)
+unfolding later
+later-slots k true at [] = unasked at at (omega arith)
+later-slots k false at [] = unasked at at (omega arith)
+later-slots k gap at (v ∷ vs) =
+    let next = at + slotBits k in
+    let end = behind k next (length vs) in
+    restated
+    (choice (empty v) (Empty v) (empty-is v) (is-empty v)
+    (widened at end (omega arith) (omega arith) (later-slots k true next vs))
+    (join (gap-asked gap at) (join (rows at next 0 (slotRows k at) v (slot-rises k at)) (later-slots k gap next vs))))
+    (slot-holds k gap at v vs)
+    (holds-slot k gap at v vs)
+    (λ x b. b)
+    (λ x b. b)
+
+pub all-slots : (k : SlotKind) (vs : List (List ℕ))
+    → Judges (slotFirst k) (behind k (slotFirst k) (length vs)) (slotsVerdict k vs) (SlotsKept k vs) (SlotsFault k vs)
+unfolding slotsVerdict
+all-slots k [] = unasked (slotFirst k) (slotFirst k) (omega arith)
+all-slots k (v ∷ vs) =
+    let at = slotFirst k in
+    join (rows at (at + slotBits k) 0 (slotRows k at) v (slot-rises k at)) (later-slots k false (at + slotBits k) vs)

@@ -1,0 +1,22 @@
+-- `rows::refusal::Verdict::then` meets its contract. Assumes nothing.
+use Rattle.rows.specs.Refusals.{_then_}
+use borrow.Author.Needs.{needs}
+use Rattle.rows.proofs.refusal.Verdict.then.Statement.{statement}
+use Rattle.rows.proofs.refusal.Verdict.then.Tie as tie
+
+enum-told : tie.Need-enum-told
+enum-told c = search needs
+
+enum-told-2 : tie.Need-enum-told-2
+enum-told-2 c = search needs
+
+returns : tie.Need-returns
+unfolding _then_
+returns c = simp (c .enum-told .given .1)
+
+returns-2 : tie.Need-returns-2
+unfolding _then_
+returns-2 c = simp (c .enum-told2 .given .1)
+
+pub then-spec : {M : Type 1} → statement M
+then-spec = tie.close (tie.spec enum-told enum-told-2 returns returns-2)

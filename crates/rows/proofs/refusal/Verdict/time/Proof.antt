@@ -1,0 +1,62 @@
+-- `rows::refusal::Verdict::time` meets its contract. Assumes nothing.
+use Rattle.rows.proofs.Outcomes.{then-assoc, then-fine}
+use Rattle.rows.proofs.Spans.{allowed-one}
+use Rattle.rows.specs.Verdict.{walk, judge}
+use borrow.Author.Tests.{lt-leb, le-leb}
+use borrow.Author.Needs.{needs}
+use Rattle.rows.proofs.refusal.Verdict.time.Statement.{statement}
+use Rattle.rows.proofs.refusal.Verdict.time.Tie as tie
+
+returns : tie.Need-returns
+returns c = simp (lt-leb _ _ (c .if1 .taken), then-fine)
+
+cast-within : tie.Need-cast-within
+cast-within c = search needs
+
+within-requires : tie.Need-within-requires
+within-requires c κs = search needs
+
+add-within : tie.Need-add-within
+add-within c = search needs
+
+cast-within-2 : tie.Need-cast-within-2
+cast-within-2 c = search needs
+
+within-requires-2 : tie.Need-within-requires-2
+within-requires-2 c κs = search needs
+
+add-within-2 : tie.Need-add-within-2
+add-within-2 c = search needs
+
+cast-within-3 : tie.Need-cast-within-3
+cast-within-3 c = search needs
+
+within-requires-3 : tie.Need-within-requires-3
+within-requires-3 c κs = search needs
+
+returns-2 : tie.Need-returns-2
+unfolding walk judge
+returns-2 c = simp (
+  le-leb _ _ (c .before .before .before .before .before .before .if1 .left),
+  c .within3 .ensures,
+  c .before .before .within2 .ensures,
+  c .before .before .before .before .within .ensures,
+  then-assoc,
+  then-fine,
+  allowed-one,
+)
+
+pub time-spec : {M : Type 1} → statement M
+time-spec =
+    tie.close
+    (tie.spec
+    returns
+    cast-within
+    within-requires
+    add-within
+    cast-within-2
+    within-requires-2
+    add-within-2
+    cast-within-3
+    within-requires-3
+    returns-2)

@@ -1,0 +1,56 @@
+-- The refusals and their numbers (document 01, "What each number says").
+use Prim.Native.Nat.{ℕ}
+use mathlib.Core.Bool.{Bool, true, false}
+use Rattle.rows.specs.declared.refusal.Refusal.{Refusal}
+use Rattle.rows.specs.declared.refusal.Refusal.the-variants.{Length, Padding, Preamble, Parity, Message, Version, Category, Range, Spare, Gap, Unused, NoPage, OtherBulletin, Unsound, NotHeld, Short, Line}
+use Rattle.rows.specs.declared.refusal.Verdict.{Verdict}
+use Rattle.rows.specs.declared.refusal.Verdict.the-variants.{Fine, Refused}
+
+-- what the paper says of a refusal: "A place, page or mark that the refusal's row does not name is zero"
+pub record Said : Type 0 where
+  pub number : ℕ
+  pub place : ℕ
+  pub page : ℕ
+  pub mark : ℕ
+
+abbrev pub plain : ℕ → Said
+plain n = record { number = n; place = 0; page = 0; mark = 0 }
+
+abbrev pub at : ℕ → ℕ → Said
+at n p = record { number = n; place = p; page = 0; mark = 0 }
+
+abbrev pub says : Refusal → Said
+says Length = plain 1
+says Padding = plain 2
+says Preamble = plain 3
+says Parity = plain 4
+says Message = plain 5
+says Version = plain 6
+says Category = plain 7
+says (Range p) = at 8 p
+says (Spare p) = at 9 p
+says (Gap p) = at 10 p
+says Unused = plain 11
+says NoPage = plain 12
+says OtherBulletin = plain 13
+says Unsound = plain 14
+says (NotHeld page mark) = record { number = 15; place = 0; page = page; mark = mark }
+says Short = plain 16
+says Line = plain 17
+
+-- the number of an answer: 0 where nothing is refused
+abbrev pub answers : Verdict → Said
+answers Fine = plain 0
+answers (Refused r) = says r
+
+-- ---- one question after another: the first refusal is the answer
+
+infixr 40 _then_
+unfoldable pub _then_ : Verdict → Verdict → Verdict
+Fine then w = w
+Refused r then w = Refused r
+
+-- a question: refused with r unless the test holds
+unfoldable pub unless : Bool → Refusal → Verdict
+unless true r = Fine
+unless false r = Refused r

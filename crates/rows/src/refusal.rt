@@ -1,0 +1,42 @@
+// Why a call is refused: a variant for each row of document 01, "What each number says". A place is
+// the first bit of the field, spare or slot that is meant.
+ghost use mathlib.Core.Path.{_≡_};
+ghost use Rattle.rows.specs.Refusals.{_then_};
+
+pub enum Refusal {
+    Length,
+    Padding,
+    Preamble,
+    Parity,
+    Message,
+    Version,
+    Category,
+    Range(u8),
+    Spare(u8),
+    Gap(u8),
+    Unused,
+    NoPage,
+    OtherBulletin,
+    Unsound,
+    NotHeld { page: u8, mark: u8 },
+    Short,
+    Line,
+}
+
+// What has been found so far: nothing to refuse, or the first thing.
+pub enum Verdict {
+    Fine,
+    Refused(Refusal),
+}
+
+impl Verdict {
+    // The next answer, where nothing is refused yet.
+    pub fn then(self, next: Verdict) -> Verdict
+        ensures { λ r. ⌜ r ≡ self then next ⌝ }
+    {
+        match self {
+            Verdict::Fine => next,
+            Verdict::Refused(_) => self,
+        }
+    }
+}

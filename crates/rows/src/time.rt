@@ -1,0 +1,50 @@
+// Day, hour and minute, wherever a category has them.
+ghost use mathlib.Core.Path.{_≡_};
+ghost use Rattle.rows.specs.Refusals.{_then_};
+ghost use Rattle.rows.specs.Values.{timeIn, timeLaid, timeVerdict};
+use crate::refusal::Verdict;
+
+// When an earthquake or an eruption was.
+pub struct Time {
+    pub day: u8,
+    pub hour: u8,
+    pub minute: u8,
+}
+
+impl Time {
+    // The time whose first bit is `at`; what lies outside the frame is zero.
+    pub fn at(f: [u8; 32], at: u8) -> Time
+        ensures { λ r. ⌜ r ≡ timeIn f at ⌝ }
+    {
+        let first = at as usize;
+        Time {
+            day: bits::field8(f, first, 5),
+            hour: bits::field8(f, first + 5, 5),
+            minute: bits::field8(f, first + 10, 6),
+        }
+    }
+
+    // The frame with this time laid on it; what lies outside the frame is not laid.
+    pub fn lay(self, f: [u8; 32], at: u8) -> [u8; 32]
+        ensures { λ r. ⌜ r ≡ timeLaid f at self ⌝ }
+    {
+        let first = at as usize;
+        let day = bits::put(f, first, 5, self.day as u64);
+        let hour = bits::put(day, first + 5, 5, self.hour as u64);
+        bits::put(hour, first + 10, 6, self.minute as u64)
+    }
+}
+
+impl Verdict {
+    // The ranges of a time; none where it does not lie in the frame.
+    pub fn time(self, at: u8, t: Time) -> Verdict
+        ensures { λ r. ⌜ r ≡ self then timeVerdict at t ⌝ }
+    {
+        if at > 240 {
+            return self;
+        }
+        self.within(at, t.day as u32, 1, 31)
+            .within(at + 5, t.hour as u32, 0, 23)
+            .within(at + 10, t.minute as u32, 0, 59)
+    }
+}

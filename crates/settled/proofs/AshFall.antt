@@ -1,0 +1,13 @@
+-- Every public function of `ash_fall` is settled (specs/Settled.antt). Assumes nothing.
+use Rattle.ash_fall.proofs as ash_fall
+use Rattle.settled.specs.Settled.{Settled}
+use Rattle.settled.proofs.Law.{answer}
+
+pub Eruption-of-is-settled : Settled ash_fall.Eruption.of.ended ash_fall.Eruption.of.Reads.Post
+Eruption-of-is-settled κs a x y = answer
+
+pub Eruption-check-is-settled : Settled ash_fall.Eruption.check.ended ash_fall.Eruption.check.Reads.Post
+Eruption-check-is-settled κs a x y = answer
+
+pub Eruption-lay-is-settled : Settled ash_fall.Eruption.lay.ended ash_fall.Eruption.lay.Reads.Post
+Eruption-lay-is-settled κs a x y = answer

@@ -1,0 +1,19 @@
+-- Every public function of `hypocenter` is settled (specs/Settled.antt). Assumes nothing.
+use Rattle.hypocenter.proofs as hypocenter
+use Rattle.settled.specs.Settled.{Settled}
+use Rattle.settled.proofs.Law.{answer}
+
+pub Quake-of-is-settled : Settled hypocenter.Quake.of.ended hypocenter.Quake.of.Reads.Post
+Quake-of-is-settled κs a x y = answer
+
+pub Quake-check-is-settled : Settled hypocenter.Quake.check.ended hypocenter.Quake.check.Reads.Post
+Quake-check-is-settled κs a x y = answer
+
+pub Quake-lay-is-settled : Settled hypocenter.Quake.lay.ended hypocenter.Quake.lay.Reads.Post
+Quake-lay-is-settled κs a x y = answer
+
+pub Depth-of-is-settled : Settled hypocenter.meaning.Depth.of.ended hypocenter.meaning.Depth.of.Reads.Post
+Depth-of-is-settled κs a x y = answer
+
+pub Magnitude-of-is-settled : Settled hypocenter.meaning.Magnitude.of.ended hypocenter.meaning.Magnitude.of.Reads.Post
+Magnitude-of-is-settled κs a x y = answer

@@ -1,0 +1,37 @@
+-- Every public function of `rows` is settled (specs/Settled.antt). Assumes nothing.
+use Rattle.rows.proofs as rows
+use Rattle.settled.specs.Settled.{Settled}
+use Rattle.settled.proofs.Law.{answer}
+
+pub Verdict-unless-is-settled : Settled rows.refusal.Verdict.unless.ended rows.refusal.Verdict.unless.Reads.Post
+Verdict-unless-is-settled κs a x y = answer
+
+pub Verdict-within-is-settled : Settled rows.refusal.Verdict.within.ended rows.refusal.Verdict.within.Reads.Post
+Verdict-within-is-settled κs a x y = answer
+
+pub Verdict-spare-is-settled : Settled rows.refusal.Verdict.spare.ended rows.refusal.Verdict.spare.Reads.Post
+Verdict-spare-is-settled κs a x y = answer
+
+pub Verdict-then-is-settled : Settled rows.refusal.Verdict.then.ended rows.refusal.Verdict.then.Reads.Post
+Verdict-then-is-settled κs a x y = answer
+
+pub Verdict-time-is-settled : Settled rows.refusal.Verdict.time.ended rows.refusal.Verdict.time.Reads.Post
+Verdict-time-is-settled κs a x y = answer
+
+pub SlotKind-count-is-settled : Settled rows.slot.SlotKind.count.ended rows.slot.SlotKind.count.Reads.Post
+SlotKind-count-is-settled κs a x y = answer
+
+pub SlotKind-first-is-settled : Settled rows.slot.SlotKind.first.ended rows.slot.SlotKind.first.Reads.Post
+SlotKind-first-is-settled κs a x y = answer
+
+pub SlotKind-bits-is-settled : Settled rows.slot.SlotKind.bits.ended rows.slot.SlotKind.bits.Reads.Post
+SlotKind-bits-is-settled κs a x y = answer
+
+pub SlotKind-of-slot-is-settled : Settled rows.slot.SlotKind.of_slot.ended rows.slot.SlotKind.of_slot.Reads.Post
+SlotKind-of-slot-is-settled κs a x y = answer
+
+pub Time-at-is-settled : Settled rows.time.Time.at.ended rows.time.Time.at.Reads.Post
+Time-at-is-settled κs a x y = answer
+
+pub Time-lay-is-settled : Settled rows.time.Time.lay.ended rows.time.Time.lay.Reads.Post
+Time-lay-is-settled κs a x y = answer
