@@ -12,13 +12,14 @@ use types.Run
 use Rattle.report.specs.declared.record.Common.{Common}
 use Rattle.report.specs.declared.record.Body.{Body}
 use Rattle.report.specs.declared.record.Body.the-variants.{Nothing, Hypocenter, Intensity, Nankai, AshFall}
-use Rattle.report.specs.declared.record.Page.{Page as Numbers}
+use Rattle.nankai.specs.declared.PageNumbers.{Page as Numbers}
 use Rattle.report.specs.declared.record.Record.{Record}
 use Rattle.rows.specs.declared.refusal.Verdict.{Verdict}
 use Rattle.rows.specs.declared.refusal.Verdict.the-variants.{Fine, Refused as Refuses}
 use Rattle.rows.specs.declared.refusal.Refusal.{Refusal}
 use Rattle.rows.specs.declared.refusal.Refusal.the-variants.{NoPage, OtherBulletin, Unsound}
-use Rattle.report.specs.Layout.{layout, page}
+use Rattle.report.specs.Layout.{layout}
+use Rattle.nankai.specs.Nankai.{page}
 use Rattle.rows.specs.Layout.{bytes}
 use Rattle.report.specs.Records.{values, bodyValues}
 use Rattle.rows.specs.Kept.{Kept}

@@ -10,7 +10,7 @@ use mathlib.Core.List.{List}
 use Prim.Native.Nat.{ℕ, _-_, _<_}
 use lib.ListN.{length, getD, set}
 use Rattle.report.specs.declared.record.Record.{Record}
-use Rattle.report.specs.declared.record.Page.{Page as Numbers}
+use Rattle.nankai.specs.declared.PageNumbers.{Page as Numbers}
 use Rattle.report.specs.declared.record.Body.the-variants.{Nankai}
 use Rattle.rows.specs.declared.refusal.Refusal.{Refusal}
 use Rattle.rows.specs.declared.refusal.Refusal.the-variants.{Unsound}
@@ -24,7 +24,7 @@ use Rattle.bulletin.specs.declared.take.Admission.{Admission}
 use Rattle.bulletin.specs.declared.take.Admission.the-variants.{Number, Refused as NotAdmitted}
 use Rattle.bulletin.specs.declared.take.Taken.the-variants.{New, Same, Disputed, Refused as RefusedTaking}
 use Rattle.bulletin.specs.Pages.{noPage, join, heldPage, disputedPage}
-use Rattle.report.specs.Layout.{nankai}
+use Rattle.nankai.specs.Nankai.{nankai}
 use Rattle.report.specs.Records.{values}
 use Rattle.rows.specs.Faults.{Lowest}
 use Rattle.bulletin.specs.Names.{firstPage, nameVerdict, sameName}

@@ -6,7 +6,8 @@ use Rattle.rows.specs.declared.refusal.Verdict.{Verdict}
 use Rattle.rows.specs.declared.refusal.Verdict.the-variants.{Fine, Refused}
 use Rattle.rows.specs.declared.refusal.Refusal.{Refusal}
 use Rattle.rows.specs.declared.refusal.Refusal.the-variants.{Unsound}
-use Rattle.report.specs.Layout.{layout, nankai}
+use Rattle.report.specs.Layout.{layout}
+use Rattle.nankai.specs.Nankai.{nankai}
 use Rattle.report.specs.Records.{values, bodyValues}
 use Rattle.rows.specs.Kept.{Holds}
 use Rattle.rows.specs.Faults.{Lowest}

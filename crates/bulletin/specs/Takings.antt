@@ -8,7 +8,7 @@ use Rattle.report.specs.declared.record.Common.{Common}
 use Rattle.report.specs.declared.record.Body.{Body}
 use Rattle.report.specs.declared.record.Body.the-variants.{Nothing, Hypocenter, Intensity, Nankai, AshFall}
 use Rattle.report.specs.declared.record.Record.{Record}
-use Rattle.report.specs.declared.record.Page.{Page as Numbers}
+use Rattle.nankai.specs.declared.PageNumbers.{Page as Numbers}
 use Rattle.rows.specs.declared.refusal.Verdict.{Verdict}
 use Rattle.rows.specs.declared.refusal.Verdict.the-variants.{Fine, Refused as Refuses}
 use Rattle.rows.specs.declared.refusal.Refusal.the-variants.{NoPage, OtherBulletin, Unsound}

@@ -9,7 +9,7 @@ use lib.Dec.{eqb}
 use borrow.Author.Tests.{eqb-true, eq-eqb}
 use Rattle.report.specs.declared.record.Common.{Common}
 use Rattle.report.specs.declared.record.Body.the-variants.{Nankai}
-use Rattle.report.specs.declared.record.Page.{Page as Numbers}
+use Rattle.nankai.specs.declared.PageNumbers.{Page as Numbers}
 use Rattle.report.specs.declared.record.Record.{Record}
 use Rattle.rows.specs.declared.refusal.Refusal.{Refusal}
 use Rattle.rows.proofs.Outcomes.{and-both}

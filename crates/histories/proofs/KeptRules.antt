@@ -10,7 +10,8 @@ use Rattle.report.specs.declared.record.Body.the-variants.{Nankai}
 use Rattle.report.specs.declared.record.Record.{Record}
 use Rattle.report.specs.declared.record.Slot.{Slot}
 use Rattle.rows.specs.Layout.{_to_, bytes}
-use Rattle.report.specs.Layout.{layout, nankai, page}
+use Rattle.report.specs.Layout.{layout}
+use Rattle.nankai.specs.Nankai.{nankai, page}
 use Rattle.report.specs.Records.{values, bodyValues}
 use Rattle.rows.specs.Kept.{In, Kept, Holds}
 use Rattle.bulletin.specs.declared.name.Name.{Name}

@@ -11,7 +11,8 @@ use Rattle.report.specs.declared.record.Body.the-variants.{Nothing}
 use Rattle.report.specs.declared.record.Slot.{Slot}
 use Rattle.report.specs.declared.record.Record.{Record}
 use Rattle.rows.specs.Layout.{Row, bytes}
-use Rattle.report.specs.Layout.{layout, page}
+use Rattle.report.specs.Layout.{layout}
+use Rattle.nankai.specs.Nankai.{page}
 use Rattle.report.specs.Records.{noSlot, values, bodyValues}
 use Rattle.rows.specs.Kept.{Kept}
 use Rattle.report.specs.Writing.{KeepsRules}

@@ -13,7 +13,7 @@ use Rattle.report.specs.declared.record.Common.{Common}
 use Rattle.rows.specs.declared.time.Time.{Time}
 use Rattle.hypocenter.specs.declared.angle.Angle.{Angle}
 use Rattle.hypocenter.specs.declared.Quake.{Quake}
-use Rattle.report.specs.declared.record.Page.{Page}
+use Rattle.nankai.specs.declared.PageNumbers.{Page}
 use Rattle.ash_fall.specs.declared.Eruption.{Eruption}
 use Rattle.report.specs.declared.record.Body.{Body}
 use Rattle.report.specs.declared.record.Body.the-variants.{Nothing, Hypocenter, Intensity, Nankai, AshFall}

@@ -5,7 +5,9 @@ use Rattle.report.specs.declared.record.Body.{Body}
 use Rattle.report.specs.declared.record.Body.the-variants.{Nothing, Hypocenter, Intensity, Nankai, AshFall}
 use Rattle.rows.specs.declared.slot.SlotKind.the-variants.{Prefectures, Places}
 use Rattle.rows.specs.Layout.{nothing, slotCount}
-use Rattle.report.specs.Layout.{layout, intensity, nankai}
+use Rattle.report.specs.Layout.{layout}
+use Rattle.intensity.specs.Intensity.{intensity}
+use Rattle.nankai.specs.Nankai.{nankai}
 use Rattle.hypocenter.specs.Hypocenter.{hypocenter}
 use Rattle.ash_fall.specs.AshFall.{ashFall}
 use Rattle.rows.specs.Verdict.{Values}

@@ -79,7 +79,7 @@ abbrev pub slot : ℕ → ℕ → Slot
 slot intensity prefecture = record { hour = 0; strength = intensity; place = prefecture }
 
 abbrev pub secondSlot : Slot → Outcome
-secondSlot s = said (judged (Intensity sampleTime) (slot 4 44 ∷ s ∷ []))
+secondSlot s = said (judged (Intensity (record { time = sampleTime })) (slot 4 44 ∷ s ∷ []))
 
 -- the nine bits of a slot of category 3 as one number, in the widths of the table
 abbrev pub slotValue : Slot → Outcome

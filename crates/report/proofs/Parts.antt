@@ -10,7 +10,7 @@ use Rattle.bits.specs.Frame.{fieldOf}
 use Rattle.rows.specs.declared.time.Time.{Time}
 use Rattle.hypocenter.specs.declared.angle.Angle.{Angle}
 use Rattle.hypocenter.specs.declared.Quake.{Quake}
-use Rattle.report.specs.declared.record.Page.{Page}
+use Rattle.nankai.specs.declared.PageNumbers.{PageNumbers}
 use Rattle.ash_fall.specs.declared.Eruption.{Eruption}
 use Rattle.report.specs.declared.record.Body.{Body}
 use Rattle.report.specs.declared.record.Body.the-variants.{Nothing, Hypocenter, Intensity, Nankai, AshFall}
@@ -47,7 +47,7 @@ quakeFrom vs = record {
   longitude = angleFrom vs 13;
 }
 
-abbrev pageFrom : List ℕ → Page
+abbrev pageFrom : List ℕ → PageNumbers
 pageFrom vs = record { serial = getD vs 0 0; number = getD (drop 19 vs) 0 0; total = getD (drop 19 vs) 1 0 }
 
 abbrev eruptionFrom : List ℕ → Eruption
@@ -57,13 +57,13 @@ eruptionFrom vs = record { time = timeFrom vs 0; warning = getD vs 3 0; volcano 
 abbrev bodyFrom : Body → List ℕ → Body
 bodyFrom Nothing vs = Nothing
 bodyFrom (Hypocenter q) vs = Hypocenter (quakeFrom vs)
-bodyFrom (Intensity t) vs = Intensity (timeFrom vs 0)
+bodyFrom (Intensity t) vs = Intensity (record { time = timeFrom vs 0 })
 bodyFrom (Nankai p) vs = Nankai (pageFrom vs)
 bodyFrom (AshFall e) vs = AshFall (eruptionFrom vs)
 
 -- ---- the body
 
-page-again : (p : Page) (text : List ℕ) → length text ≡ 18 → pageFrom (p .serial ∷ text ++ p .number ∷ p .total ∷ []) ≡ p
+page-again : (p : PageNumbers) (text : List ℕ) → length text ≡ 18 → pageFrom (p .serial ∷ text ++ p .number ∷ p .total ∷ []) ≡ p
 page-again p text n = ap (λ (vs : List ℕ). record { serial = p .serial; number = getD vs 0 0; total = getD vs 1 0 }) (drop-at text (p .number ∷ p .total ∷ []) 18 n)
 
 body-again : (b : Body) (text : List ℕ) → length text ≡ 18 → bodyFrom b (bodyValues b text) ≡ b

@@ -16,7 +16,7 @@ use Rattle.rows.specs.Refusals.{_then_}
 use Rattle.rows.specs.Layout.{slotCount, slotFirst, slotBits, slotRows}
 use Rattle.rows.specs.Verdict.{empty, walk, later, slotsVerdict}
 use Rattle.report.specs.Records.{noSlot, slotValues}
-use Rattle.report.specs.Slots.{laterRun}
+use Rattle.report.specs.Steps.{laterRun}
 use Rattle.rows.proofs.Outcomes.{then-assoc, then-fine}
 
 -- ---- where a slot stands

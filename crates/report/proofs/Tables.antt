@@ -4,7 +4,8 @@ use mathlib.Core.Bool.{Bool, true, _&&_}
 use mathlib.Core.List.{List, [], _∷_}
 use Rattle.rows.specs.Layout.{Layout, nothing, allRows, tiles, allFit}
 use Rattle.hypocenter.specs.Hypocenter.{hypocenter}
-use Rattle.report.specs.Layout.{intensity, nankai}
+use Rattle.intensity.specs.Intensity.{intensity}
+use Rattle.nankai.specs.Nankai.{nankai}
 use Rattle.ash_fall.specs.AshFall.{ashFall}
 
 abbrev pub layouts : List Layout

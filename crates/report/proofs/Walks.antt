@@ -12,11 +12,13 @@ use Rattle.bits.specs.Frame.{Bytes}
 use Rattle.rows.specs.declared.refusal.Verdict.{Verdict}
 use Rattle.rows.specs.declared.refusal.Refusal.the-variants.{Range, Spare}
 use Rattle.report.specs.declared.record.Common.{Common}
-use Rattle.report.specs.declared.record.Page.{Page}
-use Rattle.report.specs.declared.record.Body.the-variants.{Nankai}
+use Rattle.report.specs.declared.record.Body.the-variants.{Nothing, Hypocenter, Intensity, Nankai, AshFall}
+use Rattle.report.specs.declared.record.Body.{Body}
 use Rattle.rows.specs.Refusals.{_then_, unless}
 use Rattle.rows.specs.Layout.{_to_, Layout, common, bytes}
-use Rattle.report.specs.Layout.{nankai, page}
+use Rattle.report.specs.Layout.{layout}
+use Rattle.report.specs.Steps.{bodyVerdict}
+use Rattle.nankai.proofs.Walks.{any-text-passes}
 use Rattle.rows.specs.Verdict.{allowed, judge, walk}
 use Rattle.report.specs.Records.{headValues, bodyValues}
 use Rattle.rows.proofs.Outcomes.{then-fine, fine-then, unless-true}
@@ -35,29 +37,11 @@ pub common-walk : (l : Layout) (c : Common) (x : ℕ)
 unfolding walk judge
 common-walk l c x = simp (unless-true _ (Range 8) (only-yes 43), unless-true _ (Range 17) (only-yes (l .code)), fine-then, then-fine) (simp allowed-one)
 
--- category 4: bytes pass, whatever they are
-byte : (x : ℕ) → x < 256 → x ≤ 255
-byte x k = omega arith
-
-bytes-pass : (n a b : ℕ) (text : List ℕ) (x y : ℕ) → Bytes text → length text ≡ n
-    → walk b (bytes n a ++ page) (text ++ x ∷ y ∷ []) ≡ walk 0 page (x ∷ y ∷ [])
-unfolding walk judge
-bytes-pass zero a b [] x y h l = refl
-bytes-pass zero a b (t ∷ text) x y h l = absurd (suc-ne-zero (length text) l)
-bytes-pass (suc n) a b [] x y h l = absurd (suc-ne-zero n (sym l))
-bytes-pass (suc n) a b (t ∷ text) x y h l =
-    ap (λ (v : Verdict). v then walk t (bytes n (a + 8) ++ page) (text ++ x ∷ y ∷ [])) (unless-true _ (Range a) (in-allowed (0 to 255 ∷ []) t (inl (zero-le, byte t (h 0)))))
-    ∙ fine-then _
-    ∙ bytes-pass n (a + 8) t text x y (λ i. h (suc i)) (suc-inj l)
-
-pub page-walk : (p : Page) (text : List ℕ) → Bytes text → length text ≡ 18
-    → walk 0 (nankai .body) (bodyValues (Nankai p) text)
-    ≡ unless (leb 1 (p .serial) && leb (p .serial) 15) (Range 53)
-    then unless (leb 1 (p .number) && leb (p .number) 63) (Range 201)
-    then unless (leb (p .number) (p .total) && leb (p .total) 63) (Range 207)
-unfolding walk judge bodyValues
-page-walk p text h l =
-    ap (λ (v : Verdict). unless (allowed (1 to 15 ∷ []) (p .serial)) (Range 53) then v) (bytes-pass 18 57 (p .serial) text (p .number) (p .total) h l)
-    ∙ simp (then-fine, allowed-one)
-
--- ---- a chain of questions, each put behind those before it
+-- any text passes, so the fields of a category are judged without it
+pub body-walk : (b : Body) (text : List ℕ) → Bytes text → length text ≡ 18 → walk 0 (layout b .body) (bodyValues b text) ≡ bodyVerdict b
+unfolding layout bodyValues bodyVerdict walk
+body-walk Nothing text h l = refl
+body-walk (Hypocenter q) text h l = refl
+body-walk (Intensity s) text h l = refl
+body-walk (Nankai p) text h l = any-text-passes p text h l
+body-walk (AshFall e) text h l = refl

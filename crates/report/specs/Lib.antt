@@ -3,6 +3,6 @@ pub mod Records
 pub mod Reading
 pub mod Writing
 pub mod Meaning
-pub mod Slots
+pub mod Steps
 pub mod Conforms
 pub mod Reasons

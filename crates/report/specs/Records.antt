@@ -6,7 +6,6 @@ use lib.ListN.{replicate, take}
 use lib.Dec.{eqb}
 use Rattle.bits.specs.Frame.{fieldOf}
 use Rattle.report.specs.declared.record.Common.{Common}
-use Rattle.report.specs.declared.record.Page.{Page}
 use Rattle.report.specs.declared.record.Body.{Body}
 use Rattle.report.specs.declared.record.Body.the-variants.{Nothing, Hypocenter, Intensity, Nankai, AshFall}
 use Rattle.report.specs.declared.record.Slot.{Slot}
@@ -17,7 +16,9 @@ use Rattle.rows.specs.Layout.{common, slotCount, slotFirst, slotBits}
 use Rattle.report.specs.Layout.{layout}
 use Rattle.rows.specs.Verdict.{Values}
 use Rattle.hypocenter.specs.Hypocenter.{quakeValues, quakeOf}
-use Rattle.rows.specs.Values.{timeValues, timeOf, lastValues, each}
+use Rattle.rows.specs.Values.{lastValues, each}
+use Rattle.intensity.specs.Intensity.{shakingOf, shakingValues}
+use Rattle.nankai.specs.Nankai.{numbersOf, pageText, pageValues}
 use Rattle.ash_fall.specs.AshFall.{eruptionValues, eruptionOf}
 
 -- ---- from a frame
@@ -32,14 +33,11 @@ commonOf s = record {
   it = fieldOf s 41 2;
 }
 
-abbrev pub pageOf : List ℕ → Page
-pageOf s = record { serial = fieldOf s 53 4; number = fieldOf s 201 6; total = fieldOf s 207 6 }
-
 -- by the category's code
 unfoldable pub bodyBy : List ℕ → ℕ → Body
 bodyBy s dc =
     cond (eqb dc 2) (Hypocenter (quakeOf s))
-    (cond (eqb dc 3) (Intensity (timeOf s 53)) (cond (eqb dc 4) (Nankai (pageOf s)) (cond (eqb dc 9) (AshFall (eruptionOf s)) Nothing)))
+    (cond (eqb dc 3) (Intensity (shakingOf s)) (cond (eqb dc 4) (Nankai (numbersOf s)) (cond (eqb dc 9) (AshFall (eruptionOf s)) Nothing)))
 
 abbrev pub bodyOf : List ℕ → Body
 bodyOf s = bodyBy s (fieldOf s 17 4)
@@ -56,10 +54,6 @@ slotOf Places s a = record { hour = fieldOf s a 3; strength = fieldOf s (a + 3) 
 -- the category's slots, and empty ones up to sixteen
 unfoldable pub slotsOf : List ℕ → SlotKind → List Slot
 slotsOf s k = each (slotCount k) (λ i. slotOf k s (slotFirst k + slotBits k * i)) ++ replicate (16 - slotCount k) noSlot
-
--- "Text at 57: 18 bytes, any"
-abbrev pub pageText : List ℕ → List ℕ
-pageText s = each 18 (λ i. fieldOf s (57 + 8 * i) 8)
 
 unfoldable pub textOf : List ℕ → Body → List ℕ
 textOf s (Nankai p) = pageText s
@@ -103,8 +97,8 @@ headValues c dc spare =
 unfoldable pub bodyValues : Body → List ℕ → List ℕ
 bodyValues Nothing text = []
 bodyValues (Hypocenter q) text = quakeValues q
-bodyValues (Intensity t) text = timeValues t
-bodyValues (Nankai p) text = p .serial ∷ text ++ p .number ∷ p .total ∷ []
+bodyValues (Intensity t) text = shakingValues t
+bodyValues (Nankai p) text = pageValues p text
 bodyValues (AshFall e) text = eruptionValues e
 
 abbrev pub slotValues : SlotKind → Slot → List ℕ

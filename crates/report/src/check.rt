@@ -2,46 +2,34 @@
 // a record when it is written. Questions are asked from the lowest bit up, and the first refusal is
 // the answer.
 ghost use mathlib.Core.Path.{_≡_};
-ghost use mathlib.Core.List.{List, map};
-ghost use Prim.Native.Nat.{ℕ, _+_, _≤_};
-ghost use lib.ListN.{length, take};
-ghost use Rattle.bits.specs.Frame.{Bytes};
+ghost use mathlib.Core.List.{map};
+ghost use Prim.Native.Nat.{_≤_};
+ghost use lib.ListN.{take};
 ghost use Rattle.rows.specs.Refusals.{_then_, unless};
-ghost use Rattle.report.specs.Layout.{layout, nankai};
-ghost use Rattle.rows.specs.Layout.{common, ending, time, slotRows, slotCount};
+ghost use Rattle.report.specs.Layout.{layout};
+ghost use Rattle.rows.specs.Layout.{common, ending, slotRows, slotCount};
 ghost use Rattle.rows.specs.Verdict.{walk, slotsVerdict, verdict};
-ghost use Rattle.report.specs.Records.{headValues, bodyValues, slotValues, values};
+ghost use Rattle.report.specs.Records.{headValues, slotValues, values};
 ghost use Rattle.rows.specs.Values.{lastValues};
-ghost use Rattle.report.specs.Slots.{laterRun};
+ghost use Rattle.report.specs.Steps.{bodyVerdict, laterRun};
 use crate::codes::is_classification;
 use crate::record::Body;
 use crate::record::Common;
-use crate::record::Page;
 use crate::record::Record;
 use crate::record::Slot;
 use rows::refusal::Refusal;
 use rows::refusal::Verdict;
 use rows::slot::SlotKind;
 
-// Any text passes: each of its bytes is a byte.
-fn page(found: Verdict, p: Page) -> Verdict
-    ensures { λ r. ⌜ ((text : List ℕ) → Bytes text → length text ≡ 18 → r ≡ found then walk 0 (nankai .body) (bodyValues (Body.Nankai p) text)) ⌝ }
-{
-    found
-        .within(53, p.serial as u32, 1, 15)
-        .within(201, p.number as u32, 1, 63)
-        .within(207, p.total as u32, p.number as u32, 63)
-}
-
 // The fields of the category, from bit 53 on.
 fn body(found: Verdict, b: Body) -> Verdict
-    ensures { λ r. ⌜ ((text : List ℕ) → Bytes text → length text ≡ 18 → r ≡ found then walk 0 (layout b .body) (bodyValues b text)) ⌝ }
+    ensures { λ r. ⌜ r ≡ found then bodyVerdict b ⌝ }
 {
     match b {
         Body::Nothing => found,
         Body::Hypocenter(q) => q.check(found),
-        Body::Intensity(t) => found.time(53, t),
-        Body::Nankai(p) => page(found, p),
+        Body::Intensity(s) => s.check(found),
+        Body::Nankai(p) => p.check(found),
         Body::AshFall(e) => e.check(found),
     }
 }

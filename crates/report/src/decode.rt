@@ -2,16 +2,16 @@
 // asked of it afterwards.
 ghost use mathlib.Core.Path.{_≡_};
 ghost use Prim.Native.Nat.{_≤_};
-ghost use Rattle.report.specs.Records.{commonOf, pageOf, bodyOf, slotOf, slotsOf, pageText, textOf, recordOf, zeros};
+ghost use Rattle.report.specs.Records.{commonOf, bodyOf, slotOf, slotsOf, textOf, recordOf, zeros};
 use crate::record::Body;
 use crate::record::Common;
-use crate::record::Page;
 use crate::record::Record;
 use crate::record::Slot;
 use ash_fall::Eruption;
 use hypocenter::Quake;
+use intensity::Shaking;
+use nankai::PageNumbers;
 use rows::slot::SlotKind;
-use rows::time::Time;
 
 fn common_of(f: [u8; 32]) -> Common
     ensures { λ r. ⌜ r ≡ commonOf f ⌝ }
@@ -26,23 +26,13 @@ fn common_of(f: [u8; 32]) -> Common
     }
 }
 
-fn page_of(f: [u8; 32]) -> Page
-    ensures { λ r. ⌜ r ≡ pageOf f ⌝ }
-{
-    Page {
-        serial: bits::field8(f, 53, 4),
-        number: bits::field8(f, 201, 6),
-        total: bits::field8(f, 207, 6),
-    }
-}
-
 fn body_of(f: [u8; 32]) -> Body
     ensures { λ r. ⌜ r ≡ bodyOf f ⌝ }
 {
     match bits::field8(f, 17, 4) {
         2 => Body::Hypocenter(Quake::of(f)),
-        3 => Body::Intensity(Time::at(f, 53)),
-        4 => Body::Nankai(page_of(f)),
+        3 => Body::Intensity(Shaking::of(f)),
+        4 => Body::Nankai(PageNumbers::of(f)),
         9 => Body::AshFall(Eruption::of(f)),
         _ => Body::Nothing,
     }
@@ -93,18 +83,6 @@ fn slots_of(f: [u8; 32], kind: SlotKind) -> [Slot; 16]
     slots
 }
 
-fn page_text(f: [u8; 32]) -> [u8; 18]
-    ensures { λ r. ⌜ r ≡ pageText f ⌝ }
-{
-    let mut text = [0u8; 18];
-    let mut k = 0;
-    while k < 18 {
-        text[k] = bits::field8(f, 57 + 8 * k, 8);
-        k += 1;
-    }
-    text
-}
-
 fn text_of(f: [u8; 32], body: Body) -> [u8; 18]
     ensures { λ r. ⌜ r ≡ textOf f body ⌝ }
 {
@@ -112,7 +90,7 @@ fn text_of(f: [u8; 32], body: Body) -> [u8; 18]
         Body::Nothing => [0u8; 18],
         Body::Hypocenter(_) => [0u8; 18],
         Body::Intensity(_) => [0u8; 18],
-        Body::Nankai(_) => page_text(f),
+        Body::Nankai(_) => nankai::page_text(f),
         Body::AshFall(_) => [0u8; 18],
     }
 }

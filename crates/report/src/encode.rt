@@ -4,16 +4,15 @@ ghost use mathlib.Core.Path.{_≡_};
 ghost use mathlib.Core.Bool.{true};
 ghost use mathlib.Core.List.{map};
 ghost use Prim.Native.Nat.{_≤_};
-ghost use lib.ListN.{replicate, take};
+ghost use lib.ListN.{take};
 ghost use Rattle.bits.specs.Frame.{laid, bytesOf};
-ghost use Rattle.report.specs.Layout.{layout, nankai};
+ghost use Rattle.report.specs.Layout.{layout};
 ghost use Rattle.rows.specs.Layout.{common, ending, slotRows, slotsRows, slotCount, slotFirst};
 ghost use Rattle.report.specs.Records.{headValues, bodyValues, slotValues};
 ghost use Rattle.rows.specs.Values.{lastValues, widths, joined};
 ghost use Rattle.report.specs.Writing.{known, frontWidths, frontValues, frame, Valid};
 use crate::record::Body;
 use crate::record::Common;
-use crate::record::Page;
 use crate::record::Record;
 use crate::record::Slot;
 use rows::slot::SlotKind;
@@ -33,28 +32,6 @@ fn lay_common(f: [u8; 32], c: Common, b: Body) -> [u8; 32]
     bits::put(it, 43, 10, 0)
 }
 
-fn lay_text(f: [u8; 32], text: [u8; 18]) -> [u8; 32]
-    ensures { λ r. ⌜ r ≡ laid f 57 (replicate 18 8) text ⌝ }
-{
-    let mut next = f;
-    let mut k = 0;
-    while k < 18 {
-        let more = bits::put(next, 57 + 8 * k, 8, text[k] as u64);
-        next = more;
-        k += 1;
-    }
-    next
-}
-
-fn lay_page(f: [u8; 32], p: Page, text: [u8; 18]) -> [u8; 32]
-    ensures { λ r. ⌜ r ≡ laid f 53 (widths (nankai .body)) (bodyValues (Body.Nankai p) text) ⌝ }
-{
-    let serial = bits::put(f, 53, 4, p.serial as u64);
-    let whole = lay_text(serial, text);
-    let number = bits::put(whole, 201, 6, p.number as u64);
-    bits::put(number, 207, 6, p.total as u64)
-}
-
 // The fields of the category, from bit 53 on.
 fn lay_body(f: [u8; 32], b: Body, text: [u8; 18]) -> [u8; 32]
     ensures { λ r. ⌜ r ≡ laid f 53 (widths (layout b .body)) (bodyValues b text) ⌝ }
@@ -62,8 +39,8 @@ fn lay_body(f: [u8; 32], b: Body, text: [u8; 18]) -> [u8; 32]
     match b {
         Body::Nothing => f,
         Body::Hypocenter(q) => q.lay(f),
-        Body::Intensity(t) => t.lay(f, 53),
-        Body::Nankai(p) => lay_page(f, p, text),
+        Body::Intensity(s) => s.lay(f),
+        Body::Nankai(p) => p.lay(f, text),
         Body::AshFall(e) => e.lay(f),
     }
 }

@@ -6,8 +6,9 @@ ghost use Rattle.rows.specs.Verdict.{empty};
 ghost use Rattle.report.specs.Records.{slotValues};
 use ash_fall::Eruption;
 use hypocenter::Quake;
+use intensity::Shaking;
+use nankai::PageNumbers;
 use rows::slot::SlotKind;
-use rows::time::Time;
 
 // The fields that every category has.
 pub struct Common {
@@ -19,20 +20,13 @@ pub struct Common {
     pub it: u8,
 }
 
-// Category 4: the kind of information (Is), and which page of how many this is.
-pub struct Page {
-    pub serial: u8,
-    pub number: u8,
-    pub total: u8,
-}
-
 // What the category of a record has beside slots and text. `Nothing` is no category: the record of
 // zeros has it.
 pub enum Body {
     Nothing,
     Hypocenter(Quake),
-    Intensity(Time),
-    Nankai(Page),
+    Intensity(Shaking),
+    Nankai(PageNumbers),
     AshFall(Eruption),
 }
 

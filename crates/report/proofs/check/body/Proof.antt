@@ -1,8 +1,6 @@
 -- `report::check::body` meets its contract. Assumes nothing.
 use Rattle.rows.proofs.Outcomes.{then-fine}
-use Rattle.report.specs.Layout.{layout}
-use Rattle.report.specs.Records.{bodyValues}
-use Rattle.rows.specs.Verdict.{walk}
+use Rattle.report.specs.Steps.{bodyVerdict}
 use borrow.Author.Needs.{needs}
 use Rattle.report.proofs.check.body.Statement.{statement}
 use Rattle.report.proofs.check.body.Tie as tie
@@ -19,40 +17,40 @@ check-requires c κs = search needs
 enum-known-b-2 : tie.Need-enum-known-b-2
 enum-known-b-2 c = search needs
 
-time-requires : tie.Need-time-requires
-time-requires c κs = search needs
+check-requires-2 : tie.Need-check-requires-2
+check-requires-2 c κs = search needs
 
 enum-known-b-3 : tie.Need-enum-known-b-3
 enum-known-b-3 c = search needs
 
-page-requires : tie.Need-page-requires
-page-requires c κs = search needs
+check-requires-3 : tie.Need-check-requires-3
+check-requires-3 c κs = search needs
 
 enum-known-b-4 : tie.Need-enum-known-b-4
 enum-known-b-4 c = search needs
 
-check-requires-2 : tie.Need-check-requires-2
-check-requires-2 c κs = search needs
+check-requires-4 : tie.Need-check-requires-4
+check-requires-4 c κs = search needs
 
 returns : tie.Need-returns
-unfolding layout bodyValues walk
-returns c = λ text b l. simp (c .enum-told .given .1, then-fine)
+unfolding bodyVerdict
+returns c = simp (c .enum-told .given .1, then-fine)
 
 returns-2 : tie.Need-returns-2
-unfolding layout bodyValues
-returns-2 c = λ text b l. simp (c .before .before .b .given .1, c .check .ensures)
+unfolding bodyVerdict
+returns-2 c = simp (c .before .before .b .given .1, c .check .ensures)
 
 returns-3 : tie.Need-returns-3
-unfolding layout bodyValues
-returns-3 c = λ text b l. simp (c .before .before .b2 .given .1, c .time .ensures)
+unfolding bodyVerdict
+returns-3 c = simp (c .before .before .b2 .given .1, c .check2 .ensures)
 
 returns-4 : tie.Need-returns-4
-unfolding layout bodyValues
-returns-4 c = λ text b l. simp (c .before .before .b3 .given .1, c .page .ensures text b l)
+unfolding bodyVerdict
+returns-4 c = simp (c .before .before .b3 .given .1, c .check3 .ensures)
 
 returns-5 : tie.Need-returns-5
-unfolding layout bodyValues
-returns-5 c = λ text b l. simp (c .before .before .b4 .given .1, c .check2 .ensures)
+unfolding bodyVerdict
+returns-5 c = simp (c .before .before .b4 .given .1, c .check4 .ensures)
 
 pub body-spec : {M : Type 1} → statement M
 body-spec =
@@ -62,11 +60,11 @@ body-spec =
     enum-known-b
     check-requires
     enum-known-b-2
-    time-requires
-    enum-known-b-3
-    page-requires
-    enum-known-b-4
     check-requires-2
+    enum-known-b-3
+    check-requires-3
+    enum-known-b-4
+    check-requires-4
     returns
     returns-2
     returns-3

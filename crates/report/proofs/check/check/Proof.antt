@@ -2,6 +2,7 @@
 use Rattle.bits.specs.Frame.{Bytes}
 use Rattle.rows.proofs.Outcomes.{then-assoc, fine-then}
 use Rattle.report.specs.Records.{values}
+use Rattle.report.proofs.Walks.{body-walk}
 use Rattle.rows.specs.Verdict.{verdict}
 use borrow.Author.Needs.{elem-fits-field, length-unmapped, needs}
 use lib.ListN.{length}
@@ -37,7 +38,8 @@ returns c =
       c .last .ensures,
       c .before .slots .ensures,
       c .before .before .slot-kind .ensures,
-      c .before .before .before .body .ensures text b l,
+      c .before .before .before .body .ensures,
+      body-walk (s .args .r .body) text b l,
       c .before .before .before .before .common .ensures,
       then-assoc,
       fine-then,

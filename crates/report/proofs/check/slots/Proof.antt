@@ -9,7 +9,7 @@ use borrow.Author.Needs.{needs}
 use Rattle.rows.specs.Layout.{slotCount, slotFirst, slotBits, slotRows}
 use Rattle.rows.specs.Refusals.{_then_}
 use Rattle.report.specs.Records.{noSlot, slotValues}
-use Rattle.report.specs.Slots.{laterRun}
+use Rattle.report.specs.Steps.{laterRun}
 use Rattle.rows.specs.Verdict.{walk}
 use Rattle.report.proofs.SlotTurns.{at-most-sixteen, slot-place, first-place, start-place, next-place, same-place, onward, turn, done, whole, no-slots}
 use Rattle.report.proofs.check.slots.Statement.{statement}

@@ -13,14 +13,14 @@ field8-requires c κs = search needs
 of-requires : tie.Need-of-requires
 of-requires c κs = search needs
 
-at-requires : tie.Need-at-requires
-at-requires c κs = search needs
-
-page-of-requires : tie.Need-page-of-requires
-page-of-requires c κs = search needs
-
 of-requires-2 : tie.Need-of-requires-2
 of-requires-2 c κs = search needs
+
+of-requires-3 : tie.Need-of-requires-3
+of-requires-3 c κs = search needs
+
+of-requires-4 : tie.Need-of-requires-4
+of-requires-4 c κs = search needs
 
 returns : tie.Need-returns
 unfolding bodyBy
@@ -28,15 +28,15 @@ returns c = ap Hypocenter (c .of .ensures) ∙ sym (ap (bodyBy (c .before .befor
 
 returns-2 : tie.Need-returns-2
 unfolding bodyBy
-returns-2 c = ap Intensity (c .at .ensures) ∙ sym (ap (bodyBy (c .before .before .before .args .f)) (sym (c .before .before .field8 .ensures .0) ∙ c .before .match .keys2))
+returns-2 c = ap Intensity (c .of2 .ensures) ∙ sym (ap (bodyBy (c .before .before .before .args .f)) (sym (c .before .before .field8 .ensures .0) ∙ c .before .match .keys2))
 
 returns-3 : tie.Need-returns-3
 unfolding bodyBy
-returns-3 c = ap Nankai (c .page-of .ensures) ∙ sym (ap (bodyBy (c .before .before .before .args .f)) (sym (c .before .before .field8 .ensures .0) ∙ c .before .match .keys3))
+returns-3 c = ap Nankai (c .of3 .ensures) ∙ sym (ap (bodyBy (c .before .before .before .args .f)) (sym (c .before .before .field8 .ensures .0) ∙ c .before .match .keys3))
 
 returns-4 : tie.Need-returns-4
 unfolding bodyBy
-returns-4 c = ap AshFall (c .of2 .ensures) ∙ sym (ap (bodyBy (c .before .before .before .args .f)) (sym (c .before .before .field8 .ensures .0) ∙ c .before .match .keys4))
+returns-4 c = ap AshFall (c .of4 .ensures) ∙ sym (ap (bodyBy (c .before .before .before .args .f)) (sym (c .before .before .field8 .ensures .0) ∙ c .before .match .keys4))
 
 returns-5 : tie.Need-returns-5
 unfolding bodyBy
@@ -56,9 +56,9 @@ body-of-spec =
     (tie.spec
     field8-requires
     of-requires
-    at-requires
-    page-of-requires
     of-requires-2
+    of-requires-3
+    of-requires-4
     returns
     returns-2
     returns-3

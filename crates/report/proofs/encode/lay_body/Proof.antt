@@ -23,14 +23,14 @@ lay-requires-2 c κs = search needs
 enum-known-b-3 : tie.Need-enum-known-b-3
 enum-known-b-3 c = search needs
 
-lay-page-requires : tie.Need-lay-page-requires
-lay-page-requires c κs = search needs
+lay-requires-3 : tie.Need-lay-requires-3
+lay-requires-3 c κs = search needs
 
 enum-known-b-4 : tie.Need-enum-known-b-4
 enum-known-b-4 c = search needs
 
-lay-requires-3 : tie.Need-lay-requires-3
-lay-requires-3 c κs = search needs
+lay-requires-4 : tie.Need-lay-requires-4
+lay-requires-4 c κs = search needs
 
 returns : tie.Need-returns
 unfolding layout bodyValues
@@ -46,11 +46,11 @@ returns-3 c = simp (c .before .before .b2 .given .1, c .lay2 .ensures)
 
 returns-4 : tie.Need-returns-4
 unfolding layout bodyValues
-returns-4 c = simp (c .before .before .b3 .given .1, c .lay-page .ensures)
+returns-4 c = simp (c .before .before .b3 .given .1, c .lay3 .ensures)
 
 returns-5 : tie.Need-returns-5
 unfolding layout bodyValues
-returns-5 c = simp (c .before .before .b4 .given .1, c .lay3 .ensures)
+returns-5 c = simp (c .before .before .b4 .given .1, c .lay4 .ensures)
 
 pub lay-body-spec : {M : Type 1} → statement M
 lay-body-spec =
@@ -62,9 +62,9 @@ lay-body-spec =
     enum-known-b-2
     lay-requires-2
     enum-known-b-3
-    lay-page-requires
-    enum-known-b-4
     lay-requires-3
+    enum-known-b-4
+    lay-requires-4
     returns
     returns-2
     returns-3

@@ -1,6 +1,6 @@
 -- `report::check::Run::later` meets its contract. Assumes nothing.
 use Rattle.rows.proofs.Outcomes.{then-assoc}
-use Rattle.report.specs.Slots.{laterRun}
+use Rattle.report.specs.Steps.{laterRun}
 use borrow.Author.Needs.{needs}
 use mathlib.Core.Path.{sym, _∙_}
 use Rattle.report.proofs.check.Run.later.Statement.{statement}

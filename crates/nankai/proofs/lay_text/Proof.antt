@@ -1,9 +1,9 @@
--- `report::encode::lay_text` meets its contract: the bytes passed are laid. Assumes nothing.
+-- `nankai::lay_text` meets its contract: the bytes passed are laid. Assumes nothing.
 use Prim.Native.Nat.{ℕ, _+_, _-_, _*_, _≤_}
 use Rattle.bits.proofs.Arrays.{each-bytes}
 use Rattle.bits.proofs.Inside.{placed-in}
 use Rattle.bits.specs.Frame.{Bytes, laid, placed}
-use Rattle.report.proofs.Laying.{byte-more}
+use Rattle.nankai.proofs.Laying.{byte-more}
 use borrow.Author.Needs.{needs}
 use lib.ListN.{length, getD, take, replicate}
 use lib.Seq.{take-all}
@@ -12,8 +12,8 @@ use mathlib.Core.Path.{_≡_, refl, ap, _∙_}
 use native.Mathlib.Nat.{lt-of-lt-of-le}
 use native.Mathlib.Omega.{arith}
 use lib.Dec.{lit≤}
-use Rattle.report.proofs.encode.lay_text.Statement.{statement}
-use Rattle.report.proofs.encode.lay_text.Tie as tie
+use Rattle.nankai.proofs.lay_text.Statement.{statement}
+use Rattle.nankai.proofs.lay_text.Tie as tie
 
 abbrev Inv-loop : tie.InvT-loop
 Inv-loop text next₀ k₀ next k = (k ≤ 18) × (next ≡ laid next₀ 57 (replicate k 8) (take k text))

@@ -1,9 +1,9 @@
--- `report::check::page` meets its contract. Assumes nothing.
+-- `nankai::PageNumbers::check` meets its contract. Assumes nothing.
 use Rattle.rows.proofs.Outcomes.{then-assoc}
-use Rattle.report.proofs.Walks.{page-walk}
+use Rattle.nankai.proofs.Walks.{numbers-walk}
 use borrow.Author.Needs.{needs}
-use Rattle.report.proofs.check.page.Statement.{statement}
-use Rattle.report.proofs.check.page.Tie as tie
+use Rattle.nankai.proofs.PageNumbers.check.Statement.{statement}
+use Rattle.nankai.proofs.PageNumbers.check.Tie as tie
 
 cast-within : tie.Need-cast-within
 cast-within c = search needs
@@ -27,10 +27,10 @@ within-requires-3 : tie.Need-within-requires-3
 within-requires-3 c κs = search needs
 
 returns : tie.Need-returns
-returns c = λ text b l. simp (c .within3 .ensures, c .before .before .before .within2 .ensures, c .before .before .before .before .before .within .ensures, then-assoc, page-walk (c .before .before .before .before .before .before .before .args .p) text b l)
+returns c = simp (c .within3 .ensures, c .before .before .before .within2 .ensures, c .before .before .before .before .before .within .ensures, then-assoc, numbers-walk (c .before .before .before .before .before .before .before .args .self))
 
-pub page-spec : {M : Type 1} → statement M
-page-spec =
+pub check-spec : {M : Type 1} → statement M
+check-spec =
     tie.close
     (tie.spec
     cast-within

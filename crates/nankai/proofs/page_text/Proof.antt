@@ -1,4 +1,4 @@
--- `report::decode::page_text` meets its contract: the bytes passed are the text's. Assumes nothing.
+-- `nankai::page_text` meets its contract: the bytes passed are the text's. Assumes nothing.
 use Prim.Native.Nat.{ℕ, _+_, _-_, _*_, _≤_}
 use borrow.Author.Needs.{needs}
 use Rattle.bits.specs.Frame.{fieldOf}
@@ -9,8 +9,8 @@ use lib.ListN.{length, replicate, length-set}
 use mathlib.Core.List.{List, _++_}
 use mathlib.Core.Path.{_≡_, refl, ap, _∙_}
 use native.Mathlib.Omega.{arith}
-use Rattle.report.proofs.decode.page_text.Statement.{statement}
-use Rattle.report.proofs.decode.page_text.Tie as tie
+use Rattle.nankai.proofs.page_text.Statement.{statement}
+use Rattle.nankai.proofs.page_text.Tie as tie
 
 -- byte i of the text
 abbrev byte : List ℕ → ℕ → ℕ

@@ -1,14 +1,13 @@
--- `report::encode::lay_page` meets its contract. Assumes nothing.
+-- `nankai::PageNumbers::lay` meets its contract. Assumes nothing.
 use Prim.Native.Nat.{ℕ}
 use Rattle.bits.specs.Frame.{placed, laid}
-use Rattle.report.proofs.Laying.{page-laid}
-use Rattle.report.specs.Records.{bodyValues}
+use Rattle.nankai.proofs.Laying.{page-laid}
 use borrow.Author.Needs.{needs}
 use lib.ListN.{length, replicate}
 use mathlib.Core.List.{List}
 use mathlib.Core.Path.{_≡_, ap, _∙_}
-use Rattle.report.proofs.encode.lay_page.Statement.{statement}
-use Rattle.report.proofs.encode.lay_page.Tie as tie
+use Rattle.nankai.proofs.PageNumbers.lay.Statement.{statement}
+use Rattle.nankai.proofs.PageNumbers.lay.Tie as tie
 
 cast-put : tie.Need-cast-put
 cast-put c = search needs
@@ -32,20 +31,19 @@ put-requires-3 : tie.Need-put-requires-3
 put-requires-3 c κs = search needs
 
 returns : tie.Need-returns
-unfolding bodyValues
 returns c =
     let s = c .before .before .before .before .before .before .before in
     let a = s .args in
     let l : length (a .text) ≡ 18 = s .good .1 .1 .0 .1 .0 .1 in
     c .put3 .ensures
-    ∙ ap (λ (f : List ℕ). placed f 207 6 (a .p .total)) (c .before .before .put2 .ensures)
-    ∙ ap (λ (f : List ℕ). placed (placed f 201 6 (a .p .number)) 207 6 (a .p .total)) (c .before .before .before .before .lay-text .ensures)
-    ∙ ap (λ (f : List ℕ). placed (placed (laid f 57 (replicate 18 8) (a .text)) 201 6 (a .p .number)) 207 6 (a .p .total))
+    ∙ ap (λ (f : List ℕ). placed f 207 6 (a .self .total)) (c .before .before .put2 .ensures)
+    ∙ ap (λ (f : List ℕ). placed (placed f 201 6 (a .self .number)) 207 6 (a .self .total)) (c .before .before .before .before .lay-text .ensures)
+    ∙ ap (λ (f : List ℕ). placed (placed (laid f 57 (replicate 18 8) (a .text)) 201 6 (a .self .number)) 207 6 (a .self .total))
     (c .before .before .before .before .before .put .ensures)
-    ∙ page-laid (a .f) (a .text) (a .p .serial) (a .p .number) (a .p .total) l
+    ∙ page-laid (a .f) (a .text) (a .self .serial) (a .self .number) (a .self .total) l
 
-pub lay-page-spec : {M : Type 1} → statement M
-lay-page-spec =
+pub lay-spec : {M : Type 1} → statement M
+lay-spec =
     tie.close
     (tie.spec
     cast-put

@@ -1,7 +1,7 @@
--- `report::decode::page_of` meets its contract. Assumes nothing.
+-- `nankai::PageNumbers::of` meets its contract. Assumes nothing.
 use borrow.Author.Needs.{needs}
-use Rattle.report.proofs.decode.page_of.Statement.{statement}
-use Rattle.report.proofs.decode.page_of.Tie as tie
+use Rattle.nankai.proofs.PageNumbers.of.Statement.{statement}
+use Rattle.nankai.proofs.PageNumbers.of.Tie as tie
 
 field8-requires : tie.Need-field8-requires
 field8-requires c κs = search needs
@@ -19,5 +19,5 @@ returns c = simp (
   c .before .before .field8 .ensures .0,
 )
 
-pub page-of-spec : {M : Type 1} → statement M
-page-of-spec = tie.close (tie.spec field8-requires field8-requires-2 field8-requires-3 returns)
+pub of-spec : {M : Type 1} → statement M
+of-spec = tie.close (tie.spec field8-requires field8-requires-2 field8-requires-3 returns)
