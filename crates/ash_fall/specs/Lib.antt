@@ -1,1 +1,2 @@
 pub mod AshFall
+pub mod Meaning

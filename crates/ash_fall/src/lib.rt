@@ -5,6 +5,9 @@ ghost use Rattle.rows.specs.Refusals.{_then_};
 ghost use Rattle.rows.specs.Values.{widths};
 ghost use Rattle.rows.specs.Verdict.{walk};
 ghost use Rattle.ash_fall.specs.AshFall.{ashFall, eruptionOf, eruptionValues};
+
+pub mod meaning; // what a place says
+
 use rows::refusal::Verdict;
 use rows::time::Time;
 

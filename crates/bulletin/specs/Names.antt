@@ -8,7 +8,8 @@ use Rattle.report.specs.declared.record.Record.{Record}
 use Rattle.rows.specs.declared.refusal.Verdict.{Verdict}
 use Rattle.rows.specs.declared.refusal.Verdict.the-variants.{Fine, Refused}
 use Rattle.nankai.specs.Nankai.{nankai}
-use Rattle.report.specs.Records.{noSlot, values}
+use Rattle.slots.specs.Slots.{noSlot}
+use Rattle.report.specs.Records.{values}
 use Rattle.rows.specs.Verdict.{verdict}
 use Rattle.bulletin.specs.declared.name.Name.{Name}
 

@@ -8,7 +8,7 @@ use native.Mathlib.Nat.{suc-ne-zero, suc-inj}
 use lib.ListN.{length, getD, replicate}
 use Rattle.report.specs.declared.record.Body.the-variants.{Nankai}
 use Rattle.report.specs.declared.record.Record.{Record}
-use Rattle.report.specs.declared.record.Slot.{Slot}
+use Rattle.slots.specs.declared.slot.Slot.{Slot}
 use Rattle.rows.specs.Layout.{_to_, bytes}
 use Rattle.report.specs.Layout.{layout}
 use Rattle.nankai.specs.Nankai.{nankai, page}

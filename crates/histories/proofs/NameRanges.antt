@@ -4,7 +4,8 @@ use native.Mathlib.Omega.{arith}
 use lib.ListN.{replicate}
 use Rattle.rows.specs.declared.refusal.Verdict.the-variants.{Fine}
 use Rattle.report.specs.Layout.{layout}
-use Rattle.report.specs.Records.{noSlot, values, bodyValues}
+use Rattle.slots.specs.Slots.{noSlot}
+use Rattle.report.specs.Records.{values, bodyValues}
 use Rattle.bulletin.specs.declared.name.Name.{Name}
 use Rattle.bulletin.specs.Names.{firstPage, nameVerdict}
 use Rattle.bulletin.proofs.Admitted.{past-text}

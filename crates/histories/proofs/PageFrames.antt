@@ -8,12 +8,13 @@ use native.Mathlib.Nat.{suc-ne-zero, suc-inj}
 use lib.ListN.{length, getD, replicate, getD-replicate, List·getD-eq-default}
 use Rattle.report.specs.declared.record.Body.{Body}
 use Rattle.report.specs.declared.record.Body.the-variants.{Nothing}
-use Rattle.report.specs.declared.record.Slot.{Slot}
+use Rattle.slots.specs.declared.slot.Slot.{Slot}
 use Rattle.report.specs.declared.record.Record.{Record}
 use Rattle.rows.specs.Layout.{Row, bytes}
 use Rattle.report.specs.Layout.{layout}
 use Rattle.nankai.specs.Nankai.{page}
-use Rattle.report.specs.Records.{noSlot, values, bodyValues}
+use Rattle.slots.specs.Slots.{noSlot}
+use Rattle.report.specs.Records.{values, bodyValues}
 use Rattle.rows.specs.Kept.{Kept}
 use Rattle.report.specs.Writing.{KeepsRules}
 use Rattle.report.proofs.Claims.{valid-keeps-rules, keeping-rules-is-valid}

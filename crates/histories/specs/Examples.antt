@@ -4,7 +4,7 @@ use mathlib.Core.Path.{refl}
 use mathlib.Core.List.{List, [], _∷_}
 use lib.ListN.{replicate}
 use Rattle.report.specs.declared.record.Body.the-variants.{Nankai}
-use Rattle.report.specs.Records.{noSlot}
+use Rattle.slots.specs.Slots.{noSlot}
 use Rattle.bulletin.specs.declared.name.Name.{Name}
 use Rattle.histories.specs.Frames.{Frame}
 

@@ -8,9 +8,9 @@ use Rattle.report.specs.declared.record.Record.{Record}
 use Rattle.rows.specs.Verdict.{empty}
 use Rattle.report.specs.Layout.{layout}
 use Rattle.rows.specs.Layout.{slotCount}
-use Rattle.report.specs.Records.{slotValues}
-use Rattle.report.specs.Meaning.{usedAmong, usedOf, slotsOfCategory}
-use Rattle.report.proofs.SlotTurns.{at-most-sixteen}
+use Rattle.slots.specs.Slots.{slotValues, usedAmong}
+use Rattle.report.specs.Meaning.{usedOf, slotsOfCategory}
+use Rattle.slots.proofs.Turns.{at-most-sixteen}
 
 used-or-not : (t : Bool) (u n : ℕ) → u ≤ n → cond t 0 (suc u) ≤ suc n
 used-or-not true u n h = omega arith

@@ -8,7 +8,7 @@ use lib.ListN.{length, getD}
 use Rattle.rows.specs.declared.refusal.Verdict.the-variants.{Refused}
 use Rattle.rows.specs.declared.refusal.Refusal.the-variants.{Unused}
 use Rattle.report.specs.declared.record.Body.{Body}
-use Rattle.report.specs.declared.record.Slot.{Slot}
+use Rattle.slots.specs.declared.slot.Slot.{Slot}
 use Rattle.rows.specs.declared.slot.SlotKind.{SlotKind}
 use Rattle.rows.specs.declared.slot.SlotKind.the-variants.{Nothing, Prefectures, Places}
 use Rattle.rows.specs.Refusals.{_then_, unless}
@@ -17,7 +17,8 @@ use Rattle.rows.specs.Layout.{slotCount}
 use Rattle.rows.specs.Verdict.{allowed, empty}
 use Rattle.rows.specs.Values.{each}
 use Rattle.report.specs.Reading.{preambles}
-use Rattle.report.specs.Writing.{known, unused, tidySlots, tidyText, tidy, writeAnswer}
+use Rattle.report.specs.Writing.{known, tidyText, tidy, writeAnswer}
+use Rattle.slots.specs.Slots.{unused, tidySlots}
 use Rattle.packed.specs.Unpacked.{slotAt, bodyFrom, stray, slotsFrom, misplaced, marked, textFrom, unpackedAs, unpacked}
 
 and-false : (a b : Bool) → b ≡ false → a && b ≡ false

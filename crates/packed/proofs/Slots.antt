@@ -6,8 +6,8 @@ use native.Mathlib.Numerals.{add-one}
 use mathlib.Core.List.{List, [], _∷_, _++_}
 use lib.ListN.{length, getD, take}
 use lib.Seq.{take-suc, length-take-le}
-use Rattle.report.specs.declared.record.Slot.{Slot}
-use Rattle.report.specs.Records.{noSlot}
+use Rattle.slots.specs.declared.slot.Slot.{Slot}
+use Rattle.slots.specs.Slots.{noSlot}
 use Rattle.packed.specs.Packed.{slotBytes, slotsBytes}
 use Rattle.packed.specs.Writing.{Wrote}
 use Rattle.packed.proofs.Writing.{behind}

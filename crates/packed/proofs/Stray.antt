@@ -7,9 +7,9 @@ use mathlib.Core.List.{List}
 use lib.ListN.{length, getD, take, drop}
 use lib.Seq.{length-take-le, getD-take}
 use Rattle.report.specs.declared.record.Body.{Body}
-use Rattle.report.specs.declared.record.Slot.{Slot}
+use Rattle.slots.specs.declared.slot.Slot.{Slot}
 use Rattle.rows.specs.Verdict.{empty}
-use Rattle.report.proofs.TidyTurns.{blank-so-far, not-blank, all-blank}
+use Rattle.report.proofs.Blank.{blank-so-far, not-blank, all-blank}
 use Rattle.packed.specs.Packed.{bodyBytes}
 use Rattle.packed.specs.Unpacked.{stray, marked}
 

@@ -1,27 +1,25 @@
 -- The values of the record of a frame are the values of the frame. Assumes nothing.
 use mathlib.Core.Path.{_≡_, refl, ap, ap₂, _∙_, subst}
 use mathlib.Core.Logic.{⊎-elim}
-use Prim.Native.Nat.{ℕ, _+_, _*_, _≤_}
+use Prim.Native.Nat.{ℕ, _+_, _≤_}
 use native.Mathlib.Omega.{arith}
 use mathlib.Core.List.{List, map}
-use lib.ListN.{take}
 use borrow.Author.Tests.{eqb-true}
 use Rattle.bits.specs.Frame.{fieldOf}
 use Rattle.rows.specs.declared.refusal.Verdict.{Verdict}
 use Rattle.rows.specs.declared.refusal.Verdict.the-variants.{Fine}
 use Rattle.report.specs.declared.record.Record.{Record}
 use Rattle.report.specs.declared.read.Reading.{Reading}
-use Rattle.rows.specs.declared.slot.SlotKind.{SlotKind}
-use Rattle.rows.specs.declared.slot.SlotKind.the-variants.{Nothing, Prefectures, Places}
-use Rattle.rows.specs.Layout.{Layout, common, ending, slotCount, slotFirst, slotBits, slotRows}
+use Rattle.rows.specs.Layout.{Layout, common, ending}
 use Rattle.report.specs.Layout.{layout}
 use Rattle.rows.specs.Verdict.{Values, verdict}
-use Rattle.rows.specs.Values.{each, cut, valuesOf, lastValues}
-use Rattle.report.specs.Records.{commonOf, bodyBy, bodyOf, slotsOf, textOf, recordAs, recordOf, headValues, bodyValues, slotValues, values}
+use Rattle.rows.specs.Values.{cut, valuesOf, lastValues}
+use Rattle.report.specs.Records.{commonOf, bodyBy, bodyOf, textOf, recordAs, recordOf, headValues, bodyValues, values}
 use Rattle.report.specs.Reading.{categories, outerOf, innerOf, reading}
 use Rattle.rows.specs.Kept.{In}
 use Rattle.rows.proofs.Spans.{allowed-in}
 use Rattle.rows.proofs.Outcomes.{fine-both, unless-fine}
+use Rattle.slots.proofs.Agree.{slots-agree}
 
 -- what 5, 6 and 7 leave
 pub record Outer (s : List ℕ) : Type 0 where
@@ -68,13 +66,6 @@ suits s = by-category (Suits s) (record { code = refl; body = refl; ends = refl;
 head-agrees : (s : List ℕ) (l : Layout) → fieldOf s 8 6 ≡ 43 → l .code ≡ fieldOf s 17 4
     → headValues (commonOf s) (l .code) (fieldOf s 43 10) ≡ map (cut s) (common l)
 head-agrees s l m e = rw (e, ← m)
-
-pub slots-agree : (s : List ℕ) (k : SlotKind)
-    → map (slotValues k) (take (slotCount k) (slotsOf s k)) ≡ each (slotCount k) (λ i. map (cut s) (slotRows k (slotFirst k + slotBits k * i)))
-unfolding slotsOf
-slots-agree s Nothing = refl
-slots-agree s Prefectures = refl
-slots-agree s Places = refl
 
 last-agrees : (s : List ℕ) (l : Layout) → fieldOf s 214 6 ≡ 1
     → lastValues (fieldOf s (l .spareFirst) (l .spareWidth)) (fieldOf s 220 6) ≡ map (cut s) (ending l)

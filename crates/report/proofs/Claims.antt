@@ -30,7 +30,8 @@ use Rattle.rows.proofs.Ordered.{Met}
 use Rattle.report.proofs.Frames.{layoutOf, frameValues, conforming-fine, fine-conforming, reason, faulty, faultless, no-gap}
 use Rattle.rows.proofs.Lengths.{Filled, frame-filled}
 use Rattle.report.proofs.Lengths.{record-filled}
-use Rattle.report.proofs.Used.{counted-used, others-empty}
+use Rattle.slots.proofs.Used.{counted-used}
+use Rattle.report.proofs.Used.{others-empty}
 use Rattle.rows.proofs.Numbers.{says-apart}
 use Rattle.report.proofs.Numbers.{read-ten, refused-zeros}
 use Rattle.report.proofs.PaperValues.{found, expected, paperValues, every-row}

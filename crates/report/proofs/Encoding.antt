@@ -21,15 +21,16 @@ use Rattle.report.specs.declared.record.Body.the-variants.{Nothing, Hypo
 use Rattle.report.specs.declared.record.Record.{Record}
 use Rattle.rows.specs.Layout.{Row, Layout, common, ending, slotsRows, slotCount, slotFirst}
 use Rattle.report.specs.Layout.{layout}
-use Rattle.report.specs.Records.{headValues, bodyValues, slotValues, values}
+use Rattle.report.specs.Records.{headValues, bodyValues, values}
+use Rattle.slots.specs.Slots.{slotValues}
 use Rattle.rows.specs.Values.{lastValues, widths, joined}
 use Rattle.report.specs.Writing.{known, writeAnswer, frontValues, frontWidths, front, frame, Valid}
 use Rattle.rows.proofs.Outcomes.{fine-both, unless-fine}
-use Rattle.report.proofs.Laying.{runs-length, slots-widths}
+use Rattle.slots.proofs.Laying.{runs-length, slots-widths}
 use Rattle.report.proofs.Lengths.{record-filled}
 use Rattle.report.proofs.Rows.{front-total}
 use Rattle.report.proofs.Shapes.{Shaped}
-use Rattle.report.proofs.SlotTurns.{at-most-sixteen}
+use Rattle.slots.proofs.Turns.{at-most-sixteen}
 use Rattle.report.proofs.Validity.{valid-keeps}
 use Rattle.report.proofs.WrittenThenRead.{front-fit}
 

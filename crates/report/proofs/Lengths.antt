@@ -1,36 +1,20 @@
 -- Each row of a table has its value. Assumes nothing.
 use mathlib.Core.Path.{_≡_, refl, ap, _∙_}
 use Prim.Native.Nat.{ℕ, suc, _+_}
-use mathlib.Core.List.{List, [], _∷_, map}
-use lib.ListN.{length, take, length-map, length-append}
-use lib.Seq.{length-take-le}
+use mathlib.Core.List.{List, [], _∷_}
+use lib.ListN.{length, take, length-append}
 use Rattle.report.specs.declared.record.Body.{Body}
 use Rattle.report.specs.declared.record.Body.the-variants.{Nothing, Hypocenter, Intensity, Nankai, AshFall}
-use Rattle.report.specs.declared.record.Slot.{Slot}
-use Rattle.rows.specs.declared.slot.SlotKind.{SlotKind}
-use Rattle.rows.specs.declared.slot.SlotKind.the-variants.{Nothing as NoSlots, Prefectures, Places}
 use Rattle.report.specs.declared.record.Record.{Record}
-use Rattle.rows.specs.Layout.{slotCount, slotFirst, slotBits, slotRows}
+use Rattle.rows.specs.Layout.{slotCount, slotFirst}
 use Rattle.report.specs.Layout.{layout}
-use Rattle.report.specs.Records.{slotValues, bodyValues, values}
-use Rattle.report.proofs.SlotTurns.{at-most-sixteen}
-use Rattle.rows.proofs.Lengths.{Filled, SlotsFilled}
+use Rattle.report.specs.Records.{bodyValues, values}
+use Rattle.rows.proofs.Lengths.{Filled}
+use Rattle.slots.proofs.Lengths.{map-filled, slots-counted}
 
 -- ---- of a frame
 
 -- ---- of a record
-
-slot-filled : (k : SlotKind) (at : ℕ) (s : Slot) → length (slotValues k s) ≡ length (slotRows k at)
-slot-filled NoSlots at s = refl
-slot-filled Prefectures at s = refl
-slot-filled Places at s = refl
-
-map-filled : (k : SlotKind) (at : ℕ) (ss : List Slot) → SlotsFilled k at (map (slotValues k) ss)
-map-filled k at [] = tt
-map-filled k at (s ∷ ss) = (slot-filled k at s, map-filled k (at + slotBits k) ss)
-
-slots-counted : (k : SlotKind) (ss : List Slot) → length ss ≡ 16 → length (map (slotValues k) (take (slotCount k) ss)) ≡ slotCount k
-slots-counted k ss n = length-map (take (slotCount k) ss) (slotValues k) ∙ length-take-le (slotCount k) ss (rw n (at-most-sixteen k))
 
 body-filled : (b : Body) (text : List ℕ) → length text ≡ 18 → length (bodyValues b text) ≡ length (layout b .body)
 unfolding layout bodyValues

@@ -2,14 +2,13 @@ pub mod Claims
 pub mod Tables
 pub mod KnownCodes
 pub mod Walks
-pub mod SlotTurns
+pub mod Blank
 pub mod JudgedFrames
 pub mod Frames
 pub mod Agree
 pub mod Ways
 pub mod Used
 pub mod Laying
-pub mod TidyTurns
 pub mod Numbers
 pub mod Lengths
 pub mod PaperValues

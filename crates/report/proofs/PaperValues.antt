@@ -9,16 +9,17 @@ use Rattle.rows.specs.declared.time.Time.{Time}
 use Rattle.hypocenter.specs.declared.angle.Angle.{Angle}
 use Rattle.report.specs.declared.record.Body.{Body}
 use Rattle.report.specs.declared.record.Body.the-variants.{Hypocenter, Intensity, Nankai}
-use Rattle.report.specs.declared.record.Slot.{Slot}
+use Rattle.slots.specs.declared.slot.Slot.{Slot}
 use Rattle.rows.specs.declared.slot.SlotKind.the-variants.{Prefectures}
-use Rattle.report.specs.declared.meaning.Prefecture.{Prefecture}
-use Rattle.report.specs.declared.meaning.Prefecture.the-variants.{Number, Nowhere}
-use Rattle.report.specs.Meaning.{prefectureOf}
+use Rattle.ash_fall.specs.declared.meaning.Prefecture.{Prefecture}
+use Rattle.ash_fall.specs.declared.meaning.Prefecture.the-variants.{Number, Nowhere}
+use Rattle.ash_fall.specs.Meaning.{prefectureOf}
 use Rattle.rows.specs.Refusals.{Said, plain, at, answers, _then_, unless}
 use Rattle.rows.specs.Layout.{Row, slotFirst, slotRows}
 use Rattle.report.specs.Layout.{layout}
 use Rattle.rows.specs.Verdict.{allowed, judge, walk, empty, later, slotsVerdict, verdict}
-use Rattle.report.specs.Records.{noSlot, slotValues, bodyValues, values}
+use Rattle.slots.specs.Slots.{noSlot, slotValues}
+use Rattle.report.specs.Records.{bodyValues, values}
 
 -- ---- samples
 

@@ -14,16 +14,11 @@ use Rattle.nankai.specs.declared.PageNumbers.{PageNumbers}
 use Rattle.ash_fall.specs.declared.Eruption.{Eruption}
 use Rattle.report.specs.declared.record.Body.{Body}
 use Rattle.report.specs.declared.record.Body.the-variants.{Nothing, Hypocenter, Intensity, Nankai, AshFall}
-use Rattle.report.specs.declared.record.Slot.{Slot}
-use Rattle.rows.specs.declared.slot.SlotKind.{SlotKind}
-use Rattle.rows.specs.declared.slot.SlotKind.the-variants.{Nothing as NoSlots, Prefectures, Places}
 use Rattle.report.specs.Layout.{layout}
-use Rattle.rows.specs.Verdict.{empty}
 use Rattle.rows.specs.Values.{cut}
-use Rattle.report.specs.Records.{bodyBy, textOf, bodyValues, slotValues}
+use Rattle.report.specs.Records.{bodyBy, textOf, bodyValues}
 use Rattle.rows.specs.Kept.{Empty}
-use Rattle.report.specs.Writing.{unused, tidySlots, tidyText}
-use Rattle.rows.proofs.Outcomes.{and-both}
+use Rattle.report.specs.Writing.{tidyText}
 use Rattle.rows.proofs.JudgedSlots.{empty-is}
 
 -- ---- from values, counted from i on
@@ -105,27 +100,3 @@ same-text s (Nankai p) text n t e = ap (λ (vs : List ℕ). take 18 (drop 1 vs))
 same-text s (AshFall q) text n t e = all-zero text 18 n (empty-is text t)
 
 -- ---- the slots
-
--- a slot is told by what its category uses and what it does not
-same-slot : (k : SlotKind) (x y : Slot) → Empty (unused k x) → Empty (unused k y) → slotValues k x ≡ slotValues k y → x ≡ y
-same-slot NoSlots x y f g e = λ i. record { hour = (f .0 ∙ sym (g .0)) i; strength = (f .1 .0 ∙ sym (g .1 .0)) i; place = (f .1 .1 .0 ∙ sym (g .1 .1 .0)) i }
-same-slot Prefectures x y f g e = λ i. record { hour = (f .0 ∙ sym (g .0)) i; strength = getD (e i) 0 0; place = getD (e i) 1 0 }
-same-slot Places x y f g e = λ i. record { hour = getD (e i) 0 0; strength = getD (e i) 1 0; place = getD (e i) 2 0 }
-
-pub same-slots : (k : SlotKind) (n : ℕ) (xs ys : List Slot) → length xs ≡ length ys → tidySlots k n xs ≡ true → tidySlots k n ys ≡ true
-    → map (slotValues k) (take n xs) ≡ map (slotValues k) (take n ys) → xs ≡ ys
-unfolding tidySlots
-same-slots k n [] [] l t u e = refl
-same-slots k n [] (y ∷ ys) l t u e = absurd (suc-ne-zero (length ys) (sym l))
-same-slots k n (x ∷ xs) [] l t u e = absurd (suc-ne-zero (length xs) l)
-same-slots k zero (x ∷ xs) (y ∷ ys) l t u e =
-    let p = and-both (empty (unused NoSlots x)) (tidySlots k zero xs) t in
-    let q = and-both (empty (unused NoSlots y)) (tidySlots k zero ys) u in
-    ap₂ (λ (a : Slot) (b : List Slot). a ∷ b) (same-slot NoSlots x y (empty-is (unused NoSlots x) (p .0)) (empty-is (unused NoSlots y) (q .0)) refl)
-    (same-slots k zero xs ys (suc-inj l) (p .1) (q .1) refl)
-same-slots k (suc n) (x ∷ xs) (y ∷ ys) l t u e =
-    let p = and-both (empty (unused k x)) (tidySlots k n xs) t in
-    let q = and-both (empty (unused k y)) (tidySlots k n ys) u in
-    ap₂ (λ (a : Slot) (b : List Slot). a ∷ b)
-    (same-slot k x y (empty-is (unused k x) (p .0)) (empty-is (unused k y) (q .0)) (ap (λ (vs : List (List ℕ)). getD vs 0 []) e))
-    (same-slots k n xs ys (suc-inj l) (p .1) (q .1) (ap (drop 1) e))

@@ -5,11 +5,10 @@ use mathlib.Core.List.{List}
 use lib.ListN.{length}
 use Rattle.report.specs.declared.record.Body.{Body}
 use Rattle.report.specs.declared.record.Body.the-variants.{Nothing, Hypocenter, Intensity, Nankai, AshFall}
-use Rattle.rows.specs.declared.slot.SlotKind.{SlotKind}
-use Rattle.rows.specs.declared.slot.SlotKind.the-variants.{Nothing as NoSlots, Prefectures, Places}
 use Rattle.report.specs.declared.record.Record.{Record}
 use Rattle.report.specs.Layout.{layout}
-use Rattle.report.specs.Records.{slotsOf, textOf, recordAs}
+use Rattle.report.specs.Records.{textOf, recordAs}
+use Rattle.slots.proofs.Lengths.{slots-sixteen}
 
 -- what an array of the code tells by its type
 pub record Shaped (r : Record) : Type 0 where
@@ -17,12 +16,6 @@ pub record Shaped (r : Record) : Type 0 where
   pub text : length (r .text) ≡ 18
 
 -- ---- the record of a frame is shaped
-
-slots-sixteen : (s : List ℕ) (k : SlotKind) → length (slotsOf s k) ≡ 16
-unfolding slotsOf
-slots-sixteen s NoSlots = refl
-slots-sixteen s Prefectures = refl
-slots-sixteen s Places = refl
 
 text-eighteen : (s : List ℕ) (b : Body) → length (textOf s b) ≡ 18
 unfolding textOf

@@ -15,7 +15,8 @@ use Rattle.report.specs.declared.record.Record.{Record}
 use Rattle.rows.specs.Layout.{Layout, slotCount}
 use Rattle.report.specs.Layout.{layout}
 use Rattle.rows.specs.Verdict.{Values, allowed, verdict}
-use Rattle.report.specs.Records.{slotValues, values}
+use Rattle.slots.specs.Slots.{slotValues}
+use Rattle.report.specs.Records.{values}
 use Rattle.report.specs.Reading.{preambles}
 use Rattle.rows.specs.Kept.{In}
 use Rattle.rows.specs.Faults.{Lowest}
@@ -27,7 +28,7 @@ use Rattle.rows.proofs.Spans.{allowed-in, in-allowed}
 use Rattle.rows.proofs.JudgedFrames.{JudgesAll}
 use Rattle.report.proofs.JudgedFrames.{whole}
 use Rattle.rows.proofs.Ordered.{Met, Answers, unquestioned, question}
-use Rattle.report.proofs.SlotTurns.{taken}
+use Rattle.slots.proofs.Turns.{taken}
 use Rattle.report.proofs.Shapes.{Shaped}
 use Rattle.report.proofs.Tidy.{is-tidy, tidy-is}
 

@@ -1,28 +1,24 @@
 -- Walks over the fields of a category, cut into the pieces that the code asks. Assumes nothing.
-use mathlib.Core.Path.{_≡_, refl, sym, ap, _∙_}
+use mathlib.Core.Path.{_≡_, refl}
 use mathlib.Core.Bool.{_&&_}
-use Prim.Native.Nat.{ℕ, zero, suc, _+_, _≤_, _<_, zero-le}
-use native.Mathlib.Nat.{suc-ne-zero, suc-inj}
-use native.Mathlib.Omega.{arith}
-use mathlib.Core.Logic.{inl}
-use mathlib.Core.List.{List, [], _∷_, _++_}
+use Prim.Native.Nat.{ℕ}
+use mathlib.Core.List.{List, [], _∷_}
 use lib.ListN.{length}
 use lib.Dec.{leb, eqb}
 use Rattle.bits.specs.Frame.{Bytes}
-use Rattle.rows.specs.declared.refusal.Verdict.{Verdict}
 use Rattle.rows.specs.declared.refusal.Refusal.the-variants.{Range, Spare}
 use Rattle.report.specs.declared.record.Common.{Common}
 use Rattle.report.specs.declared.record.Body.the-variants.{Nothing, Hypocenter, Intensity, Nankai, AshFall}
 use Rattle.report.specs.declared.record.Body.{Body}
 use Rattle.rows.specs.Refusals.{_then_, unless}
-use Rattle.rows.specs.Layout.{_to_, Layout, common, bytes}
+use Rattle.rows.specs.Layout.{_to_, Layout, common}
 use Rattle.report.specs.Layout.{layout}
 use Rattle.report.specs.Steps.{bodyVerdict}
 use Rattle.nankai.proofs.Walks.{any-text-passes}
 use Rattle.rows.specs.Verdict.{allowed, judge, walk}
 use Rattle.report.specs.Records.{headValues, bodyValues}
 use Rattle.rows.proofs.Outcomes.{then-fine, fine-then, unless-true}
-use Rattle.rows.proofs.Spans.{allowed-one, in-allowed, only-yes}
+use Rattle.rows.proofs.Spans.{allowed-one, only-yes}
 
 -- bits 8 to 52: message type and category are what they are
 pub common-walk : (l : Layout) (c : Common) (x : ℕ)

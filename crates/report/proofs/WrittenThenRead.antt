@@ -19,15 +19,16 @@ use Rattle.report.specs.declared.record.Record.{Record}
 use Rattle.report.specs.Layout.{layout}
 use Rattle.rows.specs.Layout.{allRows, slotCount}
 use Rattle.rows.specs.Verdict.{Values}
-use Rattle.report.specs.Records.{bodyOf, slotsOf, recordAs, recordOf, values}
+use Rattle.report.specs.Records.{bodyOf, recordAs, recordOf, values}
+use Rattle.slots.specs.Slots.{slotsOf, tidySlots}
 use Rattle.rows.specs.Values.{cut, valuesOf}
 use Rattle.report.specs.Reading.{preambles, categories, reading, readOf}
 use Rattle.rows.specs.Kept.{In, Holds}
 use Rattle.report.specs.Conforms.{Conforms}
-use Rattle.report.specs.Writing.{frontValues, frontWidths, tidySlots, tidyText, front, frame, writeOf, Valid, KeepsRules}
+use Rattle.report.specs.Writing.{frontValues, frontWidths, tidyText, front, frame, writeOf, Valid, KeepsRules}
 use Rattle.rows.proofs.Outcomes.{and-both}
 use Rattle.report.proofs.Frames.{conforming-fine}
-use Rattle.report.proofs.Agree.{slots-agree}
+use Rattle.slots.proofs.Agree.{slots-agree}
 use Rattle.rows.proofs.Lengths.{frame-filled}
 use Rattle.report.proofs.Lengths.{record-filled}
 use Rattle.report.proofs.Shapes.{Shaped, frame-shaped}
@@ -35,8 +36,10 @@ use Rattle.report.proofs.Rows.{fits-all, front-total, front-fields}
 use Rattle.rows.proofs.Rows.{values-flat}
 use Rattle.rows.proofs.Fits.{in-below, holds-fit}
 use Rattle.rows.proofs.Flattened.{flat-same}
-use Rattle.report.proofs.Parts.{same-body, same-text, same-slots}
-use Rattle.report.proofs.Tidy.{tidy-is, frame-slots-tidy}
+use Rattle.report.proofs.Parts.{same-body, same-text}
+use Rattle.slots.proofs.Same.{same-slots}
+use Rattle.report.proofs.Tidy.{tidy-is}
+use Rattle.slots.proofs.Tidy.{frame-slots-tidy}
 use Rattle.report.proofs.Validity.{valid-keeps}
 use Rattle.report.proofs.Ends.{parity-lt, ended-lt, ended-front, ended-parity, ended-padding}
 use Rattle.report.proofs.ReadThenWritten.{valid-written}

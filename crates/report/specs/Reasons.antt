@@ -12,11 +12,12 @@ use Rattle.rows.specs.declared.slot.SlotKind.the-variants.{Nothing as NoSlots}
 use Rattle.report.specs.declared.record.Record.{Record}
 use Rattle.rows.specs.Layout.{slotCount}
 use Rattle.report.specs.Layout.{layout}
-use Rattle.report.specs.Records.{noSlot, bodyOf, values}
+use Rattle.slots.specs.Slots.{noSlot, unused}
+use Rattle.report.specs.Records.{bodyOf, values}
 use Rattle.rows.specs.Values.{valuesOf}
 use Rattle.report.specs.Reading.{preambles, categories}
 use Rattle.rows.specs.Kept.{In, Empty}
-use Rattle.report.specs.Writing.{unused, TextUnused}
+use Rattle.report.specs.Writing.{TextUnused}
 use Rattle.rows.specs.Faults.{Lowest, _or_, First, Question}
 
 -- ---- faults: x is the refusal of something that is wrong, whatever else is

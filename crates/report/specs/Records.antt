@@ -1,25 +1,23 @@
 -- The record of a frame (document 01, "The record"), and the values of a frame and of a record, in the order of the frame.
-use Prim.Native.Nat.{ℕ, _+_, _-_, _*_}
+use Prim.Native.Nat.{ℕ}
 use mathlib.Core.Bool.{cond}
-use mathlib.Core.List.{List, [], _∷_, _++_, map}
+use mathlib.Core.List.{List, [], _∷_, map}
 use lib.ListN.{replicate, take}
 use lib.Dec.{eqb}
 use Rattle.bits.specs.Frame.{fieldOf}
 use Rattle.report.specs.declared.record.Common.{Common}
 use Rattle.report.specs.declared.record.Body.{Body}
 use Rattle.report.specs.declared.record.Body.the-variants.{Nothing, Hypocenter, Intensity, Nankai, AshFall}
-use Rattle.report.specs.declared.record.Slot.{Slot}
-use Rattle.rows.specs.declared.slot.SlotKind.{SlotKind}
-use Rattle.rows.specs.declared.slot.SlotKind.the-variants.{Nothing as NoSlots, Prefectures, Places}
 use Rattle.report.specs.declared.record.Record.{Record}
-use Rattle.rows.specs.Layout.{common, slotCount, slotFirst, slotBits}
+use Rattle.rows.specs.Layout.{common, slotCount}
 use Rattle.report.specs.Layout.{layout}
 use Rattle.rows.specs.Verdict.{Values}
 use Rattle.hypocenter.specs.Hypocenter.{quakeValues, quakeOf}
-use Rattle.rows.specs.Values.{lastValues, each}
+use Rattle.rows.specs.Values.{lastValues}
 use Rattle.intensity.specs.Intensity.{shakingOf, shakingValues}
 use Rattle.nankai.specs.Nankai.{numbersOf, pageText, pageValues}
 use Rattle.ash_fall.specs.AshFall.{eruptionValues, eruptionOf}
+use Rattle.slots.specs.Slots.{slotValues, noSlot, slotsOf}
 
 -- ---- from a frame
 
@@ -41,19 +39,6 @@ bodyBy s dc =
 
 abbrev pub bodyOf : List ℕ → Body
 bodyOf s = bodyBy s (fieldOf s 17 4)
-
-abbrev pub noSlot : Slot
-noSlot = record { hour = 0; strength = 0; place = 0 }
-
--- the slot at the bit a: "in category 3 each slot's hour is zero"
-abbrev pub slotOf : SlotKind → List ℕ → ℕ → Slot
-slotOf NoSlots s a = noSlot
-slotOf Prefectures s a = record { hour = 0; strength = fieldOf s a 3; place = fieldOf s (a + 3) 6 }
-slotOf Places s a = record { hour = fieldOf s a 3; strength = fieldOf s (a + 3) 3; place = fieldOf s (a + 6) 23 }
-
--- the category's slots, and empty ones up to sixteen
-unfoldable pub slotsOf : List ℕ → SlotKind → List Slot
-slotsOf s k = each (slotCount k) (λ i. slotOf k s (slotFirst k + slotBits k * i)) ++ replicate (16 - slotCount k) noSlot
 
 unfoldable pub textOf : List ℕ → Body → List ℕ
 textOf s (Nankai p) = pageText s
@@ -100,11 +85,6 @@ bodyValues (Hypocenter q) text = quakeValues q
 bodyValues (Intensity t) text = shakingValues t
 bodyValues (Nankai p) text = pageValues p text
 bodyValues (AshFall e) text = eruptionValues e
-
-abbrev pub slotValues : SlotKind → Slot → List ℕ
-slotValues NoSlots s = []
-slotValues Prefectures s = s .strength ∷ s .place ∷ []
-slotValues Places s = s .hour ∷ s .strength ∷ s .place ∷ []
 
 unfoldable pub values : Record → ℕ → ℕ → Values
 values r spare1 spare2 =

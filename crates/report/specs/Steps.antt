@@ -1,10 +1,5 @@
 -- Cited by private functions alone: what the fields of a category come to without its text, and one turn of the walk over
 -- slots.
-use Prim.Native.Nat.{ℕ}
-use mathlib.Core.Bool.{true, not, cond}
-use mathlib.Core.List.{List}
-use Rattle.rows.specs.declared.slot.SlotKind.{SlotKind}
-use Rattle.report.specs.declared.check.Run.{Run}
 use Rattle.report.specs.declared.record.Body.{Body}
 use Rattle.report.specs.declared.record.Body.the-variants.{Nothing, Hypocenter, Intensity, Nankai, AshFall}
 use Rattle.rows.specs.declared.refusal.Verdict.{Verdict}
@@ -13,10 +8,7 @@ use Rattle.hypocenter.specs.Hypocenter.{hypocenter, quakeValues}
 use Rattle.intensity.specs.Intensity.{intensity, shakingValues}
 use Rattle.nankai.specs.Nankai.{numbered, numberValues}
 use Rattle.ash_fall.specs.AshFall.{ashFall, eruptionValues}
-use Rattle.rows.specs.declared.refusal.Refusal.the-variants.{Gap}
-use Rattle.rows.specs.Refusals.{_then_, unless}
-use Rattle.rows.specs.Layout.{slotRows}
-use Rattle.rows.specs.Verdict.{empty, walk}
+use Rattle.rows.specs.Verdict.{walk}
 
 -- what is found in the fields of a category: "Text at 57: 18 bytes, any", so a page's text is not asked
 unfoldable pub bodyVerdict : Body → Verdict
@@ -25,9 +17,3 @@ bodyVerdict (Hypocenter q) = walk 0 (hypocenter .body) (quakeValues q)
 bodyVerdict (Intensity s) = walk 0 (intensity .body) (shakingValues s)
 bodyVerdict (Nankai p) = walk 0 numbered (numberValues p)
 bodyVerdict (AshFall e) = walk 0 (ashFall .body) (eruptionValues e)
-
--- what has been found among the slots so far, with one later slot more
-unfoldable pub laterRun : SlotKind → Run → ℕ → List ℕ → Run
-laterRun k run at v =
-    cond (empty v) (record { verdict = run .verdict; gap = true })
-    (record { verdict = run .verdict then unless (not (run .gap)) (Gap at) then walk 0 (slotRows k at) v; gap = run .gap })

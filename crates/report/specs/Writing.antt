@@ -1,9 +1,9 @@
 -- What writing a record answers, and the frame that it writes (document 01): "Writing: 1, 3, 7, 11, then 8 and 10 by lowest
 -- bit".
-use Prim.Native.Nat.{ℕ, zero, suc, _+_, _*_, _^_, _≤_, _<_}
+use Prim.Native.Nat.{ℕ, _+_, _*_, _^_, _≤_, _<_}
 use mathlib.Core.Path.{_≡_}
 use mathlib.Core.Bool.{Bool, true, false, _&&_}
-use mathlib.Core.List.{List, [], _∷_}
+use mathlib.Core.List.{List, _∷_}
 use lib.ListN.{length, getD}
 use lib.Dec.{eqb}
 use Rattle.bits.specs.Layout.{encode}
@@ -14,15 +14,14 @@ use Rattle.rows.specs.declared.refusal.Verdict.the-variants.{Fine, Refused}
 use Rattle.rows.specs.declared.refusal.Refusal.the-variants.{Length, Preamble, Category, Unused}
 use Rattle.report.specs.declared.record.Body.{Body}
 use Rattle.report.specs.declared.record.Body.the-variants.{Nothing, Hypocenter, Intensity, Nankai, AshFall}
-use Rattle.report.specs.declared.record.Slot.{Slot}
-use Rattle.rows.specs.declared.slot.SlotKind.{SlotKind}
-use Rattle.rows.specs.declared.slot.SlotKind.the-variants.{Nothing as NoSlots, Prefectures, Places}
+use Rattle.rows.specs.declared.slot.SlotKind.the-variants.{Nothing as NoSlots}
 use Rattle.report.specs.declared.record.Record.{Record}
 use Rattle.rows.specs.Refusals.{_then_, unless}
 use Rattle.rows.specs.Layout.{Layout, allRows, slotCount}
 use Rattle.report.specs.Layout.{layout}
 use Rattle.rows.specs.Verdict.{allowed, empty, verdict}
-use Rattle.report.specs.Records.{noSlot, values}
+use Rattle.slots.specs.Slots.{unused, tidySlots, noSlot}
+use Rattle.report.specs.Records.{values}
 use Rattle.report.specs.Reading.{preambles}
 use Rattle.rows.specs.Kept.{In, Empty, Holds}
 use Rattle.rows.specs.Values.{flat, widths}
@@ -36,18 +35,6 @@ known (Hypocenter q) = true
 known (Intensity t) = true
 known (Nankai p) = true
 known (AshFall e) = true
-
--- 11: what of a slot its category does not use
-abbrev pub unused : SlotKind → Slot → List ℕ
-unused NoSlots s = s .hour ∷ s .strength ∷ s .place ∷ []
-unused Prefectures s = s .hour ∷ []
-unused Places s = []
-
--- the first n slots have nothing in what the category does not use, and the others have nothing at all
-unfoldable pub tidySlots : SlotKind → ℕ → List Slot → Bool
-tidySlots k n [] = true
-tidySlots k zero (s ∷ ss) = empty (unused NoSlots s) && tidySlots k zero ss
-tidySlots k (suc n) (s ∷ ss) = empty (unused k s) && tidySlots k n ss
 
 -- text stands in category 4 alone
 unfoldable pub tidyText : Body → List ℕ → Bool

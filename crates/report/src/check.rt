@@ -2,24 +2,20 @@
 // a record when it is written. Questions are asked from the lowest bit up, and the first refusal is
 // the answer.
 ghost use mathlib.Core.Path.{_≡_};
-ghost use mathlib.Core.List.{map};
-ghost use Prim.Native.Nat.{_≤_};
-ghost use lib.ListN.{take};
 ghost use Rattle.rows.specs.Refusals.{_then_, unless};
 ghost use Rattle.report.specs.Layout.{layout};
-ghost use Rattle.rows.specs.Layout.{common, ending, slotRows, slotCount};
-ghost use Rattle.rows.specs.Verdict.{walk, slotsVerdict, verdict};
-ghost use Rattle.report.specs.Records.{headValues, slotValues, values};
+ghost use Rattle.rows.specs.Layout.{common, ending};
+ghost use Rattle.rows.specs.Verdict.{walk, verdict};
+ghost use Rattle.report.specs.Records.{headValues, values};
 ghost use Rattle.rows.specs.Values.{lastValues};
-ghost use Rattle.report.specs.Steps.{bodyVerdict, laterRun};
+ghost use Rattle.report.specs.Steps.{bodyVerdict};
 use crate::codes::is_classification;
 use crate::record::Body;
 use crate::record::Common;
 use crate::record::Record;
-use crate::record::Slot;
 use rows::refusal::Refusal;
 use rows::refusal::Verdict;
-use rows::slot::SlotKind;
+use slots::check::check_slots;
 
 // The fields of the category, from bit 53 on.
 fn body(found: Verdict, b: Body) -> Verdict
@@ -32,76 +28,6 @@ fn body(found: Verdict, b: Body) -> Verdict
         Body::Nankai(p) => p.check(found),
         Body::AshFall(e) => e.check(found),
     }
-}
-
-// The fields of a used slot.
-fn slot(found: Verdict, kind: SlotKind, at: u8, s: Slot) -> Verdict
-    requires { ⌜ at ≤ 240 ⌝ }
-    ensures { λ r. ⌜ r ≡ found then walk 0 (slotRows kind at) (slotValues kind s) ⌝ }
-{
-    match kind {
-        SlotKind::Nothing => found,
-        SlotKind::Prefectures => found
-            .within(at, s.strength as u32, 1, 7)
-            .within(at + 3, s.place, 1, 47),
-        SlotKind::Places => found
-            .within(at, s.hour as u32, 1, 6)
-            .within(at + 3, s.strength as u32, 1, 7)
-            .within(at + 6, s.place, 110000, 4799999),
-    }
-}
-
-// What has been found among the slots so far, and whether one of them was empty.
-struct Run {
-    verdict: Verdict,
-    gap: bool,
-}
-
-impl Run {
-    // One slot more behind the first. The gap is tested before the fields.
-    fn later(self, kind: SlotKind, at: u8, s: Slot) -> Run
-        requires { ⌜ at ≤ 240 ⌝ }
-        ensures { λ r. ⌜ r ≡ laterRun kind self at (slotValues kind s) ⌝ }
-    {
-        let found = self.verdict;
-        let gap = self.gap;
-        if s.empty(kind) {
-            return Run {
-                verdict: found,
-                gap: true,
-            };
-        }
-        Run {
-            verdict: slot(found.unless(!gap, Refusal::Gap(at)), kind, at, s),
-            gap: gap,
-        }
-    }
-}
-
-// The first slot is used; a later one may be empty.
-fn slots(found: Verdict, kind: SlotKind, slots: [Slot; 16]) -> Verdict
-    ensures { λ r. ⌜ r ≡ found then slotsVerdict kind (map (slotValues kind) (take (slotCount kind) slots)) ⌝ }
-{
-    let count = kind.count();
-    if count == 0 {
-        return found;
-    }
-    let bits = kind.bits();
-    let mut at = kind.first();
-    let first = slots[0];
-    let mut run = Run {
-        verdict: slot(found, kind, at, first),
-        gap: false,
-    };
-    let mut k = 1;
-    while k < count {
-        at += bits;
-        let s = slots[k];
-        let next = run.later(kind, at, s);
-        run = next;
-        k += 1;
-    }
-    run.verdict
 }
 
 // Bits 8 to 52.
@@ -136,6 +62,6 @@ pub fn check(r: Record, spare1: u64, spare2: u64) -> Verdict
     let all = r.slots;
     let head = common(Verdict::Fine, c, b, spare1);
     let fields = body(head, b);
-    let places = slots(fields, b.slot_kind(), all);
+    let places = check_slots(fields, b.slot_kind(), all);
     last(places, b, spare2, r.reserved)
 }

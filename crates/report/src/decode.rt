@@ -1,17 +1,16 @@
 // A frame's bits as a record. Nothing is refused here: any bits give a record, and the rules are
 // asked of it afterwards.
 ghost use mathlib.Core.Path.{_≡_};
-ghost use Prim.Native.Nat.{_≤_};
-ghost use Rattle.report.specs.Records.{commonOf, bodyOf, slotOf, slotsOf, textOf, recordOf, zeros};
+ghost use Rattle.report.specs.Records.{commonOf, bodyOf, textOf, recordOf, zeros};
 use crate::record::Body;
 use crate::record::Common;
 use crate::record::Record;
-use crate::record::Slot;
 use ash_fall::Eruption;
 use hypocenter::Quake;
 use intensity::Shaking;
 use nankai::PageNumbers;
-use rows::slot::SlotKind;
+use slots::decode::slots_of;
+use slots::slot::Slot;
 
 fn common_of(f: [u8; 32]) -> Common
     ensures { λ r. ⌜ r ≡ commonOf f ⌝ }
@@ -36,51 +35,6 @@ fn body_of(f: [u8; 32]) -> Body
         9 => Body::AshFall(Eruption::of(f)),
         _ => Body::Nothing,
     }
-}
-
-fn slot_at(f: [u8; 32], kind: SlotKind, at: usize) -> Slot
-    requires { ⌜ at ≤ 220 ⌝ }
-    ensures { λ r. ⌜ r ≡ slotOf kind f at ⌝ }
-{
-    match kind {
-        SlotKind::Nothing => Slot {
-            hour: 0,
-            strength: 0,
-            place: 0,
-        },
-        SlotKind::Prefectures => Slot {
-            hour: 0,
-            strength: bits::field8(f, at, 3),
-            place: bits::field32(f, at + 3, 6),
-        },
-        SlotKind::Places => Slot {
-            hour: bits::field8(f, at, 3),
-            strength: bits::field8(f, at + 3, 3),
-            place: bits::field32(f, at + 6, 23),
-        },
-    }
-}
-
-fn slots_of(f: [u8; 32], kind: SlotKind) -> [Slot; 16]
-    ensures { λ r. ⌜ r ≡ slotsOf f kind ⌝ }
-{
-    let none = Slot {
-        hour: 0,
-        strength: 0,
-        place: 0,
-    };
-    let mut slots = [none; 16];
-    let count = kind.count();
-    let bits = kind.bits() as usize;
-    let mut at = kind.first() as usize;
-    let mut k = 0;
-    while k < count {
-        let s = slot_at(f, kind, at);
-        slots[k] = s;
-        at += bits;
-        k += 1;
-    }
-    slots
 }
 
 fn text_of(f: [u8; 32], body: Body) -> [u8; 18]

@@ -2,20 +2,16 @@
 // Nothing is refused here; what may be written is asked before.
 ghost use mathlib.Core.Path.{_≡_};
 ghost use mathlib.Core.Bool.{true};
-ghost use mathlib.Core.List.{map};
-ghost use Prim.Native.Nat.{_≤_};
-ghost use lib.ListN.{take};
 ghost use Rattle.bits.specs.Frame.{laid, bytesOf};
 ghost use Rattle.report.specs.Layout.{layout};
-ghost use Rattle.rows.specs.Layout.{common, ending, slotRows, slotsRows, slotCount, slotFirst};
-ghost use Rattle.report.specs.Records.{headValues, bodyValues, slotValues};
-ghost use Rattle.rows.specs.Values.{lastValues, widths, joined};
+ghost use Rattle.rows.specs.Layout.{common, ending};
+ghost use Rattle.report.specs.Records.{headValues, bodyValues};
+ghost use Rattle.rows.specs.Values.{lastValues, widths};
 ghost use Rattle.report.specs.Writing.{known, frontWidths, frontValues, frame, Valid};
 use crate::record::Body;
 use crate::record::Common;
 use crate::record::Record;
-use crate::record::Slot;
-use rows::slot::SlotKind;
+use slots::encode::lay_slots;
 
 // Bits 8 to 52.
 fn lay_common(f: [u8; 32], c: Common, b: Body) -> [u8; 32]
@@ -43,42 +39,6 @@ fn lay_body(f: [u8; 32], b: Body, text: [u8; 18]) -> [u8; 32]
         Body::Nankai(p) => p.lay(f, text),
         Body::AshFall(e) => e.lay(f),
     }
-}
-
-fn lay_slot(f: [u8; 32], kind: SlotKind, at: usize, s: Slot) -> [u8; 32]
-    requires { ⌜ at ≤ 220 ⌝ }
-    ensures { λ r. ⌜ r ≡ laid f at (widths (slotRows kind at)) (slotValues kind s) ⌝ }
-{
-    match kind {
-        SlotKind::Nothing => f,
-        SlotKind::Prefectures => {
-            let strength = bits::put(f, at, 3, s.strength as u64);
-            bits::put(strength, at + 3, 6, s.place as u64)
-        }
-        SlotKind::Places => {
-            let hour = bits::put(f, at, 3, s.hour as u64);
-            let strength = bits::put(hour, at + 3, 3, s.strength as u64);
-            bits::put(strength, at + 6, 23, s.place as u64)
-        }
-    }
-}
-
-fn lay_slots(f: [u8; 32], kind: SlotKind, slots: [Slot; 16]) -> [u8; 32]
-    ensures { λ r. ⌜ r ≡ laid f (slotFirst kind) (widths (slotsRows kind (slotCount kind) (slotFirst kind))) (joined (map (slotValues kind) (take (slotCount kind) slots))) ⌝ }
-{
-    let count = kind.count();
-    let bits = kind.bits() as usize;
-    let mut next = f;
-    let mut at = kind.first() as usize;
-    let mut k = 0;
-    while k < count {
-        let s = slots[k];
-        let more = lay_slot(next, kind, at, s);
-        next = more;
-        at += bits;
-        k += 1;
-    }
-    next
 }
 
 // The category's spare, the version and Reserved.

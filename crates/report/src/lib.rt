@@ -2,7 +2,6 @@
 // Trough) and 9 (ash fall): from lent bytes to a record or the one refusal that fits. Gathering the
 // pages of a bulletin and listing files is for the crates above.
 pub mod record; // what a frame says
-pub mod meaning; // what the numbers in it say
 pub mod decode; // bits as a record
 pub mod codes; // which values a field may hold
 pub mod check; // the rules, on values

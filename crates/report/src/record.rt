@@ -2,13 +2,14 @@
 // record; which of them can be written is for the check.
 ghost use mathlib.Core.Path.{_≡_};
 ghost use Rattle.report.specs.Layout.{layout};
-ghost use Rattle.rows.specs.Verdict.{empty};
-ghost use Rattle.report.specs.Records.{slotValues};
+ghost use Rattle.report.specs.Meaning.{usedOf};
 use ash_fall::Eruption;
 use hypocenter::Quake;
 use intensity::Shaking;
 use nankai::PageNumbers;
 use rows::slot::SlotKind;
+use slots::silence::used;
+use slots::slot::Slot;
 
 // The fields that every category has.
 pub struct Common {
@@ -28,14 +29,6 @@ pub enum Body {
     Intensity(Shaking),
     Nankai(PageNumbers),
     AshFall(Eruption),
-}
-
-// A place that shakes (category 3: no hour, `strength` is the intensity, `place` the prefecture) or
-// on which ash falls (category 9).
-pub struct Slot {
-    pub hour: u8,
-    pub strength: u8,
-    pub place: u32,
 }
 
 // A report. What its category does not use is zero.
@@ -89,20 +82,13 @@ impl Body {
     }
 }
 
-impl Slot {
-    // All its bits are zero: "an empty slot is never named".
-    pub(crate) fn empty(self, kind: SlotKind) -> bool
-        ensures { λ r. ⌜ r ≡ empty (slotValues kind self) ⌝ }
+impl Record {
+    // How many slots are used, 0 in a category without slots: whoever names places names this many.
+    pub fn slots_used(self) -> usize
+        ensures { λ r. ⌜ r ≡ usedOf self ⌝ }
     {
-        match kind {
-            SlotKind::Nothing => true,
-            SlotKind::Prefectures => self.strength == 0 && self.place == 0,
-            SlotKind::Places => {
-                if self.hour != 0 {
-                    return false;
-                }
-                self.strength == 0 && self.place == 0
-            }
-        }
+        let body = self.body;
+        let slots = self.slots;
+        used(body.slot_kind(), slots)
     }
 }

@@ -2,18 +2,16 @@
 ghost use mathlib.Core.Path.{_≡_};
 ghost use lib.ListN.{length};
 ghost use Rattle.rows.specs.Refusals.{_then_};
-ghost use Rattle.rows.specs.Layout.{slotCount};
 ghost use Rattle.rows.specs.Verdict.{empty};
-ghost use Rattle.report.specs.Writing.{known, unused, tidySlots, tidyText, tidy, writeAnswer, writeOf};
+ghost use Rattle.report.specs.Writing.{known, tidyText, tidy, writeAnswer, writeOf};
 use crate::check::check;
 use crate::codes::is_preamble;
 use crate::encode::encode;
 use crate::record::Body;
 use crate::record::Record;
-use crate::record::Slot;
 use rows::refusal::Refusal;
 use rows::refusal::Verdict;
-use rows::slot::SlotKind;
+use slots::silence::are_tidy;
 
 impl Body {
     fn is_known(self) -> bool
@@ -27,33 +25,6 @@ impl Body {
             Body::AshFall(_) => true,
         }
     }
-}
-
-impl Slot {
-    // Nothing stands in what its category does not use.
-    fn is_tidy(self, kind: SlotKind) -> bool
-        ensures { λ r. ⌜ r ≡ empty (unused kind self) ⌝ }
-    {
-        match kind {
-            SlotKind::Nothing => self.empty(SlotKind::Places),
-            SlotKind::Prefectures => self.hour == 0,
-            SlotKind::Places => true,
-        }
-    }
-}
-
-fn are_tidy(kind: SlotKind, slots: [Slot; 16]) -> bool
-    ensures { λ r. ⌜ r ≡ tidySlots kind (slotCount kind) slots ⌝ }
-{
-    let mut i = 0;
-    while i < 16 {
-        let s = slots[i];
-        if !s.is_tidy(kind.of_slot(i)) {
-            return false;
-        }
-        i += 1;
-    }
-    true
 }
 
 fn is_blank(text: [u8; 18]) -> bool

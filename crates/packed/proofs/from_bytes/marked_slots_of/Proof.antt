@@ -3,7 +3,7 @@ use mathlib.Core.Path.{ap, _∙_}
 use mathlib.Core.Bool.{true, false}
 use mathlib.Core.List.{List}
 use lib.ListN.{set}
-use Rattle.report.specs.declared.record.Slot.{Slot}
+use Rattle.slots.specs.declared.slot.Slot.{Slot}
 use Rattle.packed.specs.Unpacked.{slotsFrom, misplaced}
 use Rattle.packed.proofs.Stray.{marked-by}
 use borrow.Author.Needs.{needs}

@@ -4,9 +4,9 @@ use mathlib.Core.List.{List, _++_}
 use Prim.Native.Nat.{ℕ, _+_, _-_, _*_, _≤_}
 use native.Mathlib.Omega.{arith}
 use lib.ListN.{length, replicate, length-set}
-use Rattle.report.specs.declared.record.Slot.{Slot}
+use Rattle.slots.specs.declared.slot.Slot.{Slot}
 use Rattle.rows.specs.Values.{each}
-use Rattle.report.specs.Records.{noSlot}
+use Rattle.slots.specs.Slots.{noSlot}
 use Rattle.rows.proofs.Filling.{fill, filled}
 use Rattle.packed.specs.Unpacked.{slotAt}
 use Rattle.packed.proofs.from_bytes.slots_of.Statement.{statement}

@@ -20,8 +20,8 @@ body-requires c κs = search needs
 slot-kind-requires : tie.Need-slot-kind-requires
 slot-kind-requires c κs = search needs
 
-slots-requires : tie.Need-slots-requires
-slots-requires c κs = search needs
+check-slots-requires : tie.Need-check-slots-requires
+check-slots-requires c κs = search needs
 
 last-requires : tie.Need-last-requires
 last-requires c κs = search needs
@@ -36,7 +36,7 @@ returns c =
     let b : Bytes text = λ i. elem-fits-field w8 w8 text _ i (good .1 .1) tt .fits in
     simp (
       c .last .ensures,
-      c .before .slots .ensures,
+      c .before .check-slots .ensures,
       c .before .before .slot-kind .ensures,
       c .before .before .before .body .ensures,
       body-walk (s .args .r .body) text b l,
@@ -52,6 +52,6 @@ check-spec =
     common-requires
     body-requires
     slot-kind-requires
-    slots-requires
+    check-slots-requires
     last-requires
     returns)

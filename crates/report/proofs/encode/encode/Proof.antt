@@ -3,7 +3,7 @@ use Prim.Native.Nat.{ℕ}
 use Rattle.bits.specs.Frame.{laid}
 use Rattle.report.proofs.Encoding.{encoded, valid-known}
 use Rattle.report.proofs.Shapes.{Shaped}
-use Rattle.report.proofs.Used.{unmapped}
+use Rattle.slots.proofs.Used.{unmapped}
 use Rattle.report.specs.Layout.{layout}
 use Rattle.report.specs.Writing.{frontWidths, frontValues}
 use borrow.Author.Needs.{needs, length-unmapped}

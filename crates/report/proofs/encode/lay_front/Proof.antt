@@ -2,9 +2,9 @@
 use Rattle.bits.specs.Frame.{laid}
 use Rattle.report.proofs.Encoding.{all-laid}
 use Rattle.report.proofs.Shapes.{Shaped}
-use Rattle.report.proofs.Used.{unmapped}
+use Rattle.slots.proofs.Used.{unmapped}
 use Rattle.rows.specs.Layout.{slotsRows, slotCount, slotFirst}
-use Rattle.report.specs.Records.{slotValues}
+use Rattle.slots.specs.Slots.{slotValues}
 use Rattle.rows.specs.Values.{widths, joined}
 use Rattle.rows.specs.declared.slot.SlotKind.{SlotKind}
 use borrow.Author.Needs.{needs, length-unmapped}

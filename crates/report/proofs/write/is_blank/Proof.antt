@@ -1,6 +1,6 @@
 -- `report::write::is_blank` meets its contract: what is left decides. Assumes nothing.
 use Prim.Native.Nat.{_-_, _≤_}
-use Rattle.report.proofs.TidyTurns.{blank-so-far, not-blank, all-blank}
+use Rattle.report.proofs.Blank.{blank-so-far, not-blank, all-blank}
 use Rattle.rows.specs.Verdict.{empty}
 use lib.ListN.{length, drop}
 use mathlib.Core.Path.{_≡_, refl, sym, _∙_}

@@ -1,7 +1,8 @@
 -- `report::write::is_tidy` meets its contract. Assumes nothing.
 use Rattle.report.specs.Layout.{layout}
 use Rattle.rows.specs.Layout.{slotCount}
-use Rattle.report.specs.Writing.{tidySlots, tidyText}
+use Rattle.slots.specs.Slots.{tidySlots}
+use Rattle.report.specs.Writing.{tidyText}
 use Rattle.rows.specs.declared.slot.SlotKind.{SlotKind}
 use borrow.Author.Needs.{needs}
 use mathlib.Core.Bool.{Bool, _&&_}

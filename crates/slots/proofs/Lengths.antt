@@ -1,0 +1,31 @@
+-- Sixteen slots, and a value for each row of a slot.
+use mathlib.Core.Path.{_≡_, refl, _∙_}
+use Prim.Native.Nat.{ℕ, _+_}
+use mathlib.Core.List.{List, [], _∷_, map}
+use lib.ListN.{length, take, length-map}
+use lib.Seq.{length-take-le}
+use Rattle.slots.specs.declared.slot.Slot.{Slot}
+use Rattle.rows.specs.declared.slot.SlotKind.{SlotKind}
+use Rattle.rows.specs.declared.slot.SlotKind.the-variants.{Nothing as NoSlots, Prefectures, Places}
+use Rattle.rows.specs.Layout.{slotCount, slotBits, slotRows}
+use Rattle.slots.specs.Slots.{slotValues, slotsOf}
+use Rattle.slots.proofs.Turns.{at-most-sixteen}
+use Rattle.rows.proofs.Lengths.{SlotsFilled}
+
+pub slot-filled : (k : SlotKind) (at : ℕ) (s : Slot) → length (slotValues k s) ≡ length (slotRows k at)
+slot-filled NoSlots at s = refl
+slot-filled Prefectures at s = refl
+slot-filled Places at s = refl
+
+pub map-filled : (k : SlotKind) (at : ℕ) (ss : List Slot) → SlotsFilled k at (map (slotValues k) ss)
+map-filled k at [] = tt
+map-filled k at (s ∷ ss) = (slot-filled k at s, map-filled k (at + slotBits k) ss)
+
+pub slots-counted : (k : SlotKind) (ss : List Slot) → length ss ≡ 16 → length (map (slotValues k) (take (slotCount k) ss)) ≡ slotCount k
+slots-counted k ss n = length-map (take (slotCount k) ss) (slotValues k) ∙ length-take-le (slotCount k) ss (rw n (at-most-sixteen k))
+
+pub slots-sixteen : (s : List ℕ) (k : SlotKind) → length (slotsOf s k) ≡ 16
+unfolding slotsOf
+slots-sixteen s NoSlots = refl
+slots-sixteen s Prefectures = refl
+slots-sixteen s Places = refl

@@ -1,0 +1,8 @@
+pub mod Turns
+pub mod TidyTurns
+pub mod Tidy
+pub mod Laying
+pub mod Same
+pub mod Agree
+pub mod Lengths
+pub mod Used
