@@ -1,9 +1,9 @@
 // Category 9, ash fall: the fields from bit 53 to bit 82. Its places are slots.
 ghost use mathlib.Core.Path.{_≡_};
 ghost use Rattle.bits.specs.Frame.{laid};
-ghost use Rattle.rows.specs.Refusals.{_then_};
+ghost use Rattle.rows.specs.Runs.Questions.{_then_};
 ghost use Rattle.rows.specs.Values.{widths};
-ghost use Rattle.rows.specs.Verdict.{walk};
+ghost use Rattle.rows.specs.Runs.Verdict.{walk};
 ghost use Rattle.ash_fall.specs.AshFall.{ashFall, eruptionOf, eruptionValues};
 
 pub mod meaning; // what a place says

@@ -23,9 +23,9 @@ use Rattle.nankai.specs.Nankai.{page}
 use Rattle.rows.specs.Layout.{bytes}
 use Rattle.report.specs.Records.{values, bodyValues}
 use Rattle.rows.specs.Kept.{Kept}
-use Rattle.report.specs.Writing.{writeAnswer, Valid}
+use Rattle.report.specs.Runs.Writing.{writeAnswer, Valid}
 use Rattle.rows.proofs.Outcomes.{unless-fine, unless-refused}
-use Rattle.report.proofs.Shapes.{Shaped}
+use Rattle.report.proofs.Tables.Shapes.{Shaped}
 use Rattle.report.proofs.Claims.{valid-keeps-rules}
 use Rattle.report.proofs.record.Body as B
 use Rattle.bulletin.specs.declared.name.Name.{Name}

@@ -14,7 +14,7 @@ use Rattle.nankai.specs.declared.PageNumbers.{Page as Numbers}
 use Rattle.report.specs.declared.record.Body.the-variants.{Nankai}
 use Rattle.rows.specs.declared.refusal.Refusal.{Refusal}
 use Rattle.rows.specs.declared.refusal.Refusal.the-variants.{Unsound}
-use Rattle.report.specs.Writing.{writeAnswer, Valid}
+use Rattle.report.specs.Runs.Writing.{writeAnswer, Valid}
 use Rattle.rows.specs.declared.refusal.Verdict.{Verdict}
 use Rattle.rows.specs.declared.refusal.Verdict.the-variants.{Fine, Refused}
 use Rattle.bulletin.specs.declared.page.Page.{Page}

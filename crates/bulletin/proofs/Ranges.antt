@@ -14,7 +14,7 @@ use Rattle.rows.specs.Faults.{Lowest}
 use Rattle.rows.proofs.Judged.{turn-place}
 use Rattle.rows.proofs.Outcomes.{not-both, false-not-true}
 use Rattle.rows.proofs.JudgedFrames.{JudgesAll}
-use Rattle.report.proofs.Validity.{judged-record}
+use Rattle.report.proofs.Writing.Validity.{judged-record}
 use Rattle.bulletin.specs.declared.name.Name.{Name}
 use Rattle.bulletin.specs.declared.store.Store.{Store}
 use Rattle.bulletin.specs.Names.{firstPage, nameVerdict, isFine, nameInRange}

@@ -10,7 +10,7 @@ use Rattle.rows.specs.declared.refusal.Verdict.the-variants.{Fine, Refused}
 use Rattle.nankai.specs.Nankai.{nankai}
 use Rattle.slots.specs.Slots.{noSlot}
 use Rattle.report.specs.Records.{values}
-use Rattle.rows.specs.Verdict.{verdict}
+use Rattle.rows.specs.Runs.Verdict.{verdict}
 use Rattle.bulletin.specs.declared.name.Name.{Name}
 
 abbrev pub zeroName : Name

@@ -2,7 +2,7 @@
 use Rattle.rows.specs.declared.refusal.Verdict.{Verdict}
 use Rattle.rows.specs.declared.refusal.Verdict.the-variants.{Fine, Refused as Refuses}
 use Rattle.rows.specs.declared.refusal.Refusal.the-variants.{Unsound}
-use Rattle.rows.specs.Refusals.{unless}
+use Rattle.rows.specs.Runs.Questions.{unless}
 use Rattle.bulletin.specs.declared.store.Store.{Store}
 use Rattle.bulletin.specs.declared.take.Taken.the-variants.{Same, Refused}
 use Rattle.bulletin.specs.declared.take.Taking.{Taking}

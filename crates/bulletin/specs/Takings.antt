@@ -12,7 +12,7 @@ use Rattle.nankai.specs.declared.PageNumbers.{Page as Numbers}
 use Rattle.rows.specs.declared.refusal.Verdict.{Verdict}
 use Rattle.rows.specs.declared.refusal.Verdict.the-variants.{Fine, Refused as Refuses}
 use Rattle.rows.specs.declared.refusal.Refusal.the-variants.{NoPage, OtherBulletin, Unsound}
-use Rattle.report.specs.Writing.{writeAnswer}
+use Rattle.report.specs.Runs.Writing.{writeAnswer}
 use Rattle.bulletin.specs.declared.page.Page.{Page}
 use Rattle.bulletin.specs.declared.name.Name.{Name}
 use Rattle.bulletin.specs.declared.store.Store.{Store}

@@ -1,7 +1,7 @@
 // Taking a record into a store.
 ghost use mathlib.Core.Path.{_≡_};
 ghost use Prim.Native.Nat.{_-_, _≤_};
-ghost use Rattle.report.specs.Writing.{writeAnswer};
+ghost use Rattle.report.specs.Runs.Writing.{writeAnswer};
 ghost use Rattle.bulletin.specs.Takings.{told, belongs, putPage, takeOf};
 ghost use Rattle.bulletin.specs.Steps.{soundness, found, refusing};
 use crate::name::Name;

@@ -16,7 +16,7 @@ use Rattle.nankai.specs.Nankai.{page}
 use Rattle.slots.specs.Slots.{noSlot}
 use Rattle.report.specs.Records.{values, bodyValues}
 use Rattle.rows.specs.Kept.{Kept}
-use Rattle.report.specs.Writing.{KeepsRules}
+use Rattle.report.specs.Rules.{KeepsRules}
 use Rattle.report.proofs.Claims.{valid-keeps-rules, keeping-rules-is-valid}
 use Rattle.bulletin.specs.declared.name.Name.{Name}
 use Rattle.bulletin.proofs.Marks.{Text}

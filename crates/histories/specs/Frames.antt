@@ -6,7 +6,7 @@ use Prim.Native.Nat.{ℕ, _-_}
 use lib.ListN.{length}
 use Rattle.report.specs.declared.record.Body.the-variants.{Nankai}
 use Rattle.report.specs.declared.record.Record.{Record}
-use Rattle.report.specs.Writing.{Valid}
+use Rattle.report.specs.Runs.Writing.{Valid}
 use Rattle.bulletin.specs.declared.page.Page.{Page}
 use Rattle.bulletin.specs.declared.name.Name.{Name}
 use Rattle.bulletin.specs.declared.store.Store.{Store}

@@ -12,7 +12,7 @@ use Rattle.hypocenter.specs.declared.meaning.Depth.the-variants.{Kilomet
 use Rattle.hypocenter.specs.declared.meaning.Magnitude.{Magnitude}
 use Rattle.hypocenter.specs.declared.meaning.Magnitude.the-variants.{InRange, UnknownAboveEight, Unknown as NoMagnitude, OutOfRange as NotAMagnitude}
 use Rattle.rows.specs.Layout.{Span, _to_}
-use Rattle.rows.specs.Verdict.{allowed}
+use Rattle.rows.specs.Runs.Verdict.{allowed}
 use Rattle.hypocenter.specs.Hypocenter.{depthOf, magnitudeOf}
 use Rattle.rows.proofs.Outcomes.{false-not-true}
 use Rattle.rows.proofs.Spans.{in-span, span-in, in-allowed, not-allowed}

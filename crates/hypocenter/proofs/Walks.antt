@@ -5,10 +5,10 @@ use mathlib.Core.List.{[], _∷_}
 use lib.Dec.{leb}
 use Rattle.rows.specs.declared.refusal.Refusal.the-variants.{Range}
 use Rattle.hypocenter.specs.declared.Quake.{Quake}
-use Rattle.rows.specs.Refusals.{_then_, unless}
+use Rattle.rows.specs.Runs.Questions.{_then_, unless}
 use Rattle.rows.specs.Layout.{_to_, time}
 use Rattle.hypocenter.specs.Hypocenter.{angle, depth, magnitude, hypocenter, angleValues, quakeValues}
-use Rattle.rows.specs.Verdict.{allowed, judge, walk}
+use Rattle.rows.specs.Runs.Verdict.{allowed, judge, walk}
 use Rattle.rows.specs.Values.{timeValues}
 use Rattle.rows.proofs.Outcomes.{then-assoc, fine-then}
 use Rattle.rows.proofs.Spans.{allowed-one}

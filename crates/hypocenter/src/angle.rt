@@ -3,8 +3,8 @@ ghost use mathlib.Core.Path.{_≡_};
 ghost use mathlib.Core.List.{_∷_, []};
 ghost use Prim.Native.Nat.{_≤_};
 ghost use Rattle.bits.specs.Frame.{laid};
-ghost use Rattle.rows.specs.Refusals.{_then_};
-ghost use Rattle.rows.specs.Verdict.{walk};
+ghost use Rattle.rows.specs.Runs.Questions.{_then_};
+ghost use Rattle.rows.specs.Runs.Verdict.{walk};
 ghost use Rattle.hypocenter.specs.Hypocenter.{angle, angleOf, angleValues};
 use rows::refusal::Verdict;
 

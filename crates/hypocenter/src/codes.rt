@@ -2,7 +2,7 @@
 ghost use mathlib.Core.List.{_∷_, []};
 ghost use mathlib.Core.Path.{_≡_};
 ghost use Rattle.rows.specs.Layout.{_to_};
-ghost use Rattle.rows.specs.Verdict.{allowed};
+ghost use Rattle.rows.specs.Runs.Verdict.{allowed};
 use crate::meaning::Depth;
 use crate::meaning::Magnitude;
 

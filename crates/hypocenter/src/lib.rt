@@ -1,9 +1,9 @@
 // Category 2, hypocenter: the fields from bit 53 to bit 162.
 ghost use mathlib.Core.Path.{_≡_};
 ghost use Rattle.bits.specs.Frame.{laid};
-ghost use Rattle.rows.specs.Refusals.{_then_};
+ghost use Rattle.rows.specs.Runs.Questions.{_then_};
 ghost use Rattle.rows.specs.Values.{widths};
-ghost use Rattle.rows.specs.Verdict.{walk};
+ghost use Rattle.rows.specs.Runs.Verdict.{walk};
 ghost use Rattle.hypocenter.specs.Hypocenter.{hypocenter, quakeOf, quakeValues};
 
 pub mod meaning; // what the numbers say

@@ -8,7 +8,7 @@ use borrow.Author.Tests.{eq-eqb}
 use Rattle.rows.specs.declared.refusal.Verdict.{Verdict}
 use Rattle.report.specs.declared.record.Record.{Record}
 use Rattle.rows.specs.Refusals.{plain, answers}
-use Rattle.report.specs.Writing.{writeAnswer, writeOf}
+use Rattle.report.specs.Runs.Writing.{writeAnswer, writeOf}
 use Rattle.packed.specs.Unpacked.{unpacked, recordFrom}
 use Rattle.inserter.specs.Answers.{Left, word, left, writeFrom}
 

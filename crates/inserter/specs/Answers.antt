@@ -10,8 +10,8 @@ use Rattle.rows.specs.declared.refusal.Verdict.the-variants.{Fine, Refused}
 use Rattle.report.specs.declared.record.Record.{Record}
 use Rattle.report.specs.declared.read.Reading.{Reading}
 use Rattle.rows.specs.Refusals.{Said, plain, says, answers}
-use Rattle.report.specs.Reading.{readOf}
-use Rattle.report.specs.Writing.{writeAnswer, writeOf}
+use Rattle.report.specs.Runs.Reading.{readOf}
+use Rattle.report.specs.Runs.Writing.{writeAnswer, writeOf}
 use Rattle.line.specs.Lines.{lineReading, lineAnswer, lineInto}
 use Rattle.bulletin.specs.declared.store.Opening.{Opening}
 use Rattle.bulletin.specs.declared.take.Taken.{Taken}

@@ -1,9 +1,9 @@
 // Category 3, seismic intensity: the fields from bit 53 to bit 68. The prefectures that shake are slots.
 ghost use mathlib.Core.Path.{_≡_};
 ghost use Rattle.bits.specs.Frame.{laid};
-ghost use Rattle.rows.specs.Refusals.{_then_};
+ghost use Rattle.rows.specs.Runs.Questions.{_then_};
 ghost use Rattle.rows.specs.Values.{widths};
-ghost use Rattle.rows.specs.Verdict.{walk};
+ghost use Rattle.rows.specs.Runs.Verdict.{walk};
 ghost use Rattle.intensity.specs.Intensity.{intensity, shakingOf, shakingValues};
 use rows::refusal::Verdict;
 use rows::time::Time;

@@ -10,9 +10,9 @@ use Rattle.rows.specs.declared.refusal.Refusal.{Refusal}
 use Rattle.rows.specs.declared.refusal.Refusal.the-variants.{Line}
 use Rattle.report.specs.declared.record.Record.{Record}
 use Rattle.report.specs.Records.{zeros}
-use Rattle.report.specs.Reading.{readOf}
-use Rattle.report.specs.Writing.{frame, Valid}
-use Rattle.report.proofs.Shapes.{Shaped}
+use Rattle.report.specs.Runs.Reading.{readOf}
+use Rattle.report.specs.Runs.Writing.{frame, Valid}
+use Rattle.report.proofs.Tables.Shapes.{Shaped}
 use Rattle.line.specs.Lines.{worth, capitals, isLine, frameOfLine, lineReading, lineOf}
 use Rattle.line.proofs.There as There
 use Rattle.line.proofs.Places as Places

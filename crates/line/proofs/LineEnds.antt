@@ -13,9 +13,9 @@ use Rattle.rows.specs.declared.refusal.Refusal.{Refusal}
 use Rattle.rows.specs.declared.refusal.Refusal.the-variants.{Length, Padding, Short, Line}
 use Rattle.report.specs.declared.record.Record.{Record}
 use Rattle.report.specs.declared.read.Reading.{Reading}
-use Rattle.rows.specs.Refusals.{_then_, unless}
+use Rattle.rows.specs.Runs.Questions.{_then_, unless}
 use Rattle.report.specs.Records.{zeros}
-use Rattle.report.specs.Reading.{reading, readOf}
+use Rattle.report.specs.Runs.Reading.{reading, readOf}
 use Rattle.rows.proofs.Outcomes.{not-both}
 use Rattle.line.specs.declared.from_line.Framing.{Framing}
 use Rattle.line.specs.Lines.{isLine, frameOfLine, noLine, framing, lineReading, lineOf, lineAnswer, lineInto}

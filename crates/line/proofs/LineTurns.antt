@@ -9,7 +9,7 @@ use lib.ListN.{length, getD, drop, take, set, length-set, drop-of-length-le, Lis
 use lib.Seq.{drop-cons}
 use borrow.Author.Tests.{eq-eqb, ne-eqb}
 use Rattle.bits.proofs.Turns.{copy-more, copied}
-use Rattle.rows.specs.Verdict.{allowed}
+use Rattle.rows.specs.Runs.Verdict.{allowed}
 use Rattle.rows.specs.declared.refusal.Verdict.the-variants.{Fine}
 use Rattle.line.specs.Lines.{digits, worth, allDigits, isLine, frameOfLine, noLine, framing}
 use Rattle.line.proofs.Worths.{marks, a-digit}

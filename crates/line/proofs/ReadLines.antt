@@ -14,9 +14,9 @@ use Rattle.report.specs.declared.record.Record.{Record}
 use Rattle.report.specs.declared.read.Reading.{Reading}
 use Rattle.rows.specs.Refusals.{answers}
 use Rattle.report.specs.Records.{recordOf, zeros}
-use Rattle.report.specs.Reading.{readAnswer, reading, readOf}
-use Rattle.report.specs.Writing.{frame, Valid}
-use Rattle.report.proofs.Shapes.{Shaped}
+use Rattle.report.specs.Runs.Reading.{readAnswer, reading, readOf}
+use Rattle.report.specs.Runs.Writing.{frame, Valid}
+use Rattle.report.proofs.Tables.Shapes.{Shaped}
 use Rattle.report.proofs.Claims.{answers-are-0-to-10, a-refused-reading-gives-zeros, valid-is-written, read-again-is-the-record, written-frames-conform, written-frames-are-bytes}
 use Rattle.line.specs.Lines.{isLine, frameOfLine, lineReading, lineOf, capitals}
 use Rattle.line.proofs.There.{is-line, frame-back, same-frame, same-line}

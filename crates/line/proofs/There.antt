@@ -8,7 +8,7 @@ use lib.Arith.{digits-div, digits-mod}
 use lib.ListN.{length, getD, take, length-map}
 use borrow.Author.Tests.{eq-eqb, eqb-true}
 use Rattle.bits.specs.Frame.{Bytes}
-use Rattle.rows.specs.Verdict.{allowed}
+use Rattle.rows.specs.Runs.Verdict.{allowed}
 use Rattle.rows.proofs.Outcomes.{and-both, both-and}
 use Rattle.line.specs.Lines.{digits, worth, capital, capitals, allDigits, isLine, paired, frameOfLine, halves, lineOf}
 use Rattle.line.proofs.Worths.{worth-small, capital-digit, capital-worth, worth-capital, upper-worth, upper-digit}

@@ -10,7 +10,7 @@ use lib.ListN.{getD}
 use lib.Dec.{leb}
 use borrow.Author.Tests.{leb-true}
 use Rattle.rows.specs.Layout.{Span, _to_}
-use Rattle.rows.specs.Verdict.{allowed}
+use Rattle.rows.specs.Runs.Verdict.{allowed}
 use Rattle.rows.specs.Values.{each}
 use Rattle.rows.proofs.Spans.{allowed-in}
 use Rattle.line.specs.Lines.{digits, worth, capital, upper}

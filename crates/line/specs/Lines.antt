@@ -10,11 +10,11 @@ use Rattle.rows.specs.declared.refusal.Verdict.{Verdict}
 use Rattle.rows.specs.declared.refusal.Verdict.the-variants.{Fine, Refused}
 use Rattle.rows.specs.declared.refusal.Refusal.the-variants.{Length, Padding, Short, Line}
 use Rattle.report.specs.declared.read.Reading.{Reading}
-use Rattle.rows.specs.Refusals.{_then_, unless}
+use Rattle.rows.specs.Runs.Questions.{_then_, unless}
 use Rattle.rows.specs.Layout.{Span, _to_}
-use Rattle.rows.specs.Verdict.{allowed}
+use Rattle.rows.specs.Runs.Verdict.{allowed}
 use Rattle.report.specs.Records.{zeros}
-use Rattle.report.specs.Reading.{reading, readOf}
+use Rattle.report.specs.Runs.Reading.{reading, readOf}
 use Rattle.line.specs.declared.from_line.Framing.{Framing}
 
 -- ---- one digit

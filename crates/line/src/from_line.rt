@@ -2,8 +2,8 @@
 ghost use mathlib.Core.Path.{_≡_};
 ghost use Rattle.line.specs.Lines.{noLine, framing, lineReading};
 use crate::digits::DIGITS;
-use report::decode::record_of_zeros;
 use report::read::Reading;
+use report::record::Record;
 use rows::refusal::Refusal;
 use rows::refusal::Verdict;
 
@@ -66,7 +66,7 @@ pub fn read_line(line: &[u8]) -> Reading
         Verdict::Fine => report::read::read(&frame),
         Verdict::Refused(_) => Reading {
             answer,
-            record: record_of_zeros(),
+            record: Record::of_zeros(),
         },
     }
 }

@@ -10,7 +10,7 @@ use lib.Dec.{eqb}
 use lib.ListN.{length, take}
 use lib.Seq.{take-all, take-append-seam}
 use Rattle.report.specs.declared.read.Reading.{Reading}
-use Rattle.rows.specs.Verdict.{allowed}
+use Rattle.rows.specs.Runs.Verdict.{allowed}
 use Rattle.line.specs.Lines.{digits, lineReading}
 use Rattle.listing.specs.declared.row.Entry.the-variants.{Nothing}
 use Rattle.listing.specs.declared.progress.Progress.{Progress}

@@ -4,9 +4,9 @@ use mathlib.Core.List.{List, [], _∷_, _++_}
 use Prim.Native.Nat.{ℕ}
 use lib.ListN.{replicate}
 use Rattle.parity.specs.Parity.{step, parityOf}
-use Rattle.rows.specs.Refusals.{_then_, unless}
-use Rattle.rows.specs.Verdict.{allowed}
-use Rattle.report.specs.Reading.{outerOf}
+use Rattle.rows.specs.Runs.Questions.{_then_, unless}
+use Rattle.rows.specs.Runs.Verdict.{allowed}
+use Rattle.report.specs.Runs.Reading.{outerOf}
 use Rattle.line.specs.Lines.{allDigits, isLine, paired, frameOfLine, lineReading}
 use Rattle.listing.specs.Decimal.{decimal, figures}
 use Rattle.listing.specs.Rows.{rowText, headingText}

@@ -5,7 +5,7 @@ use mathlib.Core.List.{List, [], _∷_}
 use native.Mathlib.Omega.{arith}
 use lib.ListN.{length, take, length-map, length-take}
 use Rattle.report.specs.declared.record.Record.{Record}
-use Rattle.rows.specs.Verdict.{empty}
+use Rattle.rows.specs.Runs.Verdict.{empty}
 use Rattle.report.specs.Layout.{layout}
 use Rattle.rows.specs.Layout.{slotCount}
 use Rattle.slots.specs.Slots.{slotValues, usedAmong}

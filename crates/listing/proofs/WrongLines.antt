@@ -11,9 +11,9 @@ use lib.Seq.{take-all}
 use Rattle.rows.specs.declared.refusal.Verdict.the-variants.{Refused}
 use Rattle.rows.specs.declared.refusal.Refusal.the-variants.{Line}
 use Rattle.report.specs.declared.read.Reading.{Reading}
-use Rattle.rows.specs.Verdict.{allowed}
+use Rattle.rows.specs.Runs.Verdict.{allowed}
 use Rattle.report.specs.Records.{zeros}
-use Rattle.report.specs.Reading.{reading}
+use Rattle.report.specs.Runs.Reading.{reading}
 use Rattle.line.specs.Lines.{digits, allDigits, isLine, lineReading}
 use Rattle.line.proofs.Claims.{no-line-is-17}
 use Rattle.listing.specs.Listing.{lineRow}

@@ -11,9 +11,9 @@ use lib.Dec.{leb}
 use Rattle.bits.specs.Frame.{Bytes}
 use Rattle.rows.specs.declared.refusal.Verdict.{Verdict}
 use Rattle.rows.specs.declared.refusal.Refusal.the-variants.{Range}
-use Rattle.rows.specs.Refusals.{_then_, unless}
+use Rattle.rows.specs.Runs.Questions.{_then_, unless}
 use Rattle.rows.specs.Layout.{_to_, bytes}
-use Rattle.rows.specs.Verdict.{judge, walk, allowed}
+use Rattle.rows.specs.Runs.Verdict.{judge, walk, allowed}
 use Rattle.rows.proofs.Outcomes.{fine-then, unless-true, then-fine}
 use Rattle.rows.proofs.Spans.{in-allowed, allowed-one}
 use Rattle.nankai.specs.declared.PageNumbers.{PageNumbers}

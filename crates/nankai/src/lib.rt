@@ -3,9 +3,9 @@
 ghost use mathlib.Core.Path.{_≡_};
 ghost use lib.ListN.{replicate};
 ghost use Rattle.bits.specs.Frame.{laid};
-ghost use Rattle.rows.specs.Refusals.{_then_};
+ghost use Rattle.rows.specs.Runs.Questions.{_then_};
 ghost use Rattle.rows.specs.Values.{widths};
-ghost use Rattle.rows.specs.Verdict.{walk};
+ghost use Rattle.rows.specs.Runs.Verdict.{walk};
 ghost use Rattle.nankai.specs.Nankai.{nankai, numbered, numbersOf, pageText, numberValues, pageValues};
 use rows::refusal::Verdict;
 

@@ -14,7 +14,7 @@ use Rattle.report.specs.declared.record.Body.the-variants.{Nothing, Hypocenter,
 use Rattle.slots.specs.declared.slot.Slot.{Slot}
 use Rattle.report.specs.declared.record.Record.{Record}
 use Rattle.report.specs.Layout.{layout}
-use Rattle.rows.specs.Verdict.{empty}
+use Rattle.rows.specs.Runs.Verdict.{empty}
 use Rattle.rows.specs.Values.{each}
 use Rattle.packed.specs.Packed.{wide, padded, headBytes, bodyBytes, slotBytes, slotsBytes, packed}
 use Rattle.packed.specs.Unpacked.{fourAt, slotAt, bodyBy, bodyFrom, stray, slotsFrom, marked, textFrom, unpackedAs, unpacked}

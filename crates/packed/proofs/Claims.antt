@@ -7,9 +7,9 @@ use lib.ListN.{length, getD}
 use Rattle.rows.specs.declared.refusal.Verdict.the-variants.{Refused}
 use Rattle.rows.specs.declared.refusal.Refusal.the-variants.{Unused}
 use Rattle.report.specs.declared.record.Record.{Record}
-use Rattle.rows.specs.Verdict.{allowed}
-use Rattle.report.specs.Reading.{preambles}
-use Rattle.report.specs.Writing.{known, writeAnswer}
+use Rattle.rows.specs.Runs.Verdict.{allowed}
+use Rattle.report.specs.Layout.{preambles}
+use Rattle.report.specs.Runs.Writing.{known, writeAnswer}
 use Rattle.packed.specs.Packed.{packed}
 use Rattle.packed.specs.Unpacked.{bodyFrom, stray, unpacked}
 use Rattle.packed.specs.Shelves.{storeBytes, storeFrom}

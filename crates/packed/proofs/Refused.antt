@@ -11,13 +11,12 @@ use Rattle.report.specs.declared.record.Body.{Body}
 use Rattle.slots.specs.declared.slot.Slot.{Slot}
 use Rattle.rows.specs.declared.slot.SlotKind.{SlotKind}
 use Rattle.rows.specs.declared.slot.SlotKind.the-variants.{Nothing, Prefectures, Places}
-use Rattle.rows.specs.Refusals.{_then_, unless}
-use Rattle.report.specs.Layout.{layout}
+use Rattle.rows.specs.Runs.Questions.{_then_, unless}
+use Rattle.report.specs.Layout.{layout, preambles}
 use Rattle.rows.specs.Layout.{slotCount}
-use Rattle.rows.specs.Verdict.{allowed, empty}
+use Rattle.rows.specs.Runs.Verdict.{allowed, empty}
 use Rattle.rows.specs.Values.{each}
-use Rattle.report.specs.Reading.{preambles}
-use Rattle.report.specs.Writing.{known, tidyText, tidy, writeAnswer}
+use Rattle.report.specs.Runs.Writing.{known, tidyText, tidy, writeAnswer}
 use Rattle.slots.specs.Slots.{unused, tidySlots}
 use Rattle.packed.specs.Unpacked.{slotAt, bodyFrom, stray, slotsFrom, misplaced, marked, textFrom, unpackedAs, unpacked}
 

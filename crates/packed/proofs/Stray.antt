@@ -8,8 +8,8 @@ use lib.ListN.{length, getD, take, drop}
 use lib.Seq.{length-take-le, getD-take}
 use Rattle.report.specs.declared.record.Body.{Body}
 use Rattle.slots.specs.declared.slot.Slot.{Slot}
-use Rattle.rows.specs.Verdict.{empty}
-use Rattle.report.proofs.Blank.{blank-so-far, not-blank, all-blank}
+use Rattle.rows.specs.Runs.Verdict.{empty}
+use Rattle.report.proofs.Writing.Blank.{blank-so-far, not-blank, all-blank}
 use Rattle.packed.specs.Packed.{bodyBytes}
 use Rattle.packed.specs.Unpacked.{stray, marked}
 

@@ -19,7 +19,7 @@ use Rattle.report.specs.declared.record.Body.{Body}
 use Rattle.report.specs.declared.record.Body.the-variants.{Nothing, Hypocenter, Intensity, Nankai, AshFall}
 use Rattle.slots.specs.declared.slot.Slot.{Slot}
 use Rattle.report.specs.declared.record.Record.{Record}
-use Rattle.rows.specs.Verdict.{empty}
+use Rattle.rows.specs.Runs.Verdict.{empty}
 use Rattle.rows.specs.Values.{each}
 use Rattle.report.specs.Records.{zeros}
 use Rattle.packed.specs.Packed.{bodyBytes}

@@ -5,14 +5,13 @@ ghost use mathlib.Core.List.{[], _∷_};
 ghost use Prim.Native.Nat.{_+_, _≤_};
 ghost use lib.ListN.{length, set, take, drop};
 ghost use Rattle.bits.specs.Frame.{number};
-ghost use Rattle.rows.specs.Verdict.{empty};
+ghost use Rattle.rows.specs.Runs.Verdict.{empty};
 ghost use Rattle.packed.specs.Packed.{bodyBytes};
 ghost use Rattle.packed.specs.Unpacked.{twoAt, fourAt, timeAt, angleAt, slotAt, commonFrom, quakeFrom, pageFrom, eruptionFrom, bodyFrom, stray, slotsFrom, misplaced, marked, recordFrom};
 use crate::text::text_at;
 use ash_fall::Eruption;
 use hypocenter::Quake;
 use hypocenter::angle::Angle;
-use report::decode::record_of_zeros;
 use report::record::Body;
 use report::record::Common;
 use report::record::Page;
@@ -231,7 +230,7 @@ pub fn unpack(bytes: &[u8]) -> Record
     ensures { λ r. ⌜ r ≡ recordFrom (now (bytes .entry)) ⌝ }
 {
     if bytes.len() != 145 {
-        return record_of_zeros();
+        return Record::of_zeros();
     }
     let body = body_of(bytes);
     let slots = marked_slots_of(bytes, body);

@@ -18,30 +18,31 @@ use Rattle.report.specs.Layout.{layout}
 use Rattle.rows.specs.Layout.{slotCount, allRows, tiles, allFit}
 use Rattle.report.specs.Records.{bodyOf, recordOf, zeros, values}
 use Rattle.rows.specs.Values.{valuesOf}
-use Rattle.rows.specs.Verdict.{empty}
+use Rattle.rows.specs.Runs.Verdict.{empty}
 use Rattle.report.specs.Meaning.{slotsOfCategory, usedOf}
-use Rattle.report.specs.Reading.{readAnswer, reading, readOf}
+use Rattle.report.specs.Runs.Reading.{readAnswer, reading, readOf}
 use Rattle.report.specs.Conforms.{Conforms}
 use Rattle.rows.specs.Faults.{Fault, Lowest}
 use Rattle.report.specs.Reasons.{readQuestions, WhyNotRead, WhyNotWritten}
-use Rattle.report.specs.Writing.{frame, written, writeAnswer, writeOf, Valid, KeepsRules}
-use Rattle.report.proofs.Tables.{layouts, all, tables-tile as tiled, rules-fit as fit}
+use Rattle.report.specs.Runs.Writing.{frame, written, writeAnswer, writeOf, Valid}
+use Rattle.report.specs.Rules.{KeepsRules}
+use Rattle.report.proofs.Tables.Tables.{layouts, all, tables-tile as tiled, rules-fit as fit}
 use Rattle.rows.proofs.Ordered.{Met}
-use Rattle.report.proofs.Frames.{layoutOf, frameValues, conforming-fine, fine-conforming, reason, faulty, faultless, no-gap}
+use Rattle.report.proofs.Reading.Frames.{layoutOf, frameValues, conforming-fine, fine-conforming, reason, faulty, faultless, no-gap}
 use Rattle.rows.proofs.Lengths.{Filled, frame-filled}
-use Rattle.report.proofs.Lengths.{record-filled}
+use Rattle.report.proofs.Tables.Lengths.{record-filled}
 use Rattle.slots.proofs.Used.{counted-used}
-use Rattle.report.proofs.Used.{others-empty}
+use Rattle.report.proofs.Reading.Used.{others-empty}
 use Rattle.rows.proofs.Numbers.{says-apart}
-use Rattle.report.proofs.Numbers.{read-ten, refused-zeros}
+use Rattle.report.proofs.Reading.ReadNumbers.{read-ten, refused-zeros}
 use Rattle.report.proofs.PaperValues.{found, expected, paperValues, every-row}
-use Rattle.report.proofs.Shapes.{Shaped, frame-shaped}
-use Rattle.report.proofs.Validity.{recordLayout, recordValues, valid-keeps, keeps-valid, reason as write-reason}
-use Rattle.report.proofs.WriteReasons.{reserving, no-gap as write-no-gap, above-63}
-use Rattle.report.proofs.WriteNumbers.{writeNumbers, write-numbered}
-use Rattle.report.proofs.ReadThenWritten.{valid-written, written-again}
-use Rattle.report.proofs.WrittenThenRead.{returns, read-again}
-use Rattle.report.proofs.Trips.{WrittenBy, frame-of-record, same-frame, same-record, conforming-written, written-bytes}
+use Rattle.report.proofs.Tables.Shapes.{Shaped, frame-shaped}
+use Rattle.report.proofs.Writing.Validity.{recordLayout, recordValues, valid-keeps, keeps-valid, reason as write-reason}
+use Rattle.report.proofs.Writing.WriteReasons.{reserving, no-gap as write-no-gap, above-63}
+use Rattle.report.proofs.Writing.WriteNumbers.{writeNumbers, write-numbered}
+use Rattle.report.proofs.RoundTrips.ReadThenWritten.{valid-written, written-again}
+use Rattle.report.proofs.RoundTrips.WrittenThenRead.{returns, read-again}
+use Rattle.report.proofs.RoundTrips.OneToOne.{WrittenBy, frame-of-record, same-frame, same-record, conforming-written, written-bytes}
 
 -- ---- the tables
 

@@ -14,10 +14,11 @@ use Rattle.rows.specs.declared.slot.SlotKind.the-variants.{Prefectures}
 use Rattle.ash_fall.specs.declared.meaning.Prefecture.{Prefecture}
 use Rattle.ash_fall.specs.declared.meaning.Prefecture.the-variants.{Number, Nowhere}
 use Rattle.ash_fall.specs.Meaning.{prefectureOf}
-use Rattle.rows.specs.Refusals.{Said, plain, at, answers, _then_, unless}
+use Rattle.rows.specs.Refusals.{Said, plain, at, answers}
+use Rattle.rows.specs.Runs.Questions.{_then_, unless}
 use Rattle.rows.specs.Layout.{Row, slotFirst, slotRows}
 use Rattle.report.specs.Layout.{layout}
-use Rattle.rows.specs.Verdict.{allowed, judge, walk, empty, later, slotsVerdict, verdict}
+use Rattle.rows.specs.Runs.Verdict.{allowed, judge, walk, empty, later, slotsVerdict, verdict}
 use Rattle.slots.specs.Slots.{noSlot, slotValues}
 use Rattle.report.specs.Records.{bodyValues, values}
 

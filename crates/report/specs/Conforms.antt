@@ -5,10 +5,9 @@ use mathlib.Core.List.{List}
 use lib.ListN.{length}
 use Rattle.bits.specs.Frame.{fieldOf}
 use Rattle.parity.specs.Parity.{parityOf}
-use Rattle.report.specs.Layout.{layout}
+use Rattle.report.specs.Layout.{layout, preambles, categories}
 use Rattle.report.specs.Records.{bodyOf}
 use Rattle.rows.specs.Values.{valuesOf}
-use Rattle.report.specs.Reading.{preambles, categories}
 use Rattle.rows.specs.Kept.{Holds, In}
 
 -- ---- "Silence in a slot"

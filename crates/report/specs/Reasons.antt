@@ -1,24 +1,20 @@
 -- Why a frame is refused: its faults, wherever they are, and the order in which document 01 asks.
-use Prim.Native.Nat.{ℕ, _≤_, _<_}
+use Prim.Native.Nat.{ℕ}
 use mathlib.Core.Path.{_≡_}
 use mathlib.Core.List.{List, [], _∷_}
-use lib.ListN.{length, getD}
+use lib.ListN.{length}
 use Rattle.bits.specs.Frame.{fieldOf}
 use Rattle.parity.specs.Parity.{parityOf}
 use Rattle.rows.specs.declared.refusal.Refusal.{Refusal}
 use Rattle.rows.specs.declared.refusal.Refusal.the-variants.{Length, Padding, Preamble, Parity, Message, Version, Category, Unused}
 use Rattle.report.specs.declared.record.Body.the-variants.{Nothing}
-use Rattle.rows.specs.declared.slot.SlotKind.the-variants.{Nothing as NoSlots}
 use Rattle.report.specs.declared.record.Record.{Record}
-use Rattle.rows.specs.Layout.{slotCount}
-use Rattle.report.specs.Layout.{layout}
-use Rattle.slots.specs.Slots.{noSlot, unused}
+use Rattle.report.specs.Layout.{layout, preambles, categories}
 use Rattle.report.specs.Records.{bodyOf, values}
 use Rattle.rows.specs.Values.{valuesOf}
-use Rattle.report.specs.Reading.{preambles, categories}
-use Rattle.rows.specs.Kept.{In, Empty}
-use Rattle.report.specs.Writing.{TextUnused}
+use Rattle.rows.specs.Kept.{In}
 use Rattle.rows.specs.Faults.{Lowest, _or_, First, Question}
+use Rattle.report.specs.Rules.{Tidy}
 
 -- ---- faults: x is the refusal of something that is wrong, whatever else is
 
@@ -39,12 +35,6 @@ abbrev pub WhyNotRead : List ℕ → Refusal → Type 0
 WhyNotRead s x = First (readQuestions s) x (Lowest (layout (bodyOf s)) (valuesOf s (layout (bodyOf s))) x)
 
 -- ---- writing: the order of 1, 3, 7, 11
-
--- nothing stands where the category has nothing
-pub record Tidy (r : Record) : Type 0 where
-  pub slots : (i : ℕ) → i < slotCount (layout (r .body) .slots) → Empty (unused (layout (r .body) .slots) (getD (r .slots) i noSlot))
-  pub others : (i : ℕ) → slotCount (layout (r .body) .slots) ≤ i → Empty (unused NoSlots (getD (r .slots) i noSlot))
-  pub text : TextUnused (r .body) (r .text)
 
 abbrev pub writeQuestions : Record → ℕ → List Question
 writeQuestions r size =

@@ -11,9 +11,8 @@ use Rattle.report.specs.declared.record.Body.the-variants.{Nothing, Hypo
 use Rattle.report.specs.declared.record.Record.{Record}
 use Rattle.rows.specs.Layout.{common, slotCount}
 use Rattle.report.specs.Layout.{layout}
-use Rattle.rows.specs.Verdict.{Values}
+use Rattle.rows.specs.Values.{Values, lastValues}
 use Rattle.hypocenter.specs.Hypocenter.{quakeValues, quakeOf}
-use Rattle.rows.specs.Values.{lastValues}
 use Rattle.intensity.specs.Intensity.{shakingOf, shakingValues}
 use Rattle.nankai.specs.Nankai.{numbersOf, pageText, pageValues}
 use Rattle.ash_fall.specs.AshFall.{eruptionValues, eruptionOf}

@@ -2,13 +2,13 @@
 // a record when it is written. Questions are asked from the lowest bit up, and the first refusal is
 // the answer.
 ghost use mathlib.Core.Path.{_≡_};
-ghost use Rattle.rows.specs.Refusals.{_then_, unless};
+ghost use Rattle.rows.specs.Runs.Questions.{_then_, unless};
 ghost use Rattle.report.specs.Layout.{layout};
 ghost use Rattle.rows.specs.Layout.{common, ending};
-ghost use Rattle.rows.specs.Verdict.{walk, verdict};
+ghost use Rattle.rows.specs.Runs.Verdict.{walk, verdict};
 ghost use Rattle.report.specs.Records.{headValues, values};
 ghost use Rattle.rows.specs.Values.{lastValues};
-ghost use Rattle.report.specs.Steps.{bodyVerdict};
+ghost use Rattle.report.specs.Runs.Steps.{bodyVerdict};
 use crate::codes::is_classification;
 use crate::record::Body;
 use crate::record::Common;

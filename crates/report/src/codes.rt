@@ -2,9 +2,8 @@
 ghost use mathlib.Core.List.{_∷_, []};
 ghost use mathlib.Core.Path.{_≡_};
 ghost use Rattle.rows.specs.Layout.{_to_};
-ghost use Rattle.report.specs.Layout.{layout};
-ghost use Rattle.report.specs.Reading.{preambles, categories};
-ghost use Rattle.rows.specs.Verdict.{allowed};
+ghost use Rattle.report.specs.Layout.{preambles, categories};
+ghost use Rattle.rows.specs.Runs.Verdict.{allowed};
 use crate::record::Body;
 
 pub(crate) fn is_preamble(v: u8) -> bool
@@ -41,20 +40,5 @@ pub(crate) fn is_uncorrected(v: u8) -> bool
     match v {
         0 | 2 => true,
         _ => false,
-    }
-}
-
-impl Body {
-    // Issue or cancellation; in an ash fall report also correction.
-    pub(crate) fn has_type(self, v: u8) -> bool
-        ensures { λ r. ⌜ r ≡ allowed (layout self .types) v ⌝ }
-    {
-        match self {
-            Body::Nothing => is_uncorrected(v),
-            Body::Hypocenter(_) => is_uncorrected(v),
-            Body::Intensity(_) => is_uncorrected(v),
-            Body::Nankai(_) => is_uncorrected(v),
-            Body::AshFall(_) => v <= 2,
-        }
     }
 }

@@ -1,7 +1,7 @@
 // A frame's bits as a record. Nothing is refused here: any bits give a record, and the rules are
 // asked of it afterwards.
 ghost use mathlib.Core.Path.{_≡_};
-ghost use Rattle.report.specs.Records.{commonOf, bodyOf, textOf, recordOf, zeros};
+ghost use Rattle.report.specs.Records.{commonOf, bodyOf, textOf, recordOf};
 use crate::record::Body;
 use crate::record::Common;
 use crate::record::Record;
@@ -62,32 +62,5 @@ pub(crate) fn decode(f: [u8; 32]) -> Record
         body: body,
         slots: slots,
         text: text,
-    }
-}
-
-// The record of a refused reading.
-pub fn record_of_zeros() -> Record
-    ensures { λ r. ⌜ r ≡ zeros ⌝ }
-{
-    let none = Slot {
-        hour: 0,
-        strength: 0,
-        place: 0,
-    };
-    let common = Common {
-        rc: 0,
-        month: 0,
-        day: 0,
-        hour: 0,
-        minute: 0,
-        it: 0,
-    };
-    Record {
-        preamble: 0,
-        reserved: 0,
-        common: common,
-        body: Body::Nothing,
-        slots: [none; 16],
-        text: [0u8; 18],
     }
 }

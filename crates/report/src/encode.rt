@@ -7,7 +7,7 @@ ghost use Rattle.report.specs.Layout.{layout};
 ghost use Rattle.rows.specs.Layout.{common, ending};
 ghost use Rattle.report.specs.Records.{headValues, bodyValues};
 ghost use Rattle.rows.specs.Values.{lastValues, widths};
-ghost use Rattle.report.specs.Writing.{known, frontWidths, frontValues, frame, Valid};
+ghost use Rattle.report.specs.Runs.Writing.{known, frontWidths, frontValues, frame, Valid};
 use crate::record::Body;
 use crate::record::Common;
 use crate::record::Record;

@@ -5,6 +5,7 @@ pub mod record; // what a frame says
 pub mod decode; // bits as a record
 pub mod codes; // which values a field may hold
 pub mod check; // the rules, on values
+pub mod tidy; // nothing stands where the category has nothing
 pub mod encode; // a record as bits
 pub mod read; // from a lent frame to a record
 pub mod write; // from a record to a lent frame

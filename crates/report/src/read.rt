@@ -1,12 +1,11 @@
 // Reading a lent frame: the bits first, then the rules.
 ghost use mathlib.Core.Path.{_≡_};
 ghost use Rattle.report.specs.Records.{recordOf};
-ghost use Rattle.report.specs.Reading.{outerOf, innerOf, reading, readOf};
+ghost use Rattle.report.specs.Runs.Reading.{outerOf, innerOf, reading, readOf};
 use crate::check::check;
 use crate::codes::is_category;
 use crate::codes::is_preamble;
 use crate::decode::decode;
-use crate::decode::record_of_zeros;
 use crate::record::Record;
 use rows::refusal::Refusal;
 use rows::refusal::Verdict;
@@ -34,7 +33,7 @@ fn outer(f: [u8; 32]) -> Verdict
 fn conclude(found: Verdict, read: Record) -> Reading
     ensures { λ r. ⌜ r ≡ reading found read ⌝ }
 {
-    let zeros = record_of_zeros();
+    let zeros = Record::of_zeros();
     match found {
         Verdict::Fine => Reading {
             answer: found,
@@ -68,12 +67,12 @@ pub fn read(frame: &[u8]) -> Reading
     ensures { λ r. ⌜ r ≡ readOf (now (frame .entry)) ⌝ }
 {
     if frame.len() != 32 {
-        return conclude(Verdict::Refused(Refusal::Length), record_of_zeros());
+        return conclude(Verdict::Refused(Refusal::Length), Record::of_zeros());
     }
     let f = bits::frame_of(frame);
     let found = outer(f);
     match found {
         Verdict::Fine => inner(f),
-        Verdict::Refused(_) => conclude(found, record_of_zeros()),
+        Verdict::Refused(_) => conclude(found, Record::of_zeros()),
     }
 }

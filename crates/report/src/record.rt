@@ -1,8 +1,12 @@
 // What a frame says, as numbers in the narrowest type that holds them. Any value may stand in a
 // record; which of them can be written is for the check.
 ghost use mathlib.Core.Path.{_≡_};
+ghost use Rattle.rows.specs.Runs.Verdict.{allowed};
+ghost use Rattle.report.specs.Records.{zeros};
+ghost use Rattle.report.specs.Runs.Writing.{known};
 ghost use Rattle.report.specs.Layout.{layout};
 ghost use Rattle.report.specs.Meaning.{usedOf};
+use crate::codes::is_uncorrected;
 use ash_fall::Eruption;
 use hypocenter::Quake;
 use intensity::Shaking;
@@ -68,6 +72,32 @@ impl Body {
         }
     }
 
+    // Whether there is a category.
+    pub(crate) fn is_known(self) -> bool
+        ensures { λ r. ⌜ r ≡ known self ⌝ }
+    {
+        match self {
+            Body::Nothing => false,
+            Body::Hypocenter(_) => true,
+            Body::Intensity(_) => true,
+            Body::Nankai(_) => true,
+            Body::AshFall(_) => true,
+        }
+    }
+
+    // Issue or cancellation; in an ash fall report also correction.
+    pub(crate) fn has_type(self, v: u8) -> bool
+        ensures { λ r. ⌜ r ≡ allowed (layout self .types) v ⌝ }
+    {
+        match self {
+            Body::Nothing => is_uncorrected(v),
+            Body::Hypocenter(_) => is_uncorrected(v),
+            Body::Intensity(_) => is_uncorrected(v),
+            Body::Nankai(_) => is_uncorrected(v),
+            Body::AshFall(_) => v <= 2,
+        }
+    }
+
     // The first bit of its category's spare, which ends before bit 214.
     pub(crate) fn spare_first(self) -> u8
         ensures { λ r. ⌜ r ≡ layout self .spareFirst ⌝ }
@@ -83,6 +113,33 @@ impl Body {
 }
 
 impl Record {
+    // The record of a refused reading.
+    pub fn of_zeros() -> Record
+        ensures { λ r. ⌜ r ≡ zeros ⌝ }
+    {
+        let none = Slot {
+            hour: 0,
+            strength: 0,
+            place: 0,
+        };
+        let common = Common {
+            rc: 0,
+            month: 0,
+            day: 0,
+            hour: 0,
+            minute: 0,
+            it: 0,
+        };
+        Record {
+            preamble: 0,
+            reserved: 0,
+            common: common,
+            body: Body::Nothing,
+            slots: [none; 16],
+            text: [0u8; 18],
+        }
+    }
+
     // How many slots are used, 0 in a category without slots: whoever names places names this many.
     pub fn slots_used(self) -> usize
         ensures { λ r. ⌜ r ≡ usedOf self ⌝ }

@@ -12,9 +12,8 @@ use borrow.Author.Tests.{ltb-true}
 use Rattle.bits.specs.Layout.{Fit}
 use Rattle.rows.specs.declared.slot.SlotKind.{SlotKind}
 use Rattle.rows.specs.Layout.{Span, _to_, Rule, among, rising, spare, Row, Layout, common, ending, slotCount, slotFirst, slotBits, slotRows, slotsRows, allRows, allBelow, fitting, allFit}
-use Rattle.rows.specs.Verdict.{Values}
+use Rattle.rows.specs.Values.{Values, joined, flat, widths}
 use Rattle.rows.specs.Kept.{In, Keeps, Kept, Empty, AllEmpty, LaterKept, SlotsKept, Holds}
-use Rattle.rows.specs.Values.{joined, flat, widths}
 use Rattle.rows.proofs.Outcomes.{and-both, both-and}
 use Rattle.rows.proofs.Lengths.{SlotsFilled, Filled}
 

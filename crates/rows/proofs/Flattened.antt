@@ -7,8 +7,7 @@ use lib.ListN.{length, take, drop}
 use lib.Seq.{take-at, drop-at}
 use Rattle.rows.specs.declared.slot.SlotKind.{SlotKind}
 use Rattle.rows.specs.Layout.{Layout, slotFirst, slotBits}
-use Rattle.rows.specs.Verdict.{Values}
-use Rattle.rows.specs.Values.{joined, flat}
+use Rattle.rows.specs.Values.{Values, joined, flat}
 use Rattle.rows.proofs.Lengths.{SlotsFilled, Filled}
 
 -- two lists of one length, and what stands behind them

@@ -8,7 +8,8 @@ use lib.Dec.{eqb}
 use Rattle.rows.specs.declared.refusal.Verdict.{Verdict}
 use Rattle.rows.specs.declared.refusal.Verdict.the-variants.{Fine, Refused}
 use Rattle.rows.specs.declared.refusal.Refusal.{Refusal}
-use Rattle.rows.specs.Refusals.{says, _then_, unless}
+use Rattle.rows.specs.Refusals.{says}
+use Rattle.rows.specs.Runs.Questions.{_then_, unless}
 use Rattle.rows.specs.Faults.{place}
 use Rattle.rows.proofs.Outcomes.{not-both, unless-true, unless-fine, unless-refused, both-fine, fine-both, refused-one, false-not-true}
 

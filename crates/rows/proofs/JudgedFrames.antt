@@ -9,7 +9,8 @@ use lib.ListN.{length}
 use Rattle.rows.specs.declared.slot.SlotKind.{SlotKind}
 use Rattle.rows.specs.declared.slot.SlotKind.the-variants.{Nothing as NoSlots}
 use Rattle.rows.specs.Layout.{Layout, common, ending, slotCount, slotFirst}
-use Rattle.rows.specs.Verdict.{Values, verdict, slotsVerdict}
+use Rattle.rows.specs.Values.{Values}
+use Rattle.rows.specs.Runs.Verdict.{verdict, slotsVerdict}
 use Rattle.rows.specs.Kept.{SlotsKept, Holds}
 use Rattle.rows.specs.Faults.{SlotsFault, Fault}
 use Rattle.rows.proofs.Judged.{Judges, unasked, join, restated}

@@ -8,7 +8,7 @@ use lib.Dec.{leb, eqb}
 use borrow.Author.Tests.{eqb-true, leb-true, eq-eqb}
 use Rattle.rows.specs.declared.refusal.Refusal.the-variants.{Range, Spare}
 use Rattle.rows.specs.Layout.{Rule, among, rising, spare, Row}
-use Rattle.rows.specs.Verdict.{allowed, judge, walk}
+use Rattle.rows.specs.Runs.Verdict.{allowed, judge, walk}
 use Rattle.rows.specs.Kept.{In, Keeps, Kept}
 use Rattle.rows.specs.Faults.{blame, RowFault}
 use Rattle.rows.proofs.Outcomes.{and-both}

@@ -11,9 +11,9 @@ use borrow.Author.Tests.{eqb-true, eq-eqb, not-true}
 use Rattle.rows.specs.declared.refusal.Refusal.the-variants.{Gap}
 use Rattle.rows.specs.declared.slot.SlotKind.{SlotKind}
 use Rattle.rows.specs.declared.slot.SlotKind.the-variants.{Nothing as NoSlots, Prefectures, Places}
-use Rattle.rows.specs.Refusals.{unless}
+use Rattle.rows.specs.Runs.Questions.{unless}
 use Rattle.rows.specs.Layout.{slotFirst, slotBits, slotRows}
-use Rattle.rows.specs.Verdict.{empty, later, slotsVerdict}
+use Rattle.rows.specs.Runs.Verdict.{empty, later, slotsVerdict}
 use Rattle.rows.specs.Kept.{Kept, Empty, AllEmpty, LaterKept, SlotsKept}
 use Rattle.rows.specs.Faults.{LaterFault, SlotsFault}
 use Rattle.rows.proofs.Outcomes.{false-not-true, and-both, both-and}

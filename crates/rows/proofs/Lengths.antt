@@ -4,8 +4,7 @@ use Prim.Native.Nat.{ℕ, zero, suc, _+_}
 use mathlib.Core.List.{List, [], _∷_}
 use lib.ListN.{length, length-map}
 use Rattle.rows.specs.Layout.{Layout, slotCount, common, ending, slotFirst, slotBits, slotRows}
-use Rattle.rows.specs.Verdict.{Values}
-use Rattle.rows.specs.Values.{each, valuesOf, cut}
+use Rattle.rows.specs.Values.{Values, each, valuesOf, cut}
 use Rattle.rows.specs.declared.slot.SlotKind.{SlotKind}
 use Rattle.rows.specs.declared.slot.SlotKind.the-variants.{Nothing as NoSlots, Prefectures, Places}
 

@@ -10,9 +10,11 @@ use Rattle.rows.specs.declared.refusal.Verdict.the-variants.{Fine, Refus
 use Rattle.rows.specs.declared.refusal.Refusal.{Refusal}
 use Rattle.rows.specs.declared.refusal.Refusal.the-variants.{Length, Padding, Preamble, Parity, Message, Version, Category, Range, Spare, Gap, Unused, NoPage, OtherBulletin, Unsound, NotHeld, Short, Line}
 use Rattle.rows.specs.declared.slot.SlotKind.{SlotKind}
-use Rattle.rows.specs.Refusals.{Said, says, answers, _then_, unless}
+use Rattle.rows.specs.Refusals.{Said, says, answers}
+use Rattle.rows.specs.Runs.Questions.{_then_, unless}
 use Rattle.rows.specs.Layout.{Rule, among, rising, spare, Row, Layout, common, ending, slotFirst, slotBits, slotRows}
-use Rattle.rows.specs.Verdict.{Values, judge, walk, empty, later, slotsVerdict, verdict}
+use Rattle.rows.specs.Values.{Values}
+use Rattle.rows.specs.Runs.Verdict.{judge, walk, empty, later, slotsVerdict, verdict}
 
 unsaid : Said → Refusal
 unsaid a =

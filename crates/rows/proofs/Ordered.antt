@@ -10,7 +10,8 @@ use borrow.Author.Tests.{ltb-true}
 use Rattle.rows.specs.declared.refusal.Verdict.{Verdict}
 use Rattle.rows.specs.declared.refusal.Verdict.the-variants.{Fine, Refused}
 use Rattle.rows.specs.declared.refusal.Refusal.{Refusal}
-use Rattle.rows.specs.Refusals.{says, _then_, unless}
+use Rattle.rows.specs.Refusals.{says}
+use Rattle.rows.specs.Runs.Questions.{_then_, unless}
 use Rattle.rows.specs.Faults.{Question, _or_, First}
 use Rattle.rows.proofs.Outcomes.{unless-fine, unless-refused, fine-both, refused-one, met-then, false-not-true, and-both}
 

@@ -7,7 +7,7 @@ use native.Mathlib.Omega.{arith}
 use Rattle.rows.specs.declared.refusal.Verdict.{Verdict}
 use Rattle.rows.specs.declared.refusal.Verdict.the-variants.{Fine, Refused}
 use Rattle.rows.specs.declared.refusal.Refusal.{Refusal}
-use Rattle.rows.specs.Refusals.{_then_, unless}
+use Rattle.rows.specs.Runs.Questions.{_then_, unless}
 
 zero-not-one : _≡_ {A = ℕ} 0 1 → ⊥
 zero-not-one z = omega arith

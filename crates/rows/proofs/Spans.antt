@@ -9,7 +9,7 @@ use lib.Dec.{leb}
 use borrow.Author.Tests.{leb-true, le-leb}
 use types.Run.{OneOf}
 use Rattle.rows.specs.Layout.{Span, _to_}
-use Rattle.rows.specs.Verdict.{allowed}
+use Rattle.rows.specs.Runs.Verdict.{allowed}
 use Rattle.rows.specs.Kept.{In}
 use Rattle.rows.proofs.Outcomes.{false-not-true, and-both, both-and, or-either, left-or, right-or}
 

@@ -3,7 +3,7 @@ use mathlib.Core.Path.{_≡_, ap, _∙_}
 use mathlib.Core.Bool.{Bool}
 use Rattle.rows.specs.declared.refusal.Verdict.{Verdict}
 use Rattle.rows.specs.declared.refusal.Refusal.{Refusal}
-use Rattle.rows.specs.Refusals.{_then_, unless}
+use Rattle.rows.specs.Runs.Questions.{_then_, unless}
 use Rattle.rows.proofs.Outcomes.{then-assoc}
 
 -- the test in a question is known by another name

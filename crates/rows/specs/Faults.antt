@@ -9,7 +9,7 @@ use Rattle.rows.specs.declared.refusal.Refusal.the-variants.{Range, Spar
 use Rattle.rows.specs.declared.slot.SlotKind.{SlotKind}
 use Rattle.rows.specs.Refusals.{says}
 use Rattle.rows.specs.Layout.{Rule, among, rising, spare, Row, Layout, common, ending, slotFirst, slotBits, slotRows}
-use Rattle.rows.specs.Verdict.{Values}
+use Rattle.rows.specs.Values.{Values}
 use Rattle.rows.specs.Kept.{Keeps, Empty}
 
 -- 9 for a spare that is not zero, 8 for any other field that does not keep its rule

@@ -5,7 +5,7 @@ use mathlib.Core.Logic.{_⊎_}
 use mathlib.Core.List.{List, [], _∷_}
 use Rattle.rows.specs.declared.slot.SlotKind.{SlotKind}
 use Rattle.rows.specs.Layout.{Span, _to_, Rule, among, rising, spare, Row, Layout, common, ending, slotFirst, slotBits, slotRows}
-use Rattle.rows.specs.Verdict.{Values}
+use Rattle.rows.specs.Values.{Values}
 
 -- the value lies in one of the spans
 abbrev pub In : List Span → ℕ → Type 0

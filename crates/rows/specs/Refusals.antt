@@ -1,6 +1,5 @@
 -- The refusals and their numbers (document 01, "What each number says").
 use Prim.Native.Nat.{ℕ}
-use mathlib.Core.Bool.{Bool, true, false}
 use Rattle.rows.specs.declared.refusal.Refusal.{Refusal}
 use Rattle.rows.specs.declared.refusal.Refusal.the-variants.{Length, Padding, Preamble, Parity, Message, Version, Category, Range, Spare, Gap, Unused, NoPage, OtherBulletin, Unsound, NotHeld, Short, Line}
 use Rattle.rows.specs.declared.refusal.Verdict.{Verdict}
@@ -42,15 +41,3 @@ says Line = plain 17
 abbrev pub answers : Verdict → Said
 answers Fine = plain 0
 answers (Refused r) = says r
-
--- ---- one question after another: the first refusal is the answer
-
-infixr 40 _then_
-unfoldable pub _then_ : Verdict → Verdict → Verdict
-Fine then w = w
-Refused r then w = Refused r
-
--- a question: refused with r unless the test holds
-unfoldable pub unless : Bool → Refusal → Verdict
-unless true r = Fine
-unless false r = Refused r

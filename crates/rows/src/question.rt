@@ -2,7 +2,7 @@
 ghost use mathlib.Core.Path.{_≡_};
 ghost use mathlib.Core.Bool.{_&&_};
 ghost use lib.Dec.{leb, eqb};
-ghost use Rattle.rows.specs.Refusals.{_then_, unless};
+ghost use Rattle.rows.specs.Runs.Questions.{_then_, unless};
 use crate::refusal::Refusal;
 use crate::refusal::Verdict;
 

@@ -1,7 +1,7 @@
 // Why a call is refused: a variant for each row of document 01, "What each number says". A place is
 // the first bit of the field, spare or slot that is meant.
 ghost use mathlib.Core.Path.{_≡_};
-ghost use Rattle.rows.specs.Refusals.{_then_};
+ghost use Rattle.rows.specs.Runs.Questions.{_then_};
 
 pub enum Refusal {
     Length,

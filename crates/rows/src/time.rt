@@ -1,7 +1,7 @@
 // Day, hour and minute, wherever a category has them.
 ghost use mathlib.Core.Path.{_≡_};
-ghost use Rattle.rows.specs.Refusals.{_then_};
-ghost use Rattle.rows.specs.Values.{timeIn, timeLaid, timeVerdict};
+ghost use Rattle.rows.specs.Runs.Questions.{_then_};
+ghost use Rattle.rows.specs.Runs.Times.{timeIn, timeLaid, timeVerdict};
 use crate::refusal::Verdict;
 
 // When an earthquake or an eruption was.

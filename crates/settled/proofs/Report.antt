@@ -15,8 +15,8 @@ Body-code-is-settled κs a x y = answer
 pub Record-slots-used-is-settled : Settled report.record.Record.slots_used.ended report.record.Record.slots_used.Reads.Post
 Record-slots-used-is-settled κs a x y = answer
 
-pub record-of-zeros-is-settled : Settled report.decode.record_of_zeros.ended report.decode.record_of_zeros.Reads.Post
-record-of-zeros-is-settled κs a x y = answer
+pub Record-of-zeros-is-settled : Settled report.record.Record.of_zeros.ended report.record.Record.of_zeros.Reads.Post
+Record-of-zeros-is-settled κs a x y = answer
 
 pub check-is-settled : Settled report.check.check.ended report.check.check.Reads.Post
 check-is-settled κs a x y = answer

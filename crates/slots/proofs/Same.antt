@@ -8,7 +8,7 @@ use lib.ListN.{length, getD, take, drop}
 use Rattle.slots.specs.declared.slot.Slot.{Slot}
 use Rattle.rows.specs.declared.slot.SlotKind.{SlotKind}
 use Rattle.rows.specs.declared.slot.SlotKind.the-variants.{Nothing as NoSlots, Prefectures, Places}
-use Rattle.rows.specs.Verdict.{empty}
+use Rattle.rows.specs.Runs.Verdict.{empty}
 use Rattle.slots.specs.Slots.{slotValues, unused, tidySlots}
 use Rattle.rows.specs.Kept.{Empty}
 use Rattle.rows.proofs.Outcomes.{and-both}

@@ -10,7 +10,7 @@ use Rattle.slots.specs.declared.slot.Slot.{Slot}
 use Rattle.rows.specs.declared.slot.SlotKind.{SlotKind}
 use Rattle.rows.specs.declared.slot.SlotKind.the-variants.{Nothing as NoSlots, Prefectures, Places}
 use Rattle.rows.specs.Layout.{slotCount}
-use Rattle.rows.specs.Verdict.{empty}
+use Rattle.rows.specs.Runs.Verdict.{empty}
 use Rattle.slots.specs.Slots.{noSlot, slotsOf, unused, tidySlots}
 use Rattle.rows.specs.Kept.{Empty}
 use Rattle.rows.proofs.Outcomes.{and-both, both-and}

@@ -12,9 +12,9 @@ use Rattle.slots.specs.declared.slot.Slot.{Slot}
 use Rattle.rows.specs.declared.slot.SlotKind.{SlotKind}
 use Rattle.rows.specs.declared.slot.SlotKind.the-variants.{Nothing, Prefectures, Places}
 use Rattle.slots.specs.declared.check.Run.{Run}
-use Rattle.rows.specs.Refusals.{_then_}
+use Rattle.rows.specs.Runs.Questions.{_then_}
 use Rattle.rows.specs.Layout.{slotCount, slotFirst, slotBits, slotRows}
-use Rattle.rows.specs.Verdict.{empty, walk, later, slotsVerdict}
+use Rattle.rows.specs.Runs.Verdict.{empty, walk, later, slotsVerdict}
 use Rattle.slots.specs.Slots.{noSlot, slotValues}
 use Rattle.slots.specs.Steps.{laterRun}
 use Rattle.rows.proofs.Outcomes.{then-assoc, then-fine}

@@ -13,7 +13,7 @@ use borrow.Author.Tests.{ne-eqb}
 use Rattle.rows.specs.declared.slot.SlotKind.{SlotKind}
 use Rattle.rows.specs.declared.slot.SlotKind.the-variants.{Nothing, Prefectures, Places}
 use Rattle.rows.specs.Layout.{_to_, slotCount, slotFirst, slotBits, slotRows}
-use Rattle.rows.specs.Verdict.{empty}
+use Rattle.rows.specs.Runs.Verdict.{empty}
 use Rattle.rows.specs.Values.{each, cut}
 use Rattle.slots.specs.Slots.{noSlot, slotValues, usedAmong}
 use Rattle.rows.specs.Kept.{In, Empty, AllEmpty, LaterKept, SlotsKept}

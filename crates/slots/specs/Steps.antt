@@ -5,9 +5,9 @@ use mathlib.Core.List.{List}
 use Rattle.rows.specs.declared.slot.SlotKind.{SlotKind}
 use Rattle.slots.specs.declared.check.Run.{Run}
 use Rattle.rows.specs.declared.refusal.Refusal.the-variants.{Gap}
-use Rattle.rows.specs.Refusals.{_then_, unless}
+use Rattle.rows.specs.Runs.Questions.{_then_, unless}
 use Rattle.rows.specs.Layout.{slotRows}
-use Rattle.rows.specs.Verdict.{empty, walk}
+use Rattle.rows.specs.Runs.Verdict.{empty, walk}
 
 -- what has been found among the slots so far, with one later slot more
 unfoldable pub laterRun : SlotKind → Run → ℕ → List ℕ → Run

@@ -1,6 +1,6 @@
 // One slot: what it holds, and whether that is nothing.
 ghost use mathlib.Core.Path.{_≡_};
-ghost use Rattle.rows.specs.Verdict.{empty};
+ghost use Rattle.rows.specs.Runs.Verdict.{empty};
 ghost use Rattle.slots.specs.Slots.{slotValues, unused};
 use rows::slot::SlotKind;
 

@@ -1,7 +1,7 @@
 -- `hypocenter::Quake::check` meets its contract. Assumes nothing.
 use mathlib.Core.Path.{sym, ap, _∙_}
 use Rattle.rows.specs.declared.refusal.Verdict.{Verdict}
-use Rattle.rows.specs.Refusals.{_then_}
+use Rattle.rows.specs.Runs.Questions.{_then_}
 use Rattle.hypocenter.proofs.Walks.{quake-walk}
 use Rattle.rows.proofs.Walks.{asked, link}
 use borrow.Author.Needs.{needs}

@@ -5,7 +5,7 @@ use mathlib.Core.List.{List}
 use native.Mathlib.Omega.{arith}
 use borrow.Author.Needs.{needs}
 use lib.ListN.{length, getD, take, drop, length-set}
-use Rattle.rows.specs.Verdict.{allowed}
+use Rattle.rows.specs.Runs.Verdict.{allowed}
 use Rattle.line.proofs.Worths.{no-digit, a-digit}
 use Rattle.line.proofs.LineTurns.{markAt, digit-more, digit-stop, turn, last, wrong-length, wrong-digit}
 use Rattle.line.specs.Lines.{frameOfLine, allDigits, noLine, framing}

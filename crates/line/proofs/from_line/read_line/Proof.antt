@@ -19,8 +19,8 @@ read-requires c κs = search needs
 enum-told-2 : tie.Need-enum-told-2
 enum-told-2 c = search needs
 
-record-of-zeros-requires : tie.Need-record-of-zeros-requires
-record-of-zeros-requires c κs = search needs
+of-zeros-requires : tie.Need-of-zeros-requires
+of-zeros-requires c κs = search needs
 
 returns : tie.Need-returns
 returns c =
@@ -30,7 +30,7 @@ returns c =
 returns-2 : tie.Need-returns-2
 returns-2 c =
     let f = c .before .before .before .before in
-    read-no-more _ (f .frame-of-line .result) _ _ (f .frame-of-line .ensures) (c .before .enum-told2 .given .1) (c .record-of-zeros .ensures)
+    read-no-more _ (f .frame-of-line .result) _ _ (f .frame-of-line .ensures) (c .before .enum-told2 .given .1) (c .of-zeros .ensures)
 
 pub read-line-spec : {M : Type 1} → statement M
 read-line-spec =
@@ -41,6 +41,6 @@ read-line-spec =
     slice-aggregate-read
     read-requires
     enum-told-2
-    record-of-zeros-requires
+    of-zeros-requires
     returns
     returns-2)

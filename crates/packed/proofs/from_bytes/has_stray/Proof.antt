@@ -4,7 +4,7 @@ use mathlib.Core.Bool.{not}
 use Prim.Native.Nat.{_-_}
 use native.Mathlib.Omega.{arith}
 use lib.ListN.{take, drop}
-use Rattle.rows.specs.Verdict.{empty}
+use Rattle.rows.specs.Runs.Verdict.{empty}
 use Rattle.packed.proofs.Stray.{nothing-there, something-there, none-left}
 use Rattle.packed.proofs.from_bytes.has_stray.Statement.{statement}
 use Rattle.packed.proofs.from_bytes.has_stray.Tie as tie

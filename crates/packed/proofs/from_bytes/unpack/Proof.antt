@@ -5,12 +5,12 @@ use borrow.Author.Needs.{needs}
 use Rattle.packed.proofs.from_bytes.unpack.Statement.{statement}
 use Rattle.packed.proofs.from_bytes.unpack.Tie as tie
 
-record-of-zeros-requires : tie.Need-record-of-zeros-requires
-record-of-zeros-requires c κs = search needs
+of-zeros-requires : tie.Need-of-zeros-requires
+of-zeros-requires c κs = search needs
 
 returns : tie.Need-returns
 unfolding recordFrom
-returns c = simp (ne-eqb _ 145 (c .before .if1 .taken), c .record-of-zeros .ensures)
+returns c = simp (ne-eqb _ 145 (c .before .if1 .taken), c .of-zeros .ensures)
 
 body-of-requires : tie.Need-body-of-requires
 body-of-requires c κs = search needs
@@ -44,7 +44,7 @@ pub unpack-spec : {M : Type 1} → statement M
 unpack-spec =
     tie.close
     (tie.spec
-    record-of-zeros-requires
+    of-zeros-requires
     returns
     body-of-requires
     marked-slots-of-requires

@@ -1,6 +1,6 @@
 -- `report::check::body` meets its contract. Assumes nothing.
 use Rattle.rows.proofs.Outcomes.{then-fine}
-use Rattle.report.specs.Steps.{bodyVerdict}
+use Rattle.report.specs.Runs.Steps.{bodyVerdict}
 use borrow.Author.Needs.{needs}
 use Rattle.report.proofs.check.body.Statement.{statement}
 use Rattle.report.proofs.check.body.Tie as tie

@@ -2,8 +2,8 @@
 use Rattle.bits.specs.Frame.{Bytes}
 use Rattle.rows.proofs.Outcomes.{then-assoc, fine-then}
 use Rattle.report.specs.Records.{values}
-use Rattle.report.proofs.Walks.{body-walk}
-use Rattle.rows.specs.Verdict.{verdict}
+use Rattle.report.proofs.Tables.Walks.{body-walk}
+use Rattle.rows.specs.Runs.Verdict.{verdict}
 use borrow.Author.Needs.{elem-fits-field, length-unmapped, needs}
 use lib.ListN.{length}
 use mathlib.Core.Path.{_≡_}

@@ -2,8 +2,8 @@
 use mathlib.Core.Path.{sym, ap, _∙_}
 use Rattle.rows.specs.declared.refusal.Verdict.{Verdict}
 use Rattle.report.specs.Layout.{layout}
-use Rattle.rows.specs.Refusals.{_then_}
-use Rattle.report.proofs.Walks.{common-walk}
+use Rattle.rows.specs.Runs.Questions.{_then_}
+use Rattle.report.proofs.Tables.Walks.{common-walk}
 use Rattle.rows.proofs.Walks.{asked, link}
 use borrow.Author.Needs.{needs}
 use Rattle.report.proofs.check.common.Statement.{statement}

@@ -1,8 +1,8 @@
 -- `report::check::last` meets its contract. Assumes nothing.
 use Rattle.rows.proofs.Outcomes.{then-assoc, then-fine, fine-then}
 use Rattle.rows.proofs.Spans.{allowed-one, only-yes}
-use Rattle.rows.specs.Refusals.{unless}
-use Rattle.rows.specs.Verdict.{walk, judge}
+use Rattle.rows.specs.Runs.Questions.{unless}
+use Rattle.rows.specs.Runs.Verdict.{walk, judge}
 use borrow.Author.Needs.{needs}
 use Rattle.report.proofs.check.last.Statement.{statement}
 use Rattle.report.proofs.check.last.Tie as tie

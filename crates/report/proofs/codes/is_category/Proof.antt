@@ -1,8 +1,8 @@
 -- `report::codes::is_category` meets its contract. Assumes nothing.
-use Rattle.report.proofs.KnownCodes.{two-to-four}
+use Rattle.report.proofs.Reading.KnownCodes.{two-to-four}
 use Rattle.rows.proofs.Spans.{not-allowed}
-use Rattle.report.specs.Reading.{categories}
-use Rattle.rows.specs.Verdict.{allowed}
+use Rattle.report.specs.Layout.{categories}
+use Rattle.rows.specs.Runs.Verdict.{allowed}
 use mathlib.Core.Logic.{⊎-elim}
 use mathlib.Core.Path.{sym, ap}
 use native.Mathlib.Omega.{arith}

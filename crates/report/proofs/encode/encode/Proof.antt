@@ -1,11 +1,11 @@
 -- `report::encode::encode` meets its contract. Assumes nothing.
 use Prim.Native.Nat.{ℕ}
 use Rattle.bits.specs.Frame.{laid}
-use Rattle.report.proofs.Encoding.{encoded, valid-known}
-use Rattle.report.proofs.Shapes.{Shaped}
+use Rattle.report.proofs.Writing.Encoding.{encoded, valid-known}
+use Rattle.report.proofs.Tables.Shapes.{Shaped}
 use Rattle.slots.proofs.Used.{unmapped}
 use Rattle.report.specs.Layout.{layout}
-use Rattle.report.specs.Writing.{frontWidths, frontValues}
+use Rattle.report.specs.Runs.Writing.{frontWidths, frontValues}
 use borrow.Author.Needs.{needs, length-unmapped}
 use mathlib.Core.List.{List}
 use mathlib.Core.Path.{ap, _∙_}

@@ -1,7 +1,7 @@
 -- `report::encode::lay_front` meets its contract. Assumes nothing.
 use Rattle.bits.specs.Frame.{laid}
-use Rattle.report.proofs.Encoding.{all-laid}
-use Rattle.report.proofs.Shapes.{Shaped}
+use Rattle.report.proofs.Writing.Encoding.{all-laid}
+use Rattle.report.proofs.Tables.Shapes.{Shaped}
 use Rattle.slots.proofs.Used.{unmapped}
 use Rattle.rows.specs.Layout.{slotsRows, slotCount, slotFirst}
 use Rattle.slots.specs.Slots.{slotValues}

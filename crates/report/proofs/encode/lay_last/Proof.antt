@@ -2,7 +2,7 @@
 use Prim.Native.Nat.{ℕ, _-_}
 use Rattle.bits.proofs.Inside.{placed-in}
 use Rattle.bits.specs.Frame.{placed}
-use Rattle.report.proofs.Laying.{Spare, spare-of, last-laid}
+use Rattle.report.proofs.Writing.Laying.{Spare, spare-of, last-laid}
 use Rattle.report.specs.Layout.{layout}
 use borrow.Author.Needs.{needs}
 use mathlib.Core.List.{List}

@@ -2,7 +2,7 @@
 use Prim.Native.Nat.{_-_}
 use Rattle.bits.proofs.Inside.{field-in}
 use Rattle.bits.specs.Frame.{fieldOf}
-use Rattle.report.proofs.Agree.{outer, Suits, suits, judged}
+use Rattle.report.proofs.Reading.Agree.{outer, Suits, suits, judged}
 use Rattle.report.specs.Layout.{layout}
 use Rattle.report.specs.Records.{bodyOf, recordAs}
 use Rattle.report.specs.declared.record.Body.{Body}

@@ -2,8 +2,9 @@
 use mathlib.Core.Path.{ap, _∙_}
 use Prim.Native.Nat.{ℕ}
 use lib.Dec.{eqb}
-use Rattle.rows.specs.Verdict.{allowed}
-use Rattle.report.specs.Reading.{preambles, categories, outerOf}
+use Rattle.rows.specs.Runs.Verdict.{allowed}
+use Rattle.report.specs.Layout.{preambles, categories}
+use Rattle.report.specs.Runs.Reading.{outerOf}
 use Rattle.rows.proofs.Outcomes.{fine-then}
 use Rattle.rows.proofs.Walks.{asked, link}
 use borrow.Author.Needs.{needs}

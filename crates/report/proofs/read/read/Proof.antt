@@ -1,13 +1,13 @@
 -- `report::read::read` meets its contract. Assumes nothing.
-use Rattle.report.proofs.Ways.{not-a-frame, refused-early, read-on}
+use Rattle.report.proofs.Reading.ReadSteps.{not-a-frame, refused-early, read-on}
 use Rattle.bits.proofs.Inside.{right-size}
 use borrow.Author.Needs.{needs}
 use mathlib.Core.Path.{sym, _∙_}
 use Rattle.report.proofs.read.read.Statement.{statement}
 use Rattle.report.proofs.read.read.Tie as tie
 
-record-of-zeros-requires : tie.Need-record-of-zeros-requires
-record-of-zeros-requires c κs = search needs
+of-zeros-requires : tie.Need-of-zeros-requires
+of-zeros-requires c κs = search needs
 
 conclude-requires : tie.Need-conclude-requires
 conclude-requires c κs = search needs
@@ -15,7 +15,7 @@ conclude-requires c κs = search needs
 returns : tie.Need-returns
 returns c =
     let i = c .before .before in
-    not-a-frame (i .before .before .args .frame .now) (c .before .record-of-zeros .result) (c .conclude .result) (i .if1 .taken) (c .conclude .ensures)
+    not-a-frame (i .before .before .args .frame .now) (c .before .of-zeros .result) (c .conclude .result) (i .if1 .taken) (c .conclude .ensures)
 
 frame-of-requires : tie.Need-frame-of-requires
 frame-of-requires c κs = search needs
@@ -32,8 +32,8 @@ inner-requires c κs = sym (c .before .before .outer .ensures) ∙ c .enum-told 
 enum-told-2 : tie.Need-enum-told-2
 enum-told-2 c = search needs
 
-record-of-zeros-requires-2 : tie.Need-record-of-zeros-requires-2
-record-of-zeros-requires-2 c κs = search needs
+of-zeros-requires-2 : tie.Need-of-zeros-requires-2
+of-zeros-requires-2 c κs = search needs
 
 conclude-requires-2 : tie.Need-conclude-requires-2
 conclude-requires-2 c κs = search needs
@@ -57,7 +57,7 @@ pub read-spec : {M : Type 1} → statement M
 read-spec =
     tie.close
     (tie.spec
-    record-of-zeros-requires
+    of-zeros-requires
     conclude-requires
     returns
     frame-of-requires
@@ -65,7 +65,7 @@ read-spec =
     enum-told
     inner-requires
     enum-told-2
-    record-of-zeros-requires-2
+    of-zeros-requires-2
     conclude-requires-2
     returns-2
     returns-3)

@@ -1,8 +1,8 @@
 -- `report::write::answer` meets its contract. Assumes nothing.
 use Rattle.rows.proofs.Outcomes.{fine-then}
 use Rattle.rows.proofs.Walks.{asked, link}
-use Rattle.rows.specs.Refusals.{_then_}
-use Rattle.report.specs.Writing.{writeAnswer}
+use Rattle.rows.specs.Runs.Questions.{_then_}
+use Rattle.report.specs.Runs.Writing.{writeAnswer}
 use Rattle.rows.specs.declared.refusal.Verdict.{Verdict}
 use borrow.Author.Needs.{needs}
 use mathlib.Core.Path.{ap, _∙_}

@@ -1,5 +1,5 @@
 -- `report::write::write` meets its contract. Assumes nothing.
-use Rattle.report.proofs.Ways.{fine-size, fine-valid, left-alone, written-out}
+use Rattle.report.proofs.Writing.WriteSteps.{fine-size, fine-valid, left-alone, written-out}
 use Rattle.bits.proofs.Inside.{right-size}
 use borrow.Author.Needs.{needs}
 use mathlib.Core.Path.{sym, _∙_}

@@ -7,10 +7,10 @@ use mathlib.Core.Bool.{false}
 use lib.ListN.{length, getD, take, drop}
 use borrow.Author.Needs.{needs}
 use Rattle.rows.specs.Layout.{slotCount, slotFirst, slotBits, slotRows}
-use Rattle.rows.specs.Refusals.{_then_}
+use Rattle.rows.specs.Runs.Questions.{_then_}
 use Rattle.slots.specs.Slots.{noSlot, slotValues}
 use Rattle.slots.specs.Steps.{laterRun}
-use Rattle.rows.specs.Verdict.{walk}
+use Rattle.rows.specs.Runs.Verdict.{walk}
 use Rattle.slots.proofs.Turns.{at-most-sixteen, slot-place, first-place, start-place, next-place, same-place, onward, turn, done, whole, no-slots}
 use Rattle.slots.proofs.check.check_slots.Statement.{statement}
 use Rattle.slots.proofs.check.check_slots.Tie as tie

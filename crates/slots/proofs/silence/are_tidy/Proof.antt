@@ -4,7 +4,7 @@ use Rattle.slots.proofs.TidyTurns.{rest, tidy-so-far, not-tidy, all-tid
 use Rattle.rows.specs.declared.slot.SlotKind.the-variants.{Nothing}
 use Rattle.rows.specs.Layout.{slotCount}
 use Rattle.slots.specs.Slots.{noSlot, unused, tidySlots}
-use Rattle.rows.specs.Verdict.{empty}
+use Rattle.rows.specs.Runs.Verdict.{empty}
 use Rattle.rows.specs.declared.slot.SlotKind.{SlotKind}
 use borrow.Author.Needs.{needs}
 use borrow.Author.Tests.{not-true, not-false}

@@ -3,7 +3,7 @@ use mathlib.Core.Path.{ap, _∙_}
 use Rattle.report.specs.declared.record.Record.{Record}
 use Rattle.report.specs.Layout.{layout}
 use Rattle.report.specs.Records.{values}
-use Rattle.rows.specs.Verdict.{verdict}
+use Rattle.rows.specs.Runs.Verdict.{verdict}
 use Rattle.bulletin.specs.Names.{nameVerdict}
 use borrow.Author.Needs.{needs}
 use Rattle.bulletin.proofs.name.Name.verdict.Statement.{statement}

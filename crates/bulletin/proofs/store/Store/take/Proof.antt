@@ -1,7 +1,7 @@
 -- `bulletin::store::Store::take` meets its contract. Assumes nothing.
 use mathlib.Core.Path.{_≡_, ap, sym, _∙_}
 use native.Mathlib.Omega.{arith}
-use Rattle.report.proofs.Shapes.{Shaped}
+use Rattle.report.proofs.Tables.Shapes.{Shaped}
 use Rattle.bulletin.specs.Takings.{admission}
 use Rattle.bulletin.specs.Steps.{found}
 use Rattle.bulletin.proofs.Texts.{unmapped}

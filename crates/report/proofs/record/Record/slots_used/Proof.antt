@@ -1,5 +1,5 @@
 -- `report::record::Record::slots_used` meets its contract.
-use Rattle.report.proofs.Used.{of-record}
+use Rattle.report.proofs.Reading.Used.{of-record}
 use borrow.Author.Needs.{needs}
 use Rattle.report.proofs.record.Record.slots_used.Statement.{statement}
 use Rattle.report.proofs.record.Record.slots_used.Tie as tie

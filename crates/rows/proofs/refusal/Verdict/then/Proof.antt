@@ -1,5 +1,5 @@
 -- `rows::refusal::Verdict::then` meets its contract. Assumes nothing.
-use Rattle.rows.specs.Refusals.{_then_}
+use Rattle.rows.specs.Runs.Questions.{_then_}
 use borrow.Author.Needs.{needs}
 use Rattle.rows.proofs.refusal.Verdict.then.Statement.{statement}
 use Rattle.rows.proofs.refusal.Verdict.then.Tie as tie

@@ -1,7 +1,7 @@
 -- `rows::refusal::Verdict::time` meets its contract. Assumes nothing.
 use Rattle.rows.proofs.Outcomes.{then-assoc, then-fine}
 use Rattle.rows.proofs.Spans.{allowed-one}
-use Rattle.rows.specs.Verdict.{walk, judge}
+use Rattle.rows.specs.Runs.Verdict.{walk, judge}
 use borrow.Author.Tests.{lt-leb, le-leb}
 use borrow.Author.Needs.{needs}
 use Rattle.rows.proofs.refusal.Verdict.time.Statement.{statement}

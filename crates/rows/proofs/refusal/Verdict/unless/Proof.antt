@@ -1,5 +1,5 @@
 -- `rows::refusal::Verdict::unless` meets its contract. Assumes nothing.
-use Rattle.rows.specs.Refusals.{_then_, unless}
+use Rattle.rows.specs.Runs.Questions.{_then_, unless}
 use borrow.Author.Needs.{needs}
 use Rattle.rows.proofs.refusal.Verdict.unless.Statement.{statement}
 use Rattle.rows.proofs.refusal.Verdict.unless.Tie as tie

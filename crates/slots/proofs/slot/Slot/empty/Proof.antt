@@ -1,6 +1,6 @@
 -- `slots::slot::Slot::empty` meets its contract. Assumes nothing.
 use Rattle.rows.proofs.Outcomes.{and-true}
-use Rattle.rows.specs.Verdict.{empty}
+use Rattle.rows.specs.Runs.Verdict.{empty}
 use borrow.Author.Needs.{needs}
 use borrow.Author.Tests.{eq-eqb, ne-eqb}
 use Rattle.slots.proofs.slot.Slot.empty.Statement.{statement}

@@ -1,6 +1,6 @@
 -- `slots::slot::Slot::is_tidy` meets its contract. Assumes nothing.
 use Rattle.rows.proofs.Outcomes.{and-true}
-use Rattle.rows.specs.Verdict.{empty}
+use Rattle.rows.specs.Runs.Verdict.{empty}
 use borrow.Author.Needs.{needs}
 use Rattle.slots.proofs.slot.Slot.is_tidy.Statement.{statement}
 use Rattle.slots.proofs.slot.Slot.is_tidy.Tie as tie

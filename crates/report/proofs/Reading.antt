@@ -1,0 +1,7 @@
+pub mod Agree
+pub mod Frames
+pub mod JudgedFrames
+pub mod KnownCodes
+pub mod ReadNumbers
+pub mod ReadSteps
+pub mod Used

@@ -1,0 +1,115 @@
+-- What reading a frame answers, and what the frame is. Assumes nothing.
+use mathlib.Core.Path.{_≡_, refl, _∙_}
+use Prim.Native.Nat.{ℕ, _≤_}
+use native.Mathlib.Omega.{arith}
+use mathlib.Core.List.{List}
+use lib.ListN.{length}
+use lib.Dec.{eqb}
+use borrow.Author.Tests.{eqb-true, eq-eqb}
+use Rattle.bits.specs.Frame.{fieldOf}
+use Rattle.parity.specs.Parity.{parityOf, parityRight}
+use Rattle.rows.specs.declared.refusal.Verdict.{Verdict}
+use Rattle.rows.specs.declared.refusal.Verdict.the-variants.{Fine, Refused}
+use Rattle.rows.specs.declared.refusal.Refusal.{Refusal}
+use Rattle.rows.specs.declared.refusal.Refusal.the-variants.{Length, Padding, Preamble, Parity, Message, Version, Category, Range, Gap}
+use Rattle.rows.specs.Layout.{Layout, slotCount}
+use Rattle.report.specs.Layout.{layout, preambles, categories}
+use Rattle.rows.specs.Values.{Values, valuesOf}
+use Rattle.rows.specs.Runs.Verdict.{allowed}
+use Rattle.report.specs.Records.{bodyOf}
+use Rattle.report.specs.Runs.Reading.{outerOf, innerOf, readAnswer}
+use Rattle.rows.specs.Kept.{In}
+use Rattle.report.specs.Conforms.{Conforms}
+use Rattle.rows.specs.Faults.{Fault, Lowest}
+use Rattle.report.specs.Reasons.{readQuestions, WhyNotRead}
+use Rattle.rows.proofs.Outcomes.{then-assoc}
+use Rattle.rows.proofs.Judged.{turn-place, turn}
+use Rattle.rows.proofs.Spans.{allowed-in, in-allowed}
+use Rattle.rows.proofs.JudgedFrames.{JudgesAll}
+use Rattle.report.proofs.Reading.JudgedFrames.{whole}
+use Rattle.rows.proofs.Ordered.{Met, Answers, unquestioned, question, past}
+use Rattle.rows.proofs.Lengths.{length-each}
+
+-- ---- 8, 9, 10
+
+-- the layout and the values of a frame
+abbrev pub layoutOf : List ℕ → Layout
+layoutOf s = layout (bodyOf s)
+
+abbrev pub frameValues : List ℕ → Values
+frameValues s = valuesOf s (layoutOf s)
+
+inner : (s : List ℕ) → JudgesAll (layoutOf s) (frameValues s)
+unfolding valuesOf
+inner s = whole (bodyOf s) (frameValues s) (length-each (slotCount (layoutOf s .slots)) _)
+
+lowest : (s : List ℕ) (x : Refusal) → innerOf s ≡ Refused x → Lowest (layoutOf s) (frameValues s) x
+lowest s x e = record { there = inner s .found x e; lowest = λ y f. turn-place x y (inner s .earliest x y e f) }
+
+-- ---- 1 to 7
+
+answered : (s : List ℕ) → Answers (readAnswer s) (readQuestions s) (innerOf s)
+unfolding outerOf
+answered s = simp then-assoc
+    (question (eqb (length s) 32) (length s ≡ 32) Length (eqb-true (length s) 32) (eq-eqb (length s) 32)
+    (question (eqb (fieldOf s 250 6) 0) (fieldOf s 250 6 ≡ 0) Padding (eqb-true (fieldOf s 250 6) 0) (eq-eqb (fieldOf s 250 6) 0)
+    (question (allowed preambles (fieldOf s 0 8)) (In preambles (fieldOf s 0 8)) Preamble (allowed-in preambles _) (in-allowed preambles _)
+    (question (parityRight s) (parityOf s ≡ fieldOf s 226 24) Parity (eqb-true (parityOf s) _) (eq-eqb (parityOf s) _)
+    (question (eqb (fieldOf s 8 6) 43) (fieldOf s 8 6 ≡ 43) Message (eqb-true (fieldOf s 8 6) 43) (eq-eqb (fieldOf s 8 6) 43)
+    (question (eqb (fieldOf s 214 6) 1) (fieldOf s 214 6 ≡ 1) Version (eqb-true (fieldOf s 214 6) 1) (eq-eqb (fieldOf s 214 6) 1)
+    (question (allowed categories (fieldOf s 17 4)) (In categories (fieldOf s 17 4)) Category (allowed-in categories _) (in-allowed categories _)
+    (unquestioned (innerOf s)))))))))
+
+-- ---- both ways
+
+pub met : (s : List ℕ) → Conforms s → Met (readQuestions s)
+met s c = (c .long, (c .padding, (c .preamble, (c .parity, (c .message, (c .version, (c .category, tt)))))))
+
+pub conforming-fine : (s : List ℕ) → Conforms s → readAnswer s ≡ Fine
+conforming-fine s c = answered s .met (met s c) ∙ inner s .passes (c .rows)
+
+pub fine-conforming : (s : List ℕ) → readAnswer s ≡ Fine → Conforms s
+fine-conforming s e =
+    let a = answered s .fine e in
+    let m = a .0 in
+    record {
+      long = m .0;
+      padding = m .1 .0;
+      preamble = m .1 .1 .0;
+      parity = m .1 .1 .1 .0;
+      message = m .1 .1 .1 .1 .0;
+      version = m .1 .1 .1 .1 .1 .0;
+      category = m .1 .1 .1 .1 .1 .1 .0;
+      rows = inner s .passed (a .1);
+    }
+
+-- ---- reasons
+
+pub reason : (s : List ℕ) (x : Refusal) → readAnswer s ≡ Refused x → WhyNotRead s x
+reason s x e = answered s .refused x (Lowest (layoutOf s) (frameValues s) x) e (lowest s x)
+
+pub faulty : (s : List ℕ) (y : Refusal) → Met (readQuestions s) → Fault (layoutOf s) (frameValues s) y
+    → (x : Refusal) × (readAnswer s ≡ Refused x) × Lowest (layoutOf s) (frameValues s) x
+faulty s y m f = by (innerOf s) refl
+  where
+    by : (v : Verdict) → innerOf s ≡ v → (x : Refusal) × (readAnswer s ≡ Refused x) × Lowest (layoutOf s) (frameValues s) x
+    by Fine e = absurd (inner s .clean y (inner s .passed e) f)
+    by (Refused x) e = (x, answered s .met m ∙ e, lowest s x e)
+
+-- nothing is wrong, so nothing is refused
+pub faultless : (s : List ℕ) → Met (readQuestions s)
+    → ((x : Refusal) → Fault (layoutOf s) (frameValues s) x → ⊥) → readAnswer s ≡ Fine
+faultless s m h = by (innerOf s) refl
+  where
+    by : (v : Verdict) → innerOf s ≡ v → readAnswer s ≡ Fine
+    by Fine e = answered s .met m ∙ e
+    by (Refused x) e = absurd (h x (inner s .found x e))
+
+pub no-gap : (s : List ℕ) (p : ℕ) → readAnswer s ≡ Refused (Range p) → Fault (layoutOf s) (frameValues s) (Gap p) → ⊥
+no-gap s p e f = late (inner s .earliest (Range p) (Gap p) refused f)
+  where
+    refused : innerOf s ≡ Refused (Range p)
+    refused = past 8 (readQuestions s) (Range p) (innerOf s ≡ Refused (Range p)) refl (omega arith) (answered s .refused (Range p) _ e (λ i. i))
+
+    late : turn (Range p) ≤ turn (Gap p) → ⊥
+    late h = omega arith

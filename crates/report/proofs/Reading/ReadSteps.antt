@@ -1,0 +1,45 @@
+-- The three ways out of reading, and the two of writing. Assumes nothing.
+use mathlib.Core.Path.{_≡_, sym, ap, _∙_}
+use Prim.Native.Nat.{ℕ}
+use mathlib.Core.List.{List}
+use lib.ListN.{length}
+use borrow.Author.Tests.{eq-eqb, ne-eqb}
+use Rattle.rows.specs.declared.refusal.Verdict.{Verdict}
+use Rattle.rows.specs.declared.refusal.Verdict.the-variants.{Fine, Refused}
+use Rattle.rows.specs.declared.refusal.Refusal.{Refusal}
+use Rattle.rows.specs.declared.refusal.Refusal.the-variants.{Length}
+use Rattle.report.specs.declared.record.Record.{Record}
+use Rattle.report.specs.declared.read.Reading.{Reading}
+use Rattle.rows.specs.Runs.Questions.{_then_, unless}
+use Rattle.report.specs.Records.{recordOf}
+use Rattle.report.specs.Runs.Reading.{outerOf, innerOf, readAnswer, reading, readOf}
+
+pub not-a-frame : (s : List ℕ) (r : Record) (out : Reading) → (length s ≡ 32 → ⊥) → out ≡ reading (Refused Length) r → out ≡ readOf s
+unfolding unless _then_
+not-a-frame s r out n e = e ∙ sym (ap (λ (v : Verdict). reading v (recordOf s)) refused)
+  where
+    refused : readAnswer s ≡ Refused Length
+    refused = simp (ne-eqb (length s) 32 n)
+
+-- what is read of a frame, by the answer to 2 to 7
+asked : (s : List ℕ) (v : Verdict) → length s ≡ 32 → v ≡ outerOf s → readAnswer s ≡ v then innerOf s
+unfolding unless _then_
+asked s v l e = simp (eq-eqb (length s) 32 l, e)
+
+pub refused-early : (s f : List ℕ) (v : Verdict) (x : Refusal) (r : Record) (out : Reading) → length s ≡ 32 → f ≡ s → v ≡ outerOf f
+    → v ≡ Refused x → out ≡ reading v r → out ≡ readOf s
+unfolding _then_
+refused-early s f v x r out l p q e k =
+    k
+    ∙ ap (λ (w : Verdict). reading w r) e
+    ∙ sym (ap (λ (w : Verdict). reading w (recordOf s)) (asked s v l (q ∙ ap outerOf p) ∙ ap (λ (w : Verdict). w then innerOf s) e))
+
+pub read-on : (s f : List ℕ) (v : Verdict) (out : Reading) → length s ≡ 32 → f ≡ s → v ≡ outerOf f → v ≡ Fine
+    → out ≡ reading (innerOf f) (recordOf f) → out ≡ readOf s
+unfolding _then_
+read-on s f v out l p q e k =
+    k
+    ∙ ap (λ (g : List ℕ). reading (innerOf g) (recordOf g)) p
+    ∙ sym (ap (λ (w : Verdict). reading w (recordOf s)) (asked s v l (q ∙ ap outerOf p) ∙ ap (λ (w : Verdict). w then innerOf s) e))
+
+-- ---- and the two of writing

@@ -1,0 +1,4 @@
+pub mod OneToOne
+pub mod Parts
+pub mod ReadThenWritten
+pub mod WrittenThenRead

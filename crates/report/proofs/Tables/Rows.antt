@@ -1,0 +1,57 @@
+-- Rows that tile are a layout: their fields are what `decode` finds, and the values of a frame are their fields. Assumes
+-- nothing.
+use mathlib.Core.Path.{_≡_}
+use mathlib.Core.Bool.{Bool, true}
+use Prim.Native.Nat.{ℕ, _/_, _^_}
+use mathlib.Core.List.{List, _∷_, map}
+use Rattle.bits.specs.Layout.{total, decode}
+use Rattle.bits.specs.Frame.{number, fieldOf}
+use Rattle.report.specs.declared.record.Body.{Body}
+use Rattle.report.specs.declared.record.Body.the-variants.{Nothing, Hypocenter, Intensity, Nankai, AshFall}
+use Rattle.rows.specs.Layout.{Layout, spare, row, nothing, allRows, tiles, allFit}
+use Rattle.report.specs.Layout.{layout}
+use Rattle.intensity.specs.Intensity.{intensity}
+use Rattle.nankai.specs.Nankai.{nankai}
+use Rattle.hypocenter.specs.Hypocenter.{hypocenter}
+use Rattle.ash_fall.specs.AshFall.{ashFall}
+use Rattle.rows.specs.Values.{cut}
+use Rattle.report.specs.Runs.Writing.{frontWidths}
+use Rattle.rows.proofs.Outcomes.{and-both}
+use Rattle.report.proofs.Tables.Tables.{layouts, all, tables-tile, rules-fit}
+use Rattle.rows.proofs.Rows.{tiled, tiled-total}
+
+-- ---- every table
+
+-- what was computed of all tables holds of the table of any body
+listed : (test : Layout → Bool) → all test layouts ≡ true → (b : Body) → test (layout b) ≡ true
+unfolding layout
+listed test e b =
+    let two = and-both (test hypocenter) _ e in
+    let three = and-both (test intensity) _ (two .1) in
+    let four = and-both (test nankai) _ (three .1) in
+    let nine = and-both (test ashFall) _ (four .1) in
+    by b (two .0) (three .0) (four .0) (nine .0) (and-both (test nothing) _ (nine .1) .0)
+  where
+    by : (b : Body) → test hypocenter ≡ true → test intensity ≡ true → test nankai ≡ true → test ashFall ≡ true → test nothing ≡ true → test (layout b) ≡ true
+    by Nothing two three four nine none = none
+    by (Hypocenter q) two three four nine none = two
+    by (Intensity t) two three four nine none = three
+    by (Nankai p) two three four nine none = four
+    by (AshFall v) two three four nine none = nine
+
+pub tiles-all : (b : Body) → tiles 8 226 (allRows (layout b)) ≡ true
+tiles-all b = listed (λ l. tiles 8 226 (allRows l)) tables-tile b
+
+pub fits-all : (b : Body) → allFit (allRows (layout b)) ≡ true
+fits-all b = listed (λ l. allFit (allRows l)) rules-fit b
+
+-- ---- rows that tile
+
+-- the widths of bits 0 to 225
+pub front-total : (b : Body) → total (frontWidths (layout b)) ≡ 226
+front-total b = tiled-total 8 (allRows (layout b)) (tiles-all b)
+
+pub front-fields : (s : List ℕ) (b : Body) → decode (frontWidths (layout b)) (number s / 2 ^ 30) ≡ fieldOf s 0 8 ∷ map (cut s) (allRows (layout b))
+front-fields s b = tiled s 0 (row 0 8 spare ∷ allRows (layout b)) (tiles-all b)
+
+-- ---- the values of a frame one behind the other

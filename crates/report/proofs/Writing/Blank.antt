@@ -1,0 +1,25 @@
+-- The loops that look for something where nothing may be. Assumes nothing.
+use mathlib.Core.Path.{_≡_, ap, _∙_}
+use mathlib.Core.Bool.{Bool, true, false, _&&_}
+use Prim.Native.Nat.{ℕ, _+_, _≤_, _<_}
+use native.Mathlib.Numerals.{add-one}
+use mathlib.Core.List.{List}
+use lib.ListN.{length, getD, drop, drop-of-length-le}
+use lib.Seq.{drop-cons}
+use lib.Dec.{eqb}
+use borrow.Author.Tests.{eq-eqb, ne-eqb}
+use Rattle.rows.specs.Runs.Verdict.{empty}
+
+one-byte : (l : List ℕ) (i : ℕ) → i < length l → empty (drop i l) ≡ eqb (getD l i 0) 0 && empty (drop (i + 1) l)
+unfolding empty
+one-byte l i h = rw (add-one i, drop-cons l i 0 h)
+
+pub blank-so-far : (l : List ℕ) (i : ℕ) → i < length l → getD l i 0 ≡ 0 → empty (drop i l) ≡ empty (drop (i + 1) l)
+blank-so-far l i h z = one-byte l i h ∙ ap (λ (b : Bool). b && empty (drop (i + 1) l)) (eq-eqb (getD l i 0) 0 z)
+
+pub not-blank : (l : List ℕ) (i : ℕ) → i < length l → (getD l i 0 ≡ 0 → ⊥) → empty (drop i l) ≡ false
+not-blank l i h z = one-byte l i h ∙ ap (λ (b : Bool). b && empty (drop (i + 1) l)) (ne-eqb (getD l i 0) 0 z)
+
+pub all-blank : (l : List ℕ) (i : ℕ) → length l ≤ i → empty (drop i l) ≡ true
+unfolding empty
+all-blank l i h = ap empty (drop-of-length-le l h)

@@ -1,0 +1,68 @@
+-- Number 11: what the test finds, and what must be zero. Assumes nothing.
+use mathlib.Core.Path.{_≡_, refl}
+use mathlib.Core.Bool.{true}
+use Prim.Native.Nat.{ℕ}
+use mathlib.Core.List.{List}
+use Rattle.report.specs.declared.record.Body.{Body}
+use Rattle.report.specs.declared.record.Body.the-variants.{Nothing, Hypocenter, Intensity, Nankai, AshFall}
+use Rattle.report.specs.declared.record.Record.{Record}
+use Rattle.report.specs.Layout.{layout}
+use Rattle.rows.specs.Layout.{slotCount}
+use Rattle.rows.specs.Runs.Verdict.{empty}
+use Rattle.slots.specs.Slots.{slotsOf, tidySlots}
+use Rattle.report.specs.Records.{textOf, recordAs}
+use Rattle.report.specs.Runs.Writing.{tidyText, tidy}
+use Rattle.report.specs.Rules.{TextUnused, Tidy}
+use Rattle.rows.proofs.Outcomes.{and-both, both-and}
+use Rattle.rows.proofs.JudgedSlots.{empty-is, is-empty}
+use Rattle.slots.proofs.Tidy.{others-tidy, frame-slots-tidy, slots-tidy, first-tidy}
+
+-- ---- slots
+
+-- ---- text
+
+text-unused : (b : Body) (text : List ℕ) → tidyText b text ≡ true → TextUnused b text
+unfolding tidyText
+text-unused Nothing text e = empty-is text e
+text-unused (Hypocenter q) text e = empty-is text e
+text-unused (Intensity t) text e = empty-is text e
+text-unused (Nankai p) text e = tt
+text-unused (AshFall v) text e = empty-is text e
+
+unused-text : (b : Body) (text : List ℕ) → TextUnused b text → tidyText b text ≡ true
+unfolding tidyText
+unused-text Nothing text h = is-empty text h
+unused-text (Hypocenter q) text h = is-empty text h
+unused-text (Intensity t) text h = is-empty text h
+unused-text (Nankai p) text h = refl
+unused-text (AshFall v) text h = is-empty text h
+
+-- ---- both
+
+pub is-tidy : (r : Record) → tidy r ≡ true → Tidy r
+is-tidy r e =
+    let k = layout (r .body) .slots in
+    let q = and-both (tidySlots k (slotCount k) (r .slots)) (tidyText (r .body) (r .text)) e in
+    record { slots = first-tidy k (slotCount k) (r .slots) (q .0); others = others-tidy k (slotCount k) (r .slots) (q .0); text = text-unused (r .body) (r .text) (q .1) }
+
+pub tidy-is : (r : Record) → Tidy r → tidy r ≡ true
+tidy-is r h =
+    let k = layout (r .body) .slots in
+    both-and (tidySlots k (slotCount k) (r .slots)) (tidyText (r .body) (r .text)) (slots-tidy k (slotCount k) (r .slots) (h .slots) (h .others))
+    (unused-text (r .body) (r .text) (h .text))
+
+-- ---- the record of a frame is tidy
+
+frame-text-tidy : (s : List ℕ) (b : Body) → tidyText b (textOf s b) ≡ true
+unfolding textOf tidyText empty
+frame-text-tidy s Nothing = refl
+frame-text-tidy s (Hypocenter q) = refl
+frame-text-tidy s (Intensity t) = refl
+frame-text-tidy s (Nankai p) = refl
+frame-text-tidy s (AshFall e) = refl
+
+pub frame-tidy : (s : List ℕ) (b : Body) → tidy (recordAs s b) ≡ true
+unfolding recordAs
+frame-tidy s b =
+    let k = layout b .slots in
+    both-and (tidySlots k (slotCount k) (slotsOf s k)) (tidyText b (textOf s b)) (frame-slots-tidy s k) (frame-text-tidy s b)

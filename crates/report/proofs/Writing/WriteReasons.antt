@@ -1,0 +1,88 @@
+-- More of why writing refuses: the gap before a slot's fields, and Reserved. Assumes nothing.
+use mathlib.Core.Path.{_≡_, refl, sym, ap, _∙_}
+use mathlib.Core.Bool.{Bool, true, not, _&&_}
+use mathlib.Core.Logic.{⊎-elim}
+use Prim.Native.Nat.{ℕ, _≤_, _<_}
+use native.Mathlib.Omega.{arith}
+use mathlib.Core.List.{List, [], _∷_}
+use lib.Dec.{eqb}
+use borrow.Author.Tests.{le-leb, lt-leb, eqb-false, not-true}
+use Rattle.rows.specs.declared.refusal.Verdict.{Verdict}
+use Rattle.rows.specs.declared.refusal.Verdict.the-variants.{Fine, Refused}
+use Rattle.rows.specs.declared.refusal.Refusal.{Refusal}
+use Rattle.rows.specs.declared.refusal.Refusal.the-variants.{Range, Gap}
+use Rattle.report.specs.declared.record.Record.{Record}
+use Rattle.rows.specs.Refusals.{says}
+use Rattle.rows.specs.Runs.Questions.{_then_, unless}
+use Rattle.rows.specs.Layout.{Layout, common, ending}
+use Rattle.report.specs.Layout.{layout}
+use Rattle.rows.specs.Runs.Verdict.{allowed, judge, walk, slotsVerdict, verdict}
+use Rattle.rows.specs.Values.{lastValues}
+use Rattle.report.specs.Records.{values}
+use Rattle.rows.specs.Faults.{Question, _or_, First, Fault}
+use Rattle.report.specs.Reasons.{writeQuestions}
+use Rattle.report.specs.Runs.Writing.{writeAnswer, Valid}
+use Rattle.rows.proofs.Outcomes.{fine-both, and-both}
+use Rattle.rows.proofs.Judged.{turn}
+use Rattle.report.proofs.Tables.Shapes.{Shaped}
+use Rattle.report.proofs.Writing.Validity.{recordLayout, recordValues, innerWrite, judged-record, answered}
+
+-- ---- the gap
+
+-- no question has the number n
+abbrev noneIs : ℕ → List Question → Bool
+noneIs n [] = true
+noneIs n ((q or r) ∷ qs) = not (eqb (says r .number) n) && noneIs n qs
+
+-- so a refusal with that number comes from the rest
+from-rest : (qs : List Question) (x : Refusal) (rest : Type 0) → noneIs (says x .number) qs ≡ true → First qs x rest → rest
+from-rest [] x rest b f = f
+from-rest ((q or r) ∷ qs) x rest b f =
+    let k = and-both (not (eqb (says r .number) (says x .number))) (noneIs (says x .number) qs) b in
+    ⊎-elim
+    (λ u. absurd (eqb-false (says r .number) (says x .number) (not-true _ (k .0)) (ap (λ (y : Refusal). says y .number) (sym (u .1)))))
+    (λ u. from-rest qs x rest (k .1) (u .1))
+    f
+
+pub no-gap : (r : Record) (size p : ℕ) → Shaped r → writeAnswer r size ≡ Refused (Range p) → Fault (recordLayout r) (recordValues r) (Gap p) → ⊥
+no-gap r size p s e f = late (judged-record r (s .slots) .earliest (Range p) (Gap p) refused f)
+  where
+    refused : innerWrite r ≡ Refused (Range p)
+    refused = from-rest (writeQuestions r size) (Range p) (innerWrite r ≡ Refused (Range p)) refl (answered r size .refused (Range p) _ e (λ i. i))
+
+    late : turn (Range p) ≤ turn (Gap p) → ⊥
+    late h = omega arith
+
+-- ---- Reserved
+
+-- the record with another Reserved
+abbrev pub reserving : Record → ℕ → Record
+reserving r n = record { preamble = r .preamble; reserved = n; common = r .common; body = r .body; slots = r .slots; text = r .text }
+
+above : (l : Layout) (n : ℕ) → 63 < n → walk 0 (ending l) (lastValues 0 n) ≡ Refused (Range 220)
+unfolding walk judge allowed unless _then_
+above l n h = simp (le-leb 0 n (omega arith), lt-leb n 63 h)
+
+behind-fine : (a b c d : Verdict) (x : Refusal) → a then b then c then d ≡ Fine → (e : Verdict) → e ≡ Refused x → a then b then c then e ≡ Refused x
+unfolding _then_
+behind-fine a b c d x f e g =
+    let p = fine-both a (b then c then d) f in
+    let q = fine-both b (c then d) (p .1) in
+    let t = fine-both c d (q .1) in
+    simp (p .0, q .0, t .0, g)
+
+above-inner : (r : Record) (n : ℕ) → 63 < n → innerWrite r ≡ Fine → innerWrite (reserving r n) ≡ Refused (Range 220)
+unfolding verdict values
+above-inner r n h e =
+    let l = layout (r .body) in
+    let v = values r 0 0 in
+    behind-fine (walk 0 (common l) (v .head)) (walk 0 (l .body) (v .body)) (slotsVerdict (l .slots) (v .slots)) (walk 0 (ending l) (v .last)) (Range 220) e
+    (walk 0 (ending l) (lastValues 0 n)) (above l n h)
+
+pub above-63 : (r : Record) (n : ℕ) → Valid r → 63 < n → writeAnswer (reserving r n) 32 ≡ Refused (Range 220)
+above-63 r n v h =
+    let a = answered r 32 .fine v in
+    let m = a .0 in
+    let t = m .1 .1 .1 .0 in
+    answered (reserving r n) 32 .met (m .0, (m .1 .0, (m .1 .1 .0, (record { slots = t .slots; others = t .others; text = t .text }, tt))))
+    ∙ above-inner r n h (a .1)

@@ -1,0 +1,43 @@
+-- `report::record::Record::is_tidy` meets its contract. Assumes nothing.
+use Rattle.report.specs.Layout.{layout}
+use Rattle.rows.specs.Layout.{slotCount}
+use Rattle.slots.specs.Slots.{tidySlots}
+use Rattle.report.specs.Runs.Writing.{tidyText}
+use Rattle.rows.specs.declared.slot.SlotKind.{SlotKind}
+use borrow.Author.Needs.{needs}
+use mathlib.Core.Bool.{Bool, _&&_}
+use mathlib.Core.Path.{_≡_, sym, ap, _∙_}
+use Rattle.report.proofs.record.Record.is_tidy.Statement.{statement}
+use Rattle.report.proofs.record.Record.is_tidy.Tie as tie
+
+-- what was found of the slots
+found : (c : tie.After-are-tidy) → let r = c .before .before .before .before .args .self in (c .are-tidy .result ≡ tidySlots (layout (r .body) .slots) (slotCount (layout (r .body) .slots)) (r .slots))
+found c =
+    c .are-tidy .ensures
+    ∙ ap (λ (k : SlotKind). tidySlots k (slotCount k) (c .before .before .before .before .args .self .slots)) (c .before .slot-kind .ensures)
+
+slot-kind-requires : tie.Need-slot-kind-requires
+slot-kind-requires c κs = search needs
+
+are-tidy-requires : tie.Need-are-tidy-requires
+are-tidy-requires c κs = search needs
+
+has-tidy-text-requires : tie.Need-has-tidy-text-requires
+has-tidy-text-requires c κs = search needs
+
+returns : tie.Need-returns
+returns c =
+    let t = c .before .before in
+    let r = t .before .before .before .before .args .self in
+    c .has-tidy-text .ensures ∙ sym (ap (λ (b : Bool). b && tidyText (r .body) (r .text)) (sym (found t) ∙ c .before .if1 .taken))
+
+returns-2 : tie.Need-returns-2
+returns-2 c =
+    let t = c .before in
+    let r = t .before .before .before .before .args .self in
+    sym (ap (λ (b : Bool). b && tidyText (r .body) (r .text)) (sym (found t) ∙ c .if1 .left))
+
+pub is-tidy-spec : {M : Type 1} → statement M
+is-tidy-spec =
+    tie.close
+    (tie.spec slot-kind-requires are-tidy-requires has-tidy-text-requires returns returns-2)

@@ -1,0 +1,36 @@
+-- What a record must be so that it can be written, as a list of rules without an order.
+use Prim.Native.Nat.{ℕ, _≤_, _<_}
+use mathlib.Core.Path.{_≡_}
+use mathlib.Core.List.{List}
+use lib.ListN.{getD}
+use Rattle.report.specs.declared.record.Body.{Body}
+use Rattle.report.specs.declared.record.Body.the-variants.{Nothing, Hypocenter, Intensity, Nankai, AshFall}
+use Rattle.rows.specs.declared.slot.SlotKind.the-variants.{Nothing as NoSlots}
+use Rattle.report.specs.declared.record.Record.{Record}
+use Rattle.rows.specs.Layout.{slotCount}
+use Rattle.report.specs.Layout.{layout, preambles}
+use Rattle.slots.specs.Slots.{unused, noSlot}
+use Rattle.report.specs.Records.{values}
+use Rattle.rows.specs.Kept.{In, Empty, Holds}
+
+-- text stands in category 4 alone
+abbrev pub TextUnused : Body → List ℕ → Type 0
+TextUnused (Nankai p) text = Unit
+TextUnused Nothing text = Empty text
+TextUnused (Hypocenter q) text = Empty text
+TextUnused (Intensity t) text = Empty text
+TextUnused (AshFall e) text = Empty text
+
+-- nothing stands where the category has nothing
+pub record Tidy (r : Record) : Type 0 where
+  pub slots : (i : ℕ) → i < slotCount (layout (r .body) .slots) → Empty (unused (layout (r .body) .slots) (getD (r .slots) i noSlot))
+  pub others : (i : ℕ) → slotCount (layout (r .body) .slots) ≤ i → Empty (unused NoSlots (getD (r .slots) i noSlot))
+  pub text : TextUnused (r .body) (r .text)
+
+pub record KeepsRules (r : Record) : Type 0 where
+  pub preamble : In preambles (r .preamble)
+  pub category : r .body ≡ Nothing → ⊥
+  pub slots : (i : ℕ) → i < slotCount (layout (r .body) .slots) → Empty (unused (layout (r .body) .slots) (getD (r .slots) i noSlot))
+  pub others : (i : ℕ) → slotCount (layout (r .body) .slots) ≤ i → Empty (unused NoSlots (getD (r .slots) i noSlot))
+  pub text : TextUnused (r .body) (r .text)
+  pub rows : Holds (layout (r .body)) (values r 0 0)

@@ -1,0 +1,42 @@
+-- What reading a lent frame answers (document 01): "1 to 7 in that order, then 8, 9, 10 by lowest bit".
+use Prim.Native.Nat.{ℕ}
+use mathlib.Core.List.{List}
+use lib.ListN.{length}
+use lib.Dec.{eqb}
+use Rattle.bits.specs.Frame.{fieldOf}
+use Rattle.parity.specs.Parity.{parityRight}
+use Rattle.rows.specs.declared.refusal.Verdict.{Verdict}
+use Rattle.rows.specs.declared.refusal.Verdict.the-variants.{Fine, Refused}
+use Rattle.rows.specs.declared.refusal.Refusal.the-variants.{Length, Padding, Preamble, Parity, Message, Version, Category}
+use Rattle.report.specs.declared.record.Record.{Record}
+use Rattle.report.specs.declared.read.Reading.{Reading}
+use Rattle.rows.specs.Runs.Questions.{_then_, unless}
+use Rattle.report.specs.Layout.{categories, preambles, layout}
+use Rattle.rows.specs.Runs.Verdict.{allowed, verdict}
+use Rattle.report.specs.Records.{bodyOf, recordOf, zeros}
+use Rattle.rows.specs.Values.{valuesOf}
+
+-- 2 to 7
+unfoldable pub outerOf : List ℕ → Verdict
+outerOf s =
+    unless (eqb (fieldOf s 250 6) 0) Padding
+    then unless (allowed preambles (fieldOf s 0 8)) Preamble
+    then unless (parityRight s) Parity
+    then unless (eqb (fieldOf s 8 6) 43) Message
+    then unless (eqb (fieldOf s 214 6) 1) Version
+    then unless (allowed categories (fieldOf s 17 4)) Category
+
+-- 8, 9, 10
+abbrev pub innerOf : List ℕ → Verdict
+innerOf s = verdict (layout (bodyOf s)) (valuesOf s (layout (bodyOf s)))
+
+abbrev pub readAnswer : List ℕ → Verdict
+readAnswer s = unless (eqb (length s) 32) Length then outerOf s then innerOf s
+
+-- the answer, with the record where nothing is refused
+abbrev pub reading : Verdict → Record → Reading
+reading Fine r = record { answer = Fine; «record» = r }
+reading (Refused x) r = record { answer = Refused x; «record» = zeros }
+
+abbrev pub readOf : List ℕ → Reading
+readOf s = reading (readAnswer s) (recordOf s)

@@ -1,0 +1,83 @@
+-- What writing a record answers, and the frame that it writes (document 01): "Writing: 1, 3, 7, 11, then 8 and 10 by lowest
+-- bit".
+use Prim.Native.Nat.{ℕ, _+_, _*_, _^_}
+use mathlib.Core.Path.{_≡_}
+use mathlib.Core.Bool.{Bool, true, false, _&&_}
+use mathlib.Core.List.{List, _∷_}
+use lib.ListN.{length}
+use lib.Dec.{eqb}
+use Rattle.bits.specs.Layout.{encode}
+use Rattle.bits.specs.Frame.{bytesOf}
+use Rattle.parity.specs.Parity.{parityOfFront}
+use Rattle.rows.specs.declared.refusal.Verdict.{Verdict}
+use Rattle.rows.specs.declared.refusal.Verdict.the-variants.{Fine, Refused}
+use Rattle.rows.specs.declared.refusal.Refusal.the-variants.{Length, Preamble, Category, Unused}
+use Rattle.report.specs.declared.record.Body.{Body}
+use Rattle.report.specs.declared.record.Body.the-variants.{Nothing, Hypocenter, Intensity, Nankai, AshFall}
+use Rattle.report.specs.declared.record.Record.{Record}
+use Rattle.rows.specs.Runs.Questions.{_then_, unless}
+use Rattle.rows.specs.Layout.{Layout, allRows, slotCount}
+use Rattle.report.specs.Layout.{layout, preambles}
+use Rattle.rows.specs.Runs.Verdict.{allowed, empty, verdict}
+use Rattle.slots.specs.Slots.{tidySlots}
+use Rattle.report.specs.Records.{values}
+use Rattle.rows.specs.Values.{flat, widths}
+
+-- ---- what is refused
+
+-- 7
+abbrev pub known : Body → Bool
+known Nothing = false
+known (Hypocenter q) = true
+known (Intensity t) = true
+known (Nankai p) = true
+known (AshFall e) = true
+
+-- text stands in category 4 alone
+unfoldable pub tidyText : Body → List ℕ → Bool
+tidyText (Nankai p) text = true
+tidyText Nothing text = empty text
+tidyText (Hypocenter q) text = empty text
+tidyText (Intensity t) text = empty text
+tidyText (AshFall e) text = empty text
+
+abbrev pub tidy : Record → Bool
+tidy r = let k = layout (r .body) .slots in tidySlots k (slotCount k) (r .slots) && tidyText (r .body) (r .text)
+
+-- spares are not in a record: they are zero
+unfoldable pub writeAnswer : Record → ℕ → Verdict
+writeAnswer r size =
+    unless (eqb size 32) Length
+    then unless (allowed preambles (r .preamble)) Preamble
+    then unless (known (r .body)) Category
+    then unless (tidy r) Unused
+    then verdict (layout (r .body)) (values r 0 0)
+
+-- ---- the frame
+
+-- the preamble and the rows, with their values
+abbrev pub frontWidths : Layout → List ℕ
+frontWidths l = 8 ∷ widths (allRows l)
+
+abbrev pub frontValues : Record → List ℕ
+frontValues r = r .preamble ∷ flat (values r 0 0)
+
+-- bits 0 to 225 as one number, and the whole frame: the parity behind them, and six bits of padding
+unfoldable pub front : Record → ℕ
+front r = encode (frontWidths (layout (r .body))) (frontValues r)
+
+unfoldable pub frame : Record → ℕ
+frame r = (front r * 2 ^ 24 + parityOfFront (front r)) * 2 ^ 6
+
+-- a refused writing leaves the buffer as it was
+abbrev pub written : Verdict → Record → List ℕ → List ℕ
+written Fine r buffer = bytesOf (frame r)
+written (Refused x) r buffer = buffer
+
+abbrev pub writeOf : Record → List ℕ → List ℕ
+writeOf r buffer = written (writeAnswer r (length buffer)) r buffer
+
+-- ---- "A record is valid when writing it to 32 bytes is not refused"
+
+abbrev pub Valid : Record → Type 0
+Valid r = writeAnswer r 32 ≡ Fine

@@ -1,0 +1,3 @@
+pub mod Questions
+pub mod Times
+pub mod Verdict
