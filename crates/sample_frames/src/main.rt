@@ -4,13 +4,14 @@ ghost use Prim.Native.Nat.{_≤_};
 use ash_fall::Eruption;
 use hypocenter::Quake;
 use hypocenter::angle::Angle;
+use intensity::Shaking;
 use libc::STDOUT_FILENO;
+use nankai::PageNumbers;
 use report::record::Body;
 use report::record::Common;
-use report::record::Page;
 use report::record::Record;
-use report::record::Slot;
 use rows::time::Time;
+use slots::slot::Slot;
 
 // Tables 2-4-2 and 2-5-1: Aso city, Takamori town and Minamiaso village in Kumamoto.
 const ASO: u32 = 4321400;
@@ -129,7 +130,7 @@ fn intensity(at: Time) -> Record {
     slots[6] = slot(0, 2, 40);
     slots[7] = slot(0, 2, 41);
     slots[8] = slot(0, 2, 46);
-    issued(at, Body::Intensity(at), slots, [0u8; 18])
+    issued(at, Body::Intensity(Shaking { time: at }), slots, [0u8; 18])
 }
 
 fn page_text(number: u8) -> [u8; 18]
@@ -150,7 +151,7 @@ fn page_text(number: u8) -> [u8; 18]
 fn show_pages(at: Time) {
     let mut number = 1;
     while number <= 27 {
-        let page = Page {
+        let page = PageNumbers {
             serial: 5,
             number: number,
             total: 27,
