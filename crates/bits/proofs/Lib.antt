@@ -5,5 +5,5 @@ pub mod Windows
 pub mod Frames
 pub mod Inside
 pub mod Laid
-pub mod Turns
+pub mod ByteLoops
 pub mod Arrays

@@ -24,7 +24,7 @@ use Rattle.rows.specs.Layout.{bytes}
 use Rattle.report.specs.Records.{values, bodyValues}
 use Rattle.rows.specs.Kept.{Kept}
 use Rattle.report.specs.Runs.Writing.{writeAnswer, Valid}
-use Rattle.rows.proofs.Outcomes.{unless-fine, unless-refused}
+use Rattle.rows.proofs.Rules.Outcomes.{unless-fine, unless-refused}
 use Rattle.report.proofs.Tables.Shapes.{Shaped}
 use Rattle.report.proofs.Claims.{valid-keeps-rules}
 use Rattle.report.proofs.record.Body as B

@@ -13,7 +13,7 @@ use Rattle.bulletin.specs.declared.store.Store.{Store}
 use Rattle.bulletin.specs.Pages.{noPage, zeros, sameBytes, join, soundPage, soundAt, soundFrom}
 use Rattle.bulletin.specs.Stores.{at, soundStore}
 use Rattle.bulletin.specs.Merges.{joined}
-use Rattle.rows.proofs.Outcomes.{false-not-true}
+use Rattle.rows.proofs.Rules.Outcomes.{false-not-true}
 use Rattle.bulletin.proofs.Texts.{same-eq}
 use Rattle.bulletin.proofs.Joins.{length-joins, getD-joins}
 use Rattle.bulletin.proofs.Ranges.{sound-parts}

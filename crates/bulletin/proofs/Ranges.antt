@@ -11,9 +11,9 @@ use Rattle.nankai.specs.Nankai.{nankai}
 use Rattle.report.specs.Records.{values, bodyValues}
 use Rattle.rows.specs.Kept.{Holds}
 use Rattle.rows.specs.Faults.{Lowest}
-use Rattle.rows.proofs.Judged.{turn-place}
-use Rattle.rows.proofs.Outcomes.{not-both, false-not-true}
-use Rattle.rows.proofs.JudgedFrames.{JudgesAll}
+use Rattle.rows.proofs.Rules.Judged.{turn-place}
+use Rattle.rows.proofs.Rules.Outcomes.{not-both, false-not-true}
+use Rattle.rows.proofs.Rules.JudgedFrames.{JudgesAll}
 use Rattle.report.proofs.Writing.Validity.{judged-record}
 use Rattle.bulletin.specs.declared.name.Name.{Name}
 use Rattle.bulletin.specs.declared.store.Store.{Store}

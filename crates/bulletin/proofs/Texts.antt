@@ -7,7 +7,7 @@ use Prim.Native.Nat.{ℕ, _<_, _≤_}
 use lib.ListN.{length, length-map}
 use lib.Dec.{eqb, ltb}
 use borrow.Author.Tests.{eqb-true, eq-eqb, ltb-true, ltb-false}
-use Rattle.rows.proofs.Outcomes.{and-both, false-not-true}
+use Rattle.rows.proofs.Rules.Outcomes.{and-both, false-not-true}
 use Rattle.bulletin.specs.Pages.{sameBytes}
 
 pub below? : (k n : ℕ) → (k < n) ⊎ (n ≤ k)

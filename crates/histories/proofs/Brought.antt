@@ -12,7 +12,7 @@ use Rattle.report.specs.declared.record.Body.the-variants.{Nankai}
 use Rattle.nankai.specs.declared.PageNumbers.{Page as Numbers}
 use Rattle.report.specs.declared.record.Record.{Record}
 use Rattle.rows.specs.declared.refusal.Refusal.{Refusal}
-use Rattle.rows.proofs.Outcomes.{and-both}
+use Rattle.rows.proofs.Rules.Outcomes.{and-both}
 use Rattle.bulletin.specs.declared.page.Page.{Page}
 use Rattle.bulletin.specs.declared.name.Name.{Name}
 use Rattle.bulletin.specs.declared.store.Store.{Store}

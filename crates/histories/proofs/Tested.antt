@@ -8,7 +8,7 @@ use native.Mathlib.Omega.{arith}
 use lib.ListN.{length, getD}
 use lib.Dec.{eqb, ltb}
 use borrow.Author.Tests.{eqb-true, eq-eqb, ne-eqb, ltb-true, ltb-false}
-use Rattle.rows.proofs.Outcomes.{false-not-true}
+use Rattle.rows.proofs.Rules.Outcomes.{false-not-true}
 use Rattle.bulletin.specs.declared.page.Page.{Page}
 use Rattle.bulletin.specs.declared.store.Store.{Store}
 use Rattle.bulletin.specs.Pages.{noPage, zeros, sameBytes, soundPage, soundAt, soundFrom}

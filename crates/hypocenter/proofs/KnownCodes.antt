@@ -14,8 +14,8 @@ use Rattle.hypocenter.specs.declared.meaning.Magnitude.the-variants.{InR
 use Rattle.rows.specs.Layout.{Span, _to_}
 use Rattle.rows.specs.Runs.Verdict.{allowed}
 use Rattle.hypocenter.specs.Hypocenter.{depthOf, magnitudeOf}
-use Rattle.rows.proofs.Outcomes.{false-not-true}
-use Rattle.rows.proofs.Spans.{in-span, span-in, in-allowed, not-allowed}
+use Rattle.rows.proofs.Rules.Outcomes.{false-not-true}
+use Rattle.rows.proofs.Rules.Spans.{in-span, span-in, in-allowed, not-allowed}
 
 abbrev depths : List Span
 depths = 0 to 501 ∷ 511 to 511 ∷ []

@@ -10,8 +10,8 @@ use Rattle.rows.specs.Layout.{_to_, time}
 use Rattle.hypocenter.specs.Hypocenter.{angle, depth, magnitude, hypocenter, angleValues, quakeValues}
 use Rattle.rows.specs.Runs.Verdict.{allowed, judge, walk}
 use Rattle.rows.specs.Values.{timeValues}
-use Rattle.rows.proofs.Outcomes.{then-assoc, fine-then}
-use Rattle.rows.proofs.Spans.{allowed-one}
+use Rattle.rows.proofs.Rules.Outcomes.{then-assoc, fine-then}
+use Rattle.rows.proofs.Rules.Spans.{allowed-one}
 
 -- category 2
 pub quake-walk : (q : Quake)

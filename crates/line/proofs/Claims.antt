@@ -14,8 +14,8 @@ use Rattle.report.specs.Runs.Reading.{readOf}
 use Rattle.report.specs.Runs.Writing.{frame, Valid}
 use Rattle.report.proofs.Tables.Shapes.{Shaped}
 use Rattle.line.specs.Lines.{worth, capitals, isLine, frameOfLine, lineReading, lineOf}
-use Rattle.line.proofs.There as There
-use Rattle.line.proofs.Places as Places
+use Rattle.line.proofs.ThereAndBack
+use Rattle.line.proofs.DigitBits as Places
 use Rattle.line.proofs.Pairs as Pairs
 use Rattle.line.proofs.ReadLines as ReadLines
 
@@ -23,7 +23,7 @@ use Rattle.line.proofs.ReadLines as ReadLines
 
 -- Any 32 bytes have a line ..
 pub a-frame-has-a-line : (s : List ℕ) → length s ≡ 32 → Bytes s → isLine (lineOf s) ≡ true
-a-frame-has-a-line = There.is-line
+a-frame-has-a-line = ThereAndBack.is-line
 
 -- .. whose digits are the frame's bits, four a digit, "most significant first".
 pub digits-are-fields : (s : List ℕ) → length s ≡ 32 → Bytes s → (k : ℕ) → k < 63 → worth (getD (lineOf s) k 0) ≡ fieldOf s (4 * k) 4
@@ -43,7 +43,7 @@ pub no-padding-no-digit-lost : (s : List ℕ) → fieldOf s 250 6 ≡ 0 → fiel
 no-padding-no-digit-lost = ReadLines.no-digit-lost
 
 pub line-to-frame-to-line : (l : List ℕ) → isLine l ≡ true → lineOf (frameOfLine l) ≡ capitals l
-line-to-frame-to-line = There.line-back
+line-to-frame-to-line = ThereAndBack.line-back
 
 -- ---- "A line: 17, then as its frame."
 

@@ -1,8 +1,8 @@
 pub mod Claims
-pub mod Worths
+pub mod DigitValues
 pub mod Pairs
-pub mod LineTurns
+pub mod DigitLoop
 pub mod LineEnds
-pub mod There
-pub mod Places
+pub mod ThereAndBack
+pub mod DigitBits
 pub mod ReadLines

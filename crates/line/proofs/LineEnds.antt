@@ -16,7 +16,7 @@ use Rattle.report.specs.declared.read.Reading.{Reading}
 use Rattle.rows.specs.Runs.Questions.{_then_, unless}
 use Rattle.report.specs.Records.{zeros}
 use Rattle.report.specs.Runs.Reading.{reading, readOf}
-use Rattle.rows.proofs.Outcomes.{not-both}
+use Rattle.rows.proofs.Rules.Outcomes.{not-both}
 use Rattle.line.specs.declared.from_line.Framing.{Framing}
 use Rattle.line.specs.Lines.{isLine, frameOfLine, noLine, framing, lineReading, lineOf, lineAnswer, lineInto}
 use Rattle.line.proofs.Pairs.{line-length}

@@ -19,8 +19,8 @@ use Rattle.report.specs.Runs.Writing.{frame, Valid}
 use Rattle.report.proofs.Tables.Shapes.{Shaped}
 use Rattle.report.proofs.Claims.{answers-are-0-to-10, a-refused-reading-gives-zeros, valid-is-written, read-again-is-the-record, written-frames-conform, written-frames-are-bytes}
 use Rattle.line.specs.Lines.{isLine, frameOfLine, lineReading, lineOf, capitals}
-use Rattle.line.proofs.There.{is-line, frame-back, same-frame, same-line}
-use Rattle.line.proofs.Places.{half-field}
+use Rattle.line.proofs.ThereAndBack.{is-line, frame-back, same-frame, same-line}
+use Rattle.line.proofs.DigitBits.{half-field}
 
 pub line-reads : (l : List ℕ) → isLine l ≡ true → lineReading l ≡ readOf (frameOfLine l)
 unfolding lineReading

@@ -17,10 +17,10 @@ use Rattle.listing.specs.declared.progress.Progress.{Progress}
 use Rattle.listing.specs.Rows.{Filled, rowOf, refusedRow, rowText, headingText, cutText, longest, laid}
 use Rattle.listing.specs.Listing.{onto, linesOf, lineRow, limit, rowsFrom, listing}
 use Rattle.listing.specs.Scanning.{Reach, say, reach, lastRow, progressOf, begunIn, taken, Left, leftBy, scanned, finished}
-use Rattle.listing.proofs.Kept.{begun-back}
-use Rattle.listing.proofs.WrongLines.{noLine, wrong-length, wrong-byte}
-use Rattle.listing.proofs.Divisions.{chunks-join, stays-short}
-use Rattle.listing.proofs.Whole.{said, said-of-all}
+use Rattle.listing.proofs.Texts.KeptBytes.{begun-back}
+use Rattle.listing.proofs.Lines.WrongLines.{noLine, wrong-length, wrong-byte}
+use Rattle.listing.proofs.Chunks.Divisions.{chunks-join, stays-short}
+use Rattle.listing.proofs.Chunks.Whole.{said, said-of-all}
 
 -- ---- any division of an input into chunks gives its listing
 

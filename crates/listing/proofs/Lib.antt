@@ -1,12 +1,5 @@
 pub mod Claims
-pub mod Decimals
-pub mod Written
-pub mod Kept
-pub mod Reaches
-pub mod WrongLines
-pub mod LineTurns
-pub mod Chunks
-pub mod UsedSlots
-pub mod Divisions
-pub mod Whole
 pub mod PaperExample
+pub mod Texts
+pub mod Lines
+pub mod Chunks

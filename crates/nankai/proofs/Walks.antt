@@ -14,8 +14,8 @@ use Rattle.rows.specs.declared.refusal.Refusal.the-variants.{Range}
 use Rattle.rows.specs.Runs.Questions.{_then_, unless}
 use Rattle.rows.specs.Layout.{_to_, bytes}
 use Rattle.rows.specs.Runs.Verdict.{judge, walk, allowed}
-use Rattle.rows.proofs.Outcomes.{fine-then, unless-true, then-fine}
-use Rattle.rows.proofs.Spans.{in-allowed, allowed-one}
+use Rattle.rows.proofs.Rules.Outcomes.{fine-then, unless-true, then-fine}
+use Rattle.rows.proofs.Rules.Spans.{in-allowed, allowed-one}
 use Rattle.nankai.specs.declared.PageNumbers.{PageNumbers}
 use Rattle.nankai.specs.Nankai.{nankai, page, numbered, numberValues, pageValues}
 

@@ -27,13 +27,13 @@ use Rattle.report.specs.Reasons.{readQuestions, WhyNotRead, WhyNotWritte
 use Rattle.report.specs.Runs.Writing.{frame, written, writeAnswer, writeOf, Valid}
 use Rattle.report.specs.Rules.{KeepsRules}
 use Rattle.report.proofs.Tables.Tables.{layouts, all, tables-tile as tiled, rules-fit as fit}
-use Rattle.rows.proofs.Ordered.{Met}
+use Rattle.rows.proofs.Rules.Ordered.{Met}
 use Rattle.report.proofs.Reading.Frames.{layoutOf, frameValues, conforming-fine, fine-conforming, reason, faulty, faultless, no-gap}
-use Rattle.rows.proofs.Lengths.{Filled, frame-filled}
+use Rattle.rows.proofs.Layouts.Lengths.{Filled, frame-filled}
 use Rattle.report.proofs.Tables.Lengths.{record-filled}
 use Rattle.slots.proofs.Used.{counted-used}
 use Rattle.report.proofs.Reading.Used.{others-empty}
-use Rattle.rows.proofs.Numbers.{says-apart}
+use Rattle.rows.proofs.Rules.Numbers.{says-apart}
 use Rattle.report.proofs.Reading.ReadNumbers.{read-ten, refused-zeros}
 use Rattle.report.proofs.PaperValues.{found, expected, paperValues, every-row}
 use Rattle.report.proofs.Tables.Shapes.{Shaped, frame-shaped}

@@ -1,14 +1,2 @@
-pub mod Outcomes
-pub mod Spans
-pub mod Judged
-pub mod JudgedRows
-pub mod JudgedSlots
-pub mod JudgedFrames
-pub mod Lengths
-pub mod Rows
-pub mod Fits
-pub mod Flattened
-pub mod Numbers
-pub mod Ordered
-pub mod Filling
-pub mod Walks
+pub mod Rules
+pub mod Layouts

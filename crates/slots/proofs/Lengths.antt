@@ -9,8 +9,8 @@ use Rattle.rows.specs.declared.slot.SlotKind.{SlotKind}
 use Rattle.rows.specs.declared.slot.SlotKind.the-variants.{Nothing as NoSlots, Prefectures, Places}
 use Rattle.rows.specs.Layout.{slotCount, slotBits, slotRows}
 use Rattle.slots.specs.Slots.{slotValues, slotsOf}
-use Rattle.slots.proofs.Turns.{at-most-sixteen}
-use Rattle.rows.proofs.Lengths.{SlotsFilled}
+use Rattle.slots.proofs.SlotLoop.{at-most-sixteen}
+use Rattle.rows.proofs.Layouts.Lengths.{SlotsFilled}
 
 pub slot-filled : (k : SlotKind) (at : ℕ) (s : Slot) → length (slotValues k s) ≡ length (slotRows k at)
 slot-filled NoSlots at s = refl

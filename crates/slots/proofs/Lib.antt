@@ -1,5 +1,5 @@
-pub mod Turns
-pub mod TidyTurns
+pub mod SlotLoop
+pub mod TidyLoop
 pub mod Tidy
 pub mod Laying
 pub mod Same

@@ -11,8 +11,8 @@ use Rattle.rows.specs.declared.slot.SlotKind.the-variants.{Nothing as NoSlots, 
 use Rattle.rows.specs.Runs.Verdict.{empty}
 use Rattle.slots.specs.Slots.{slotValues, unused, tidySlots}
 use Rattle.rows.specs.Kept.{Empty}
-use Rattle.rows.proofs.Outcomes.{and-both}
-use Rattle.rows.proofs.JudgedSlots.{empty-is}
+use Rattle.rows.proofs.Rules.Outcomes.{and-both}
+use Rattle.rows.proofs.Rules.JudgedSlots.{empty-is}
 
 -- a slot is told by what its category uses and what it does not
 same-slot : (k : SlotKind) (x y : Slot) → Empty (unused k x) → Empty (unused k y) → slotValues k x ≡ slotValues k y → x ≡ y

@@ -13,8 +13,8 @@ use Rattle.rows.specs.Layout.{slotCount}
 use Rattle.rows.specs.Runs.Verdict.{empty}
 use Rattle.slots.specs.Slots.{noSlot, slotsOf, unused, tidySlots}
 use Rattle.rows.specs.Kept.{Empty}
-use Rattle.rows.proofs.Outcomes.{and-both, both-and}
-use Rattle.rows.proofs.JudgedSlots.{empty-is, is-empty}
+use Rattle.rows.proofs.Rules.Outcomes.{and-both, both-and}
+use Rattle.rows.proofs.Rules.JudgedSlots.{empty-is, is-empty}
 
 -- the first n slots, and the others
 abbrev pub First : SlotKind → ℕ → List Slot → Type 0

@@ -17,8 +17,8 @@ use Rattle.rows.specs.Runs.Verdict.{empty}
 use Rattle.rows.specs.Values.{each, cut}
 use Rattle.slots.specs.Slots.{noSlot, slotValues, usedAmong}
 use Rattle.rows.specs.Kept.{In, Empty, AllEmpty, LaterKept, SlotsKept}
-use Rattle.rows.proofs.JudgedSlots.{empty-is, is-empty}
-use Rattle.slots.proofs.Turns.{taken, split}
+use Rattle.rows.proofs.Rules.JudgedSlots.{empty-is, is-empty}
+use Rattle.slots.proofs.SlotLoop.{taken, split}
 
 -- the length of an array of structs, as it is told of a field
 pub unmapped : {A B : Type 0} (f : A → B) (l : List A) (n : ℕ) → length (map f l) ≡ n → length l ≡ n

@@ -3,7 +3,7 @@ use Prim.Native.Nat.{ℕ, _+_, _-_, _*_, _≤_}
 use borrow.Author.Needs.{needs}
 use Rattle.bits.specs.Frame.{fieldOf}
 use Rattle.bits.proofs.Inside.{field-in}
-use Rattle.rows.proofs.Filling.{fill, filled}
+use Rattle.rows.proofs.Layouts.Filling.{fill, filled}
 use Rattle.rows.specs.Values.{each}
 use lib.ListN.{length, replicate, length-set}
 use mathlib.Core.List.{List, _++_}

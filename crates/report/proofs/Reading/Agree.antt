@@ -17,8 +17,8 @@ use Rattle.rows.specs.Runs.Verdict.{verdict}
 use Rattle.report.specs.Records.{commonOf, bodyBy, bodyOf, textOf, recordAs, recordOf, headValues, bodyValues, values}
 use Rattle.report.specs.Runs.Reading.{outerOf, innerOf, reading}
 use Rattle.rows.specs.Kept.{In}
-use Rattle.rows.proofs.Spans.{allowed-in}
-use Rattle.rows.proofs.Outcomes.{fine-both, unless-fine}
+use Rattle.rows.proofs.Rules.Spans.{allowed-in}
+use Rattle.rows.proofs.Rules.Outcomes.{fine-both, unless-fine}
 use Rattle.slots.proofs.Agree.{slots-agree}
 
 -- what 5, 6 and 7 leave

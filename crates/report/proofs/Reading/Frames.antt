@@ -22,13 +22,13 @@ use Rattle.rows.specs.Kept.{In}
 use Rattle.report.specs.Conforms.{Conforms}
 use Rattle.rows.specs.Faults.{Fault, Lowest}
 use Rattle.report.specs.Reasons.{readQuestions, WhyNotRead}
-use Rattle.rows.proofs.Outcomes.{then-assoc}
-use Rattle.rows.proofs.Judged.{turn-place, turn}
-use Rattle.rows.proofs.Spans.{allowed-in, in-allowed}
-use Rattle.rows.proofs.JudgedFrames.{JudgesAll}
+use Rattle.rows.proofs.Rules.Outcomes.{then-assoc}
+use Rattle.rows.proofs.Rules.Judged.{turn-place, turn}
+use Rattle.rows.proofs.Rules.Spans.{allowed-in, in-allowed}
+use Rattle.rows.proofs.Rules.JudgedFrames.{JudgesAll}
 use Rattle.report.proofs.Reading.JudgedFrames.{whole}
-use Rattle.rows.proofs.Ordered.{Met, Answers, unquestioned, question, past}
-use Rattle.rows.proofs.Lengths.{length-each}
+use Rattle.rows.proofs.Rules.Ordered.{Met, Answers, unquestioned, question, past}
+use Rattle.rows.proofs.Layouts.Lengths.{length-each}
 
 -- ---- 8, 9, 10
 

@@ -11,7 +11,7 @@ use Rattle.nankai.specs.Nankai.{nankai}
 use Rattle.hypocenter.specs.Hypocenter.{hypocenter}
 use Rattle.ash_fall.specs.AshFall.{ashFall}
 use Rattle.rows.specs.Values.{Values}
-use Rattle.rows.proofs.JudgedFrames.{counted-slots, no-slots, four, JudgesAll}
+use Rattle.rows.proofs.Rules.JudgedFrames.{counted-slots, no-slots, four, JudgesAll}
 
 pub whole : (b : Body) (v : Values) → length (v .slots) ≡ slotCount (layout b .slots) → JudgesAll (layout b) v
 unfolding layout

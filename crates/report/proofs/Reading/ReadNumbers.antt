@@ -11,8 +11,8 @@ use Rattle.report.specs.declared.record.Record.{Record}
 use Rattle.rows.specs.Refusals.{answers}
 use Rattle.report.specs.Records.{zeros}
 use Rattle.report.specs.Runs.Reading.{outerOf, readAnswer, reading}
-use Rattle.rows.proofs.Outcomes.{not-both}
-use Rattle.rows.proofs.Numbers.{verdict-ten, unless-ten, then-ten, UpToTen}
+use Rattle.rows.proofs.Rules.Outcomes.{not-both}
+use Rattle.rows.proofs.Rules.Numbers.{verdict-ten, unless-ten, then-ten, UpToTen}
 
 -- ---- from what is said back to the refusal
 

@@ -19,7 +19,7 @@ use Rattle.rows.specs.Values.{cut}
 use Rattle.report.specs.Records.{bodyBy, textOf, bodyValues}
 use Rattle.rows.specs.Kept.{Empty}
 use Rattle.report.specs.Runs.Writing.{tidyText}
-use Rattle.rows.proofs.JudgedSlots.{empty-is}
+use Rattle.rows.proofs.Rules.JudgedSlots.{empty-is}
 
 -- ---- from values, counted from i on
 

@@ -30,7 +30,7 @@ use Rattle.report.proofs.Reading.Agree.{Outer, suits, agree}
 use Rattle.report.proofs.Reading.Frames.{layoutOf, frameValues, fine-conforming}
 use Rattle.report.proofs.Tables.Shapes.{frame-shaped}
 use Rattle.report.proofs.Tables.Rows.{front-total, front-fields}
-use Rattle.rows.proofs.Rows.{values-flat}
+use Rattle.rows.proofs.Layouts.Rows.{values-flat}
 use Rattle.report.proofs.Writing.Unused.{is-tidy, frame-tidy}
 use Rattle.report.proofs.Writing.Validity.{keeps-valid}
 use Rattle.report.proofs.Writing.Ends.{ended-again}

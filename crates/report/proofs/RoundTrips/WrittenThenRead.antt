@@ -26,16 +26,16 @@ use Rattle.rows.specs.Kept.{In, Holds}
 use Rattle.report.specs.Conforms.{Conforms}
 use Rattle.report.specs.Runs.Writing.{frontValues, frontWidths, tidyText, front, frame, writeOf, Valid}
 use Rattle.report.specs.Rules.{KeepsRules}
-use Rattle.rows.proofs.Outcomes.{and-both}
+use Rattle.rows.proofs.Rules.Outcomes.{and-both}
 use Rattle.report.proofs.Reading.Frames.{conforming-fine}
 use Rattle.slots.proofs.Agree.{slots-agree}
-use Rattle.rows.proofs.Lengths.{frame-filled}
+use Rattle.rows.proofs.Layouts.Lengths.{frame-filled}
 use Rattle.report.proofs.Tables.Lengths.{record-filled}
 use Rattle.report.proofs.Tables.Shapes.{Shaped, frame-shaped}
 use Rattle.report.proofs.Tables.Rows.{fits-all, front-total, front-fields}
-use Rattle.rows.proofs.Rows.{values-flat}
-use Rattle.rows.proofs.Fits.{in-below, holds-fit}
-use Rattle.rows.proofs.Flattened.{flat-same}
+use Rattle.rows.proofs.Layouts.Rows.{values-flat}
+use Rattle.rows.proofs.Layouts.Fits.{in-below, holds-fit}
+use Rattle.rows.proofs.Layouts.Flattened.{flat-same}
 use Rattle.report.proofs.RoundTrips.Parts.{same-body, same-text}
 use Rattle.slots.proofs.Same.{same-slots}
 use Rattle.report.proofs.Writing.Unused.{tidy-is}

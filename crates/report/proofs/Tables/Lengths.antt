@@ -9,7 +9,7 @@ use Rattle.report.specs.declared.record.Record.{Record}
 use Rattle.rows.specs.Layout.{slotCount, slotFirst}
 use Rattle.report.specs.Layout.{layout}
 use Rattle.report.specs.Records.{bodyValues, values}
-use Rattle.rows.proofs.Lengths.{Filled}
+use Rattle.rows.proofs.Layouts.Lengths.{Filled}
 use Rattle.slots.proofs.Lengths.{map-filled, slots-counted}
 
 -- ---- of a frame

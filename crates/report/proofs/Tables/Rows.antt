@@ -16,9 +16,9 @@ use Rattle.hypocenter.specs.Hypocenter.{hypocenter}
 use Rattle.ash_fall.specs.AshFall.{ashFall}
 use Rattle.rows.specs.Values.{cut}
 use Rattle.report.specs.Runs.Writing.{frontWidths}
-use Rattle.rows.proofs.Outcomes.{and-both}
+use Rattle.rows.proofs.Rules.Outcomes.{and-both}
 use Rattle.report.proofs.Tables.Tables.{layouts, all, tables-tile, rules-fit}
-use Rattle.rows.proofs.Rows.{tiled, tiled-total}
+use Rattle.rows.proofs.Layouts.Rows.{tiled, tiled-total}
 
 -- ---- every table
 

@@ -17,8 +17,8 @@ use Rattle.report.specs.Runs.Steps.{bodyVerdict}
 use Rattle.nankai.proofs.Walks.{any-text-passes}
 use Rattle.rows.specs.Runs.Verdict.{allowed, judge, walk}
 use Rattle.report.specs.Records.{headValues, bodyValues}
-use Rattle.rows.proofs.Outcomes.{then-fine, fine-then, unless-true}
-use Rattle.rows.proofs.Spans.{allowed-one, only-yes}
+use Rattle.rows.proofs.Rules.Outcomes.{then-fine, fine-then, unless-true}
+use Rattle.rows.proofs.Rules.Spans.{allowed-one, only-yes}
 
 -- bits 8 to 52: message type and category are what they are
 pub common-walk : (l : Layout) (c : Common) (x : ℕ)

@@ -25,12 +25,12 @@ use Rattle.report.specs.Records.{headValues, bodyValues, values}
 use Rattle.slots.specs.Slots.{slotValues}
 use Rattle.rows.specs.Values.{lastValues, widths, joined}
 use Rattle.report.specs.Runs.Writing.{known, writeAnswer, frontValues, frontWidths, front, frame, Valid}
-use Rattle.rows.proofs.Outcomes.{fine-both, unless-fine}
+use Rattle.rows.proofs.Rules.Outcomes.{fine-both, unless-fine}
 use Rattle.slots.proofs.Laying.{runs-length, slots-widths}
 use Rattle.report.proofs.Tables.Lengths.{record-filled}
 use Rattle.report.proofs.Tables.Rows.{front-total}
 use Rattle.report.proofs.Tables.Shapes.{Shaped}
-use Rattle.slots.proofs.Turns.{at-most-sixteen}
+use Rattle.slots.proofs.SlotLoop.{at-most-sixteen}
 use Rattle.report.proofs.Writing.Validity.{valid-keeps}
 use Rattle.report.proofs.RoundTrips.WrittenThenRead.{front-fit}
 

@@ -9,7 +9,7 @@ use Rattle.report.specs.declared.record.Body.{Body}
 use Rattle.report.specs.declared.record.Body.the-variants.{Nothing, Hypocenter, Intensity, Nankai, AshFall}
 use Rattle.report.specs.Layout.{layout}
 use Rattle.report.specs.Runs.Writing.{known}
-use Rattle.rows.proofs.Outcomes.{false-not-true}
+use Rattle.rows.proofs.Rules.Outcomes.{false-not-true}
 
 -- ---- bytes
 

@@ -13,8 +13,8 @@ use Rattle.slots.specs.Slots.{slotsOf, tidySlots}
 use Rattle.report.specs.Records.{textOf, recordAs}
 use Rattle.report.specs.Runs.Writing.{tidyText, tidy}
 use Rattle.report.specs.Rules.{TextUnused, Tidy}
-use Rattle.rows.proofs.Outcomes.{and-both, both-and}
-use Rattle.rows.proofs.JudgedSlots.{empty-is, is-empty}
+use Rattle.rows.proofs.Rules.Outcomes.{and-both, both-and}
+use Rattle.rows.proofs.Rules.JudgedSlots.{empty-is, is-empty}
 use Rattle.slots.proofs.Tidy.{others-tidy, frame-slots-tidy, slots-tidy, first-tidy}
 
 -- ---- slots

@@ -23,13 +23,13 @@ use Rattle.rows.specs.Faults.{Lowest}
 use Rattle.report.specs.Rules.{Tidy, KeepsRules}
 use Rattle.report.specs.Reasons.{writeQuestions, WhyNotWritten}
 use Rattle.report.specs.Runs.Writing.{known, tidy, writeAnswer, Valid}
-use Rattle.rows.proofs.Judged.{turn-place}
-use Rattle.rows.proofs.Outcomes.{false-not-true}
-use Rattle.rows.proofs.Spans.{allowed-in, in-allowed}
-use Rattle.rows.proofs.JudgedFrames.{JudgesAll}
+use Rattle.rows.proofs.Rules.Judged.{turn-place}
+use Rattle.rows.proofs.Rules.Outcomes.{false-not-true}
+use Rattle.rows.proofs.Rules.Spans.{allowed-in, in-allowed}
+use Rattle.rows.proofs.Rules.JudgedFrames.{JudgesAll}
 use Rattle.report.proofs.Reading.JudgedFrames.{whole}
-use Rattle.rows.proofs.Ordered.{Met, Answers, unquestioned, question}
-use Rattle.slots.proofs.Turns.{taken}
+use Rattle.rows.proofs.Rules.Ordered.{Met, Answers, unquestioned, question}
+use Rattle.slots.proofs.SlotLoop.{taken}
 use Rattle.report.proofs.Tables.Shapes.{Shaped}
 use Rattle.report.proofs.Writing.Unused.{is-tidy, tidy-is}
 

@@ -23,7 +23,7 @@ use Rattle.report.specs.Layout.{layout}
 use Rattle.rows.specs.Runs.Verdict.{judge, walk, empty, later, slotsVerdict, verdict}
 use Rattle.report.specs.Records.{values}
 use Rattle.report.specs.Runs.Writing.{writeAnswer}
-use Rattle.rows.proofs.Outcomes.{false-not-true, and-both, unless-true}
+use Rattle.rows.proofs.Rules.Outcomes.{false-not-true, and-both, unless-true}
 
 abbrev pub writeNumbers : List ℕ
 writeNumbers = 0 ∷ 1 ∷ 3 ∷ 7 ∷ 8 ∷ 10 ∷ 11 ∷ []

@@ -22,8 +22,8 @@ use Rattle.report.specs.Records.{values}
 use Rattle.rows.specs.Faults.{Question, _or_, First, Fault}
 use Rattle.report.specs.Reasons.{writeQuestions}
 use Rattle.report.specs.Runs.Writing.{writeAnswer, Valid}
-use Rattle.rows.proofs.Outcomes.{fine-both, and-both}
-use Rattle.rows.proofs.Judged.{turn}
+use Rattle.rows.proofs.Rules.Outcomes.{fine-both, and-both}
+use Rattle.rows.proofs.Rules.Judged.{turn}
 use Rattle.report.proofs.Tables.Shapes.{Shaped}
 use Rattle.report.proofs.Writing.Validity.{recordLayout, recordValues, innerWrite, judged-record, answered}
 

@@ -10,7 +10,7 @@ use Rattle.rows.specs.declared.refusal.Verdict.the-variants.{Fine, Refused}
 use Rattle.rows.specs.declared.refusal.Refusal.{Refusal}
 use Rattle.report.specs.declared.record.Record.{Record}
 use Rattle.report.specs.Runs.Writing.{writeAnswer, frame, written, writeOf, Valid}
-use Rattle.rows.proofs.Outcomes.{fine-both, unless-fine}
+use Rattle.rows.proofs.Rules.Outcomes.{fine-both, unless-fine}
 
 pub fine-size : (r : Record) (n : ℕ) → writeAnswer r n ≡ Fine → n ≡ 32
 unfolding writeAnswer

@@ -1,6 +1,6 @@
 -- `ash_fall::Eruption::check` meets its contract. Assumes nothing.
-use Rattle.rows.proofs.Outcomes.{then-assoc, then-fine}
-use Rattle.rows.proofs.Spans.{allowed-one}
+use Rattle.rows.proofs.Rules.Outcomes.{then-assoc, then-fine}
+use Rattle.rows.proofs.Rules.Spans.{allowed-one}
 use Rattle.rows.specs.Runs.Verdict.{walk, judge}
 use borrow.Author.Needs.{needs}
 use Rattle.ash_fall.proofs.Eruption.check.Statement.{statement}

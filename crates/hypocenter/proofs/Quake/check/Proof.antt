@@ -3,7 +3,7 @@ use mathlib.Core.Path.{sym, ap, _∙_}
 use Rattle.rows.specs.declared.refusal.Verdict.{Verdict}
 use Rattle.rows.specs.Runs.Questions.{_then_}
 use Rattle.hypocenter.proofs.Walks.{quake-walk}
-use Rattle.rows.proofs.Walks.{asked, link}
+use Rattle.rows.proofs.Rules.Walks.{asked, link}
 use borrow.Author.Needs.{needs}
 use Rattle.hypocenter.proofs.Quake.check.Statement.{statement}
 use Rattle.hypocenter.proofs.Quake.check.Tie as tie

@@ -1,5 +1,5 @@
 -- `hypocenter::codes::is_notification` meets its contract. Assumes nothing.
-use Rattle.rows.proofs.Spans.{in-allowed, not-allowed}
+use Rattle.rows.proofs.Rules.Spans.{in-allowed, not-allowed}
 use Rattle.rows.specs.Layout.{_to_}
 use mathlib.Core.List.{[], _∷_}
 use mathlib.Core.Logic.{inl, inr, ⊎-elim}

@@ -6,8 +6,8 @@ use native.Mathlib.Omega.{arith}
 use borrow.Author.Needs.{needs}
 use lib.ListN.{length, getD, take, drop, length-set}
 use Rattle.rows.specs.Runs.Verdict.{allowed}
-use Rattle.line.proofs.Worths.{no-digit, a-digit}
-use Rattle.line.proofs.LineTurns.{markAt, digit-more, digit-stop, turn, last, wrong-length, wrong-digit}
+use Rattle.line.proofs.DigitValues.{no-digit, a-digit}
+use Rattle.line.proofs.DigitLoop.{markAt, digit-more, digit-stop, turn, last, wrong-length, wrong-digit}
 use Rattle.line.specs.Lines.{frameOfLine, allDigits, noLine, framing}
 use Rattle.line.proofs.from_line.frame_of_line.Statement.{statement}
 use Rattle.line.proofs.from_line.frame_of_line.Tie as tie

@@ -8,7 +8,7 @@ use borrow.Author.Needs.{needs}
 use lib.ListN.{length, take, drop, set, length-set}
 use Rattle.bits.specs.Frame.{fieldOf}
 use Rattle.bits.proofs.Inside.{right-size}
-use Rattle.bits.proofs.Turns.{copy-more, drop-more}
+use Rattle.bits.proofs.ByteLoops.{copy-more, drop-more}
 use Rattle.line.specs.Lines.{lineOf}
 use Rattle.line.proofs.Pairs.{line-length, digit-at}
 use Rattle.line.proofs.LineEnds.{no-frame, padded, no-room, written}

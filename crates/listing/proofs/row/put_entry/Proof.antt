@@ -1,8 +1,8 @@
 -- `listing::row::put_entry` meets its contract. Assumes nothing.
 use Prim.Native.Nat.{ℕ, _<_}
 use native.Mathlib.Omega.{arith}
-use Rattle.listing.proofs.Decimals.{three-digits}
-use Rattle.listing.proofs.Written.{_then_}
+use Rattle.listing.proofs.Texts.Decimals.{three-digits}
+use Rattle.listing.proofs.Texts.Written.{_then_}
 use borrow.Author.Needs.{needs}
 use Rattle.listing.proofs.row.put_entry.Statement.{statement}
 use Rattle.listing.proofs.row.put_entry.Tie as tie

@@ -4,8 +4,8 @@ use native.Mathlib.Omega.{arith}
 use lib.ListN.{length}
 use Rattle.listing.specs.Decimal.{decimal}
 use Rattle.listing.specs.Rows.{rowText}
-use Rattle.listing.proofs.Decimals.{ten-digits}
-use Rattle.listing.proofs.Written.{_then_}
+use Rattle.listing.proofs.Texts.Decimals.{ten-digits}
+use Rattle.listing.proofs.Texts.Written.{_then_}
 use borrow.Author.Needs.{needs}
 use Rattle.listing.proofs.row.put_row.Statement.{statement}
 use Rattle.listing.proofs.row.put_row.Tie as tie

@@ -1,7 +1,7 @@
 -- `listing::row::write_heading` meets its contract. Assumes nothing.
 use native.Mathlib.Omega.{arith}
 use Rattle.listing.specs.Rows.{headingText}
-use Rattle.listing.proofs.Written.{wrote-laid, too-short}
+use Rattle.listing.proofs.Texts.Written.{wrote-laid, too-short}
 use borrow.Author.Needs.{needs}
 use Rattle.listing.proofs.row.write_heading.Statement.{statement}
 use Rattle.listing.proofs.row.write_heading.Tie as tie

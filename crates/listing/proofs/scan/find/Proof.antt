@@ -3,7 +3,7 @@ use mathlib.Core.Path.{_≡_}
 use Prim.Native.Nat.{ℕ, _≤_, _<_, _-_}
 use native.Mathlib.Omega.{arith}
 use lib.ListN.{length, getD}
-use Rattle.listing.proofs.Reaches.{none-more}
+use Rattle.listing.proofs.Chunks.ByteByByte.{none-more}
 use borrow.Author.Needs.{needs}
 use Rattle.listing.proofs.scan.find.Statement.{statement}
 use Rattle.listing.proofs.scan.find.Tie as tie

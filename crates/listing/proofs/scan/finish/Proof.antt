@@ -9,9 +9,9 @@ use lib.Seq.{length-take-le}
 use Rattle.listing.specs.Rows.{rowText, rowOf, laid}
 use Rattle.listing.specs.Listing.{lineRow}
 use Rattle.listing.specs.Scanning.{begunIn, finished}
-use Rattle.listing.proofs.Kept.{unmapped, take-least}
-use Rattle.listing.proofs.Reaches.{limit-is}
-use Rattle.listing.proofs.Chunks.{last-some, last-none, last-over, nothing-laid}
+use Rattle.listing.proofs.Texts.KeptBytes.{unmapped, take-least}
+use Rattle.listing.proofs.Chunks.ByteByByte.{limit-is}
+use Rattle.listing.proofs.Chunks.Chunks.{last-some, last-none, last-over, nothing-laid}
 use borrow.Author.Needs.{needs}
 use Rattle.listing.proofs.scan.finish.Statement.{statement}
 use Rattle.listing.proofs.scan.finish.Tie as tie

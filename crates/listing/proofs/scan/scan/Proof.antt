@@ -5,7 +5,7 @@ use Prim.Native.Nat.{ℕ}
 use native.Mathlib.Omega.{arith}
 use lib.Seq.{length-take-le}
 use Rattle.listing.specs.Scanning.{taken}
-use Rattle.listing.proofs.Chunks.{taken-fits, taken-room, scan-left}
+use Rattle.listing.proofs.Chunks.Chunks.{taken-fits, taken-room, scan-left}
 use borrow.Author.Needs.{needs}
 use Rattle.listing.proofs.scan.scan.Statement.{statement}
 use Rattle.listing.proofs.scan.scan.Tie as tie

@@ -8,10 +8,10 @@ use lib.ListN.{length, take}
 use lib.Seq.{take-all}
 use Rattle.listing.specs.Rows.{cutText}
 use Rattle.listing.specs.Scanning.{begunIn, progressOf}
-use Rattle.listing.proofs.Kept.{unmapped, begun-short}
-use Rattle.listing.proofs.Written.{nothing-written}
-use Rattle.listing.proofs.Reaches.{limit-is}
-use Rattle.listing.proofs.Chunks.{settled, cut-all, idle}
+use Rattle.listing.proofs.Texts.KeptBytes.{unmapped, begun-short}
+use Rattle.listing.proofs.Texts.Written.{nothing-written}
+use Rattle.listing.proofs.Chunks.ByteByByte.{limit-is}
+use Rattle.listing.proofs.Chunks.Chunks.{settled, cut-all, idle}
 use borrow.Author.Needs.{needs}
 use Rattle.listing.proofs.scan.scan_all.Statement.{statement}
 use Rattle.listing.proofs.scan.scan_all.Tie as tie

@@ -6,11 +6,11 @@ use native.Mathlib.Omega.{arith}
 use lib.ListN.{length, take}
 use lib.Seq.{length-take-le}
 use Rattle.listing.specs.Scanning.{begunIn}
-use Rattle.listing.proofs.Kept.{unmapped, begun-short}
-use Rattle.listing.proofs.Written.{nothing-written}
-use Rattle.listing.proofs.Reaches.{limit-is}
-use Rattle.listing.proofs.LineTurns.{row-said}
-use Rattle.listing.proofs.Chunks.{settled, whole-reach, kept-fits, first-done}
+use Rattle.listing.proofs.Texts.KeptBytes.{unmapped, begun-short}
+use Rattle.listing.proofs.Texts.Written.{nothing-written}
+use Rattle.listing.proofs.Chunks.ByteByByte.{limit-is}
+use Rattle.listing.proofs.Lines.LineLoop.{row-said}
+use Rattle.listing.proofs.Chunks.Chunks.{settled, whole-reach, kept-fits, first-done}
 use borrow.Author.Needs.{needs}
 use Rattle.listing.proofs.scan.scan_first.Statement.{statement}
 use Rattle.listing.proofs.scan.scan_first.Tie as tie

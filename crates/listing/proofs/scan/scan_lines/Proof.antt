@@ -5,9 +5,9 @@ use Prim.Native.Nat.{ℕ, _+_, _-_, _*_, _≤_, _<_}
 use native.Mathlib.Omega.{arith}
 use lib.ListN.{length, take, drop}
 use Rattle.listing.specs.Rows.{cutText}
-use Rattle.listing.proofs.Written.{nothing-written}
-use Rattle.listing.proofs.Reaches.{limit-is}
-use Rattle.listing.proofs.LineTurns.{Went, row-said, turn, ended, tail-reach, kept-tail, cut-tail, end-reach}
+use Rattle.listing.proofs.Texts.Written.{nothing-written}
+use Rattle.listing.proofs.Chunks.ByteByByte.{limit-is}
+use Rattle.listing.proofs.Lines.LineLoop.{Went, row-said, turn, ended, tail-reach, kept-tail, cut-tail, end-reach}
 use borrow.Author.Needs.{needs}
 use Rattle.listing.proofs.scan.scan_lines.Statement.{statement}
 use Rattle.listing.proofs.scan.scan_lines.Tie as tie

@@ -4,8 +4,8 @@ use Prim.Native.Nat.{_+_, _/_, _≤_}
 use native.Mathlib.Nat.{div-lt-self}
 use native.Mathlib.Omega.{arith}
 use lib.ListN.{length}
-use Rattle.listing.proofs.Decimals.{decimal-one, decimal-more, length-decimal-more}
-use Rattle.listing.proofs.Written.{wrote-length, _then_}
+use Rattle.listing.proofs.Texts.Decimals.{decimal-one, decimal-more, length-decimal-more}
+use Rattle.listing.proofs.Texts.Written.{wrote-length, _then_}
 use borrow.Author.Needs.{needs}
 use Prim.Native.Nat.{ℕ, _<_}
 use borrow.Fn.Kinds.{In}

@@ -5,7 +5,7 @@ use Prim.Native.Nat.{ℕ, _+_, _-_, _≤_}
 use native.Mathlib.Omega.{arith}
 use lib.ListN.{length, take, length-set}
 use lib.Seq.{sets, take-all}
-use Rattle.listing.proofs.Written.{byte-more}
+use Rattle.listing.proofs.Texts.Written.{byte-more}
 use borrow.Author.Needs.{needs}
 use Rattle.listing.proofs.text.put_text.Statement.{statement}
 use Rattle.listing.proofs.text.put_text.Tie as tie

@@ -1,5 +1,5 @@
 -- `nankai::PageNumbers::check` meets its contract. Assumes nothing.
-use Rattle.rows.proofs.Outcomes.{then-assoc}
+use Rattle.rows.proofs.Rules.Outcomes.{then-assoc}
 use Rattle.nankai.proofs.Walks.{numbers-walk}
 use borrow.Author.Needs.{needs}
 use Rattle.nankai.proofs.PageNumbers.check.Statement.{statement}

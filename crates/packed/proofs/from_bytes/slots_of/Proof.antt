@@ -7,7 +7,7 @@ use lib.ListN.{length, replicate, length-set}
 use Rattle.slots.specs.declared.slot.Slot.{Slot}
 use Rattle.rows.specs.Values.{each}
 use Rattle.slots.specs.Slots.{noSlot}
-use Rattle.rows.proofs.Filling.{fill, filled}
+use Rattle.rows.proofs.Layouts.Filling.{fill, filled}
 use Rattle.packed.specs.Unpacked.{slotAt}
 use Rattle.packed.proofs.from_bytes.slots_of.Statement.{statement}
 use Rattle.packed.proofs.from_bytes.slots_of.Tie as tie

@@ -7,7 +7,7 @@ use lib.ListN.{length, replicate, length-set}
 use Rattle.bulletin.specs.declared.page.Page.{Page}
 use Rattle.rows.specs.Values.{each}
 use Rattle.bulletin.specs.Pages.{absentPage}
-use Rattle.rows.proofs.Filling.{fill, filled}
+use Rattle.rows.proofs.Layouts.Filling.{fill, filled}
 use Rattle.packed.specs.Shelves.{pageAt}
 use Rattle.packed.proofs.store_from_bytes.pages_of.Statement.{statement}
 use Rattle.packed.proofs.store_from_bytes.pages_of.Tie as tie

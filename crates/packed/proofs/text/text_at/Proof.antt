@@ -5,7 +5,7 @@ use Prim.Native.Nat.{ℕ, _+_, _-_, _≤_}
 use native.Mathlib.Omega.{arith}
 use lib.ListN.{length, getD, replicate, length-set}
 use Rattle.rows.specs.Values.{each}
-use Rattle.rows.proofs.Filling.{fill, filled}
+use Rattle.rows.proofs.Layouts.Filling.{fill, filled}
 use Rattle.packed.proofs.text.text_at.Statement.{statement}
 use Rattle.packed.proofs.text.text_at.Tie as tie
 

@@ -1,5 +1,5 @@
 -- `report::check::body` meets its contract. Assumes nothing.
-use Rattle.rows.proofs.Outcomes.{then-fine}
+use Rattle.rows.proofs.Rules.Outcomes.{then-fine}
 use Rattle.report.specs.Runs.Steps.{bodyVerdict}
 use borrow.Author.Needs.{needs}
 use Rattle.report.proofs.check.body.Statement.{statement}

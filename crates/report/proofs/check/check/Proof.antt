@@ -1,6 +1,6 @@
 -- `report::check::check` meets its contract. Assumes nothing.
 use Rattle.bits.specs.Frame.{Bytes}
-use Rattle.rows.proofs.Outcomes.{then-assoc, fine-then}
+use Rattle.rows.proofs.Rules.Outcomes.{then-assoc, fine-then}
 use Rattle.report.specs.Records.{values}
 use Rattle.report.proofs.Tables.Walks.{body-walk}
 use Rattle.rows.specs.Runs.Verdict.{verdict}

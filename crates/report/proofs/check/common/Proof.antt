@@ -4,7 +4,7 @@ use Rattle.rows.specs.declared.refusal.Verdict.{Verdict}
 use Rattle.report.specs.Layout.{layout}
 use Rattle.rows.specs.Runs.Questions.{_then_}
 use Rattle.report.proofs.Tables.Walks.{common-walk}
-use Rattle.rows.proofs.Walks.{asked, link}
+use Rattle.rows.proofs.Rules.Walks.{asked, link}
 use borrow.Author.Needs.{needs}
 use Rattle.report.proofs.check.common.Statement.{statement}
 use Rattle.report.proofs.check.common.Tie as tie

@@ -1,6 +1,6 @@
 -- `report::check::last` meets its contract. Assumes nothing.
-use Rattle.rows.proofs.Outcomes.{then-assoc, then-fine, fine-then}
-use Rattle.rows.proofs.Spans.{allowed-one, only-yes}
+use Rattle.rows.proofs.Rules.Outcomes.{then-assoc, then-fine, fine-then}
+use Rattle.rows.proofs.Rules.Spans.{allowed-one, only-yes}
 use Rattle.rows.specs.Runs.Questions.{unless}
 use Rattle.rows.specs.Runs.Verdict.{walk, judge}
 use borrow.Author.Needs.{needs}

@@ -1,6 +1,6 @@
 -- `report::codes::is_category` meets its contract. Assumes nothing.
 use Rattle.report.proofs.Reading.KnownCodes.{two-to-four}
-use Rattle.rows.proofs.Spans.{not-allowed}
+use Rattle.rows.proofs.Rules.Spans.{not-allowed}
 use Rattle.report.specs.Layout.{categories}
 use Rattle.rows.specs.Runs.Verdict.{allowed}
 use mathlib.Core.Logic.{⊎-elim}

@@ -1,5 +1,5 @@
 -- `report::codes::is_uncorrected` meets its contract. Assumes nothing.
-use Rattle.rows.proofs.Spans.{key-yes, key-no}
+use Rattle.rows.proofs.Rules.Spans.{key-yes, key-no}
 use mathlib.Core.List.{[], _∷_}
 use mathlib.Core.Path.{sym}
 use Rattle.report.proofs.codes.is_uncorrected.Statement.{statement}

@@ -5,8 +5,8 @@ use lib.Dec.{eqb}
 use Rattle.rows.specs.Runs.Verdict.{allowed}
 use Rattle.report.specs.Layout.{preambles, categories}
 use Rattle.report.specs.Runs.Reading.{outerOf}
-use Rattle.rows.proofs.Outcomes.{fine-then}
-use Rattle.rows.proofs.Walks.{asked, link}
+use Rattle.rows.proofs.Rules.Outcomes.{fine-then}
+use Rattle.rows.proofs.Rules.Walks.{asked, link}
 use borrow.Author.Needs.{needs}
 use Rattle.report.proofs.read.outer.Statement.{statement}
 use Rattle.report.proofs.read.outer.Tie as tie

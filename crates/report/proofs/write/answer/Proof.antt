@@ -1,6 +1,6 @@
 -- `report::write::answer` meets its contract. Assumes nothing.
-use Rattle.rows.proofs.Outcomes.{fine-then}
-use Rattle.rows.proofs.Walks.{asked, link}
+use Rattle.rows.proofs.Rules.Outcomes.{fine-then}
+use Rattle.rows.proofs.Rules.Walks.{asked, link}
 use Rattle.rows.specs.Runs.Questions.{_then_}
 use Rattle.report.specs.Runs.Writing.{writeAnswer}
 use Rattle.rows.specs.declared.refusal.Verdict.{Verdict}

@@ -1,8 +1,8 @@
 -- `slots::decode::slots_of` meets its contract: the slots passed are the frame's, the others empty. Assumes nothing.
 use Prim.Native.Nat.{ℕ, _+_, _-_, _*_, _≤_, _<_}
 use borrow.Author.Needs.{needs}
-use Rattle.rows.proofs.Filling.{fill}
-use Rattle.slots.proofs.Turns.{at-most-sixteen, slot-place, start-place, more-place}
+use Rattle.rows.proofs.Layouts.Filling.{fill}
+use Rattle.slots.proofs.SlotLoop.{at-most-sixteen, slot-place, start-place, more-place}
 use Rattle.rows.specs.Layout.{slotCount, slotFirst, slotBits}
 use Rattle.rows.specs.Values.{each}
 use Rattle.slots.specs.Slots.{noSlot, slotOf, slotsOf}

@@ -2,7 +2,7 @@
 use Prim.Native.Nat.{ℕ, _+_, _-_, _*_, _≤_, _<_}
 use Rattle.bits.specs.Frame.{laid}
 use Rattle.slots.proofs.Laying.{runs, slots-widths, slot-more}
-use Rattle.slots.proofs.Turns.{at-most-sixteen, slot-place, start-place, more-place}
+use Rattle.slots.proofs.SlotLoop.{at-most-sixteen, slot-place, start-place, more-place}
 use Rattle.rows.specs.Layout.{slotCount, slotFirst, slotBits, slotRows}
 use Rattle.slots.specs.Slots.{noSlot, slotValues}
 use Rattle.rows.specs.Values.{widths, joined}

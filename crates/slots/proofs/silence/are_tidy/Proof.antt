@@ -1,6 +1,6 @@
 -- `slots::silence::are_tidy` meets its contract: what is left decides. Assumes nothing.
 use Prim.Native.Nat.{ℕ, _-_, _≤_}
-use Rattle.slots.proofs.TidyTurns.{rest, tidy-so-far, not-tidy, all-tidy}
+use Rattle.slots.proofs.TidyLoop.{rest, tidy-so-far, not-tidy, all-tidy}
 use Rattle.rows.specs.declared.slot.SlotKind.the-variants.{Nothing}
 use Rattle.rows.specs.Layout.{slotCount}
 use Rattle.slots.specs.Slots.{noSlot, unused, tidySlots}

@@ -1,6 +1,6 @@
 -- `slots::silence::used` meets its contract: those passed and those used from here on are all. Assumes nothing.
 use Prim.Native.Nat.{_+_, _-_, _≤_, _<_}
-use Rattle.slots.proofs.Turns.{at-most-sixteen}
+use Rattle.slots.proofs.SlotLoop.{at-most-sixteen}
 use Rattle.slots.proofs.Used.{used-more, used-end, used-all}
 use Rattle.rows.specs.Layout.{slotCount}
 use Rattle.slots.specs.Slots.{slotValues, usedAmong}

@@ -1,7 +1,7 @@
 -- `bulletin::store::Store::merge_verdict` meets its contract. Assumes nothing.
 use mathlib.Core.Path.{_∙_}
-use Rattle.rows.proofs.Outcomes.{fine-then}
-use Rattle.rows.proofs.Walks.{asked, link}
+use Rattle.rows.proofs.Rules.Outcomes.{fine-then}
+use Rattle.rows.proofs.Rules.Walks.{asked, link}
 use Rattle.bulletin.specs.Merges.{mergeVerdict}
 use borrow.Author.Needs.{needs}
 use Rattle.bulletin.proofs.store.Store.merge_verdict.Statement.{statement}

@@ -1,7 +1,7 @@
 -- `bulletin::store::Store::soundness` meets its contract. Assumes nothing.
 use mathlib.Core.Path.{_∙_}
-use Rattle.rows.proofs.Outcomes.{fine-then}
-use Rattle.rows.proofs.Walks.{asked}
+use Rattle.rows.proofs.Rules.Outcomes.{fine-then}
+use Rattle.rows.proofs.Rules.Walks.{asked}
 use Rattle.bulletin.specs.Steps.{soundness}
 use borrow.Author.Needs.{needs}
 use Rattle.bulletin.proofs.store.Store.soundness.Statement.{statement}

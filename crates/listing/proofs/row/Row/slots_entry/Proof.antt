@@ -1,6 +1,6 @@
 -- `listing::row::Row::slots_entry` meets its contract. Assumes nothing.
 use native.Mathlib.Omega.{arith}
-use Rattle.listing.proofs.UsedSlots.{few}
+use Rattle.listing.proofs.Lines.UsedSlots.{few}
 use borrow.Author.Needs.{needs}
 use Rattle.listing.proofs.row.Row.slots_entry.Statement.{statement}
 use Rattle.listing.proofs.row.Row.slots_entry.Tie as tie

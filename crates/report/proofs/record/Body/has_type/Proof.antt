@@ -1,5 +1,5 @@
 -- `report::record::Body::has_type` meets its contract. Assumes nothing.
-use Rattle.rows.proofs.Spans.{allowed-one}
+use Rattle.rows.proofs.Rules.Spans.{allowed-one}
 use Rattle.report.specs.Layout.{layout}
 use borrow.Author.Needs.{needs}
 use mathlib.Core.Bool.{Bool, _&&_}

@@ -1,5 +1,5 @@
 -- `slots::check::Run::later` meets its contract. Assumes nothing.
-use Rattle.rows.proofs.Outcomes.{then-assoc}
+use Rattle.rows.proofs.Rules.Outcomes.{then-assoc}
 use Rattle.slots.specs.Steps.{laterRun}
 use borrow.Author.Needs.{needs}
 use mathlib.Core.Path.{sym, _∙_}

@@ -1,5 +1,5 @@
 -- `slots::slot::Slot::empty` meets its contract. Assumes nothing.
-use Rattle.rows.proofs.Outcomes.{and-true}
+use Rattle.rows.proofs.Rules.Outcomes.{and-true}
 use Rattle.rows.specs.Runs.Verdict.{empty}
 use borrow.Author.Needs.{needs}
 use borrow.Author.Tests.{eq-eqb, ne-eqb}

@@ -1,5 +1,5 @@
 -- `slots::slot::Slot::is_tidy` meets its contract. Assumes nothing.
-use Rattle.rows.proofs.Outcomes.{and-true}
+use Rattle.rows.proofs.Rules.Outcomes.{and-true}
 use Rattle.rows.specs.Runs.Verdict.{empty}
 use borrow.Author.Needs.{needs}
 use Rattle.slots.proofs.slot.Slot.is_tidy.Statement.{statement}

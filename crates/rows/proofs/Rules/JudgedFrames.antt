@@ -13,9 +13,9 @@ use Rattle.rows.specs.Values.{Values}
 use Rattle.rows.specs.Runs.Verdict.{verdict, slotsVerdict}
 use Rattle.rows.specs.Kept.{SlotsKept, Holds}
 use Rattle.rows.specs.Faults.{SlotsFault, Fault}
-use Rattle.rows.proofs.Judged.{Judges, unasked, join, restated}
-use Rattle.rows.proofs.JudgedRows.{rises, tested, rows}
-use Rattle.rows.proofs.JudgedSlots.{behind, all-slots}
+use Rattle.rows.proofs.Rules.Judged.{Judges, unasked, join, restated}
+use Rattle.rows.proofs.Rules.JudgedRows.{rises, tested, rows}
+use Rattle.rows.proofs.Rules.JudgedSlots.{behind, all-slots}
 
 -- the verdict on all values of a layout
 abbrev pub JudgesAll : Layout → Values → Type 0

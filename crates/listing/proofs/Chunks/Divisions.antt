@@ -10,7 +10,7 @@ use lib.ListN.{length, take, length-take}
 use Rattle.listing.specs.Rows.{cutText}
 use Rattle.listing.specs.Listing.{lineRow, limit}
 use Rattle.listing.specs.Scanning.{Reach, say, reach}
-use Rattle.listing.proofs.Reaches.{byte-reach, feed-reach, cut-reach, over-reach}
+use Rattle.listing.proofs.Chunks.ByteByByte.{byte-reach, feed-reach, cut-reach, over-reach}
 
 say-say : (t u : List ℕ) (w : Reach) → say t (say u w) ≡ say (t ++ u) w
 unfolding say

@@ -11,7 +11,7 @@ use lib.Seq.{take-all}
 use Rattle.listing.specs.Rows.{cutText}
 use Rattle.listing.specs.Listing.{lineRow, limit}
 use Rattle.listing.specs.Scanning.{say, reach}
-use Rattle.listing.proofs.Kept.{take-kept}
+use Rattle.listing.proofs.Texts.KeptBytes.{take-kept}
 
 pub limit-is : limit ≡ 1000000
 unfolding limit

@@ -11,7 +11,7 @@ use Rattle.rows.specs.declared.refusal.Refusal.{Refusal}
 use Rattle.rows.specs.Refusals.{says}
 use Rattle.rows.specs.Runs.Questions.{_then_, unless}
 use Rattle.rows.specs.Faults.{place}
-use Rattle.rows.proofs.Outcomes.{not-both, unless-true, unless-fine, unless-refused, both-fine, fine-both, refused-one, false-not-true}
+use Rattle.rows.proofs.Rules.Outcomes.{not-both, unless-true, unless-fine, unless-refused, both-fine, fine-both, refused-one, false-not-true}
 
 -- when a fault is asked for: two turns a bit, the first for the gap (10), the second for a field (8, 9)
 abbrev pub turn : Refusal → ℕ

@@ -12,7 +12,7 @@ use borrow.Author.Tests.{leb-true}
 use Rattle.rows.specs.Layout.{Span, _to_}
 use Rattle.rows.specs.Runs.Verdict.{allowed}
 use Rattle.rows.specs.Values.{each}
-use Rattle.rows.proofs.Spans.{allowed-in}
+use Rattle.rows.proofs.Rules.Spans.{allowed-in}
 use Rattle.line.specs.Lines.{digits, worth, capital, upper}
 
 -- ---- a table, and two that are the same

@@ -12,7 +12,7 @@ use borrow.Author.Tests.{eqb-true, eqb-false}
 use Rattle.bits.specs.Frame.{Bytes, number, fieldOf}
 use Rattle.bits.proofs.Bytes.{number-shr, number-more}
 use Rattle.line.specs.Lines.{worth, half, lineOf}
-use Rattle.line.proofs.Worths.{capital-worth}
+use Rattle.line.proofs.DigitValues.{capital-worth}
 use Rattle.line.proofs.Pairs.{digit-at}
 
 high-half : (n b : ℕ) → b < 256 → (n * 256 + b) / 16 % 16 ≡ b / 16

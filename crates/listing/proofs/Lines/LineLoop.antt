@@ -15,9 +15,9 @@ use Rattle.listing.specs.Rows.{rowOf, rowText, cutText}
 use Rattle.listing.specs.Listing.{lineRow, limit}
 use Rattle.listing.specs.Scanning.{Reach, say, reach, progressOf, begunIn}
 use Rattle.listing.specs.Pieces.{Wrote, Found, Scanned}
-use Rattle.listing.proofs.Written.{wrote-as, sets-sets}
-use Rattle.listing.proofs.Reaches.{Quiet, line-reach, quiet-reach, cut-reach}
-use Rattle.listing.proofs.WrongLines.{kept-row}
+use Rattle.listing.proofs.Texts.Written.{wrote-as, sets-sets}
+use Rattle.listing.proofs.Chunks.ByteByByte.{Quiet, line-reach, quiet-reach, cut-reach}
+use Rattle.listing.proofs.Lines.WrongLines.{kept-row}
 
 -- ---- what a search found
 

@@ -17,7 +17,7 @@ use Rattle.rows.specs.Layout.{slotCount, slotFirst, slotBits, slotRows}
 use Rattle.rows.specs.Runs.Verdict.{empty, walk, later, slotsVerdict}
 use Rattle.slots.specs.Slots.{noSlot, slotValues}
 use Rattle.slots.specs.Steps.{laterRun}
-use Rattle.rows.proofs.Outcomes.{then-assoc, then-fine}
+use Rattle.rows.proofs.Rules.Outcomes.{then-assoc, then-fine}
 
 -- ---- where a slot stands
 

@@ -10,7 +10,7 @@ use Rattle.report.specs.Layout.{layout}
 use Rattle.rows.specs.Layout.{slotCount}
 use Rattle.slots.specs.Slots.{slotValues, usedAmong}
 use Rattle.report.specs.Meaning.{usedOf, slotsOfCategory}
-use Rattle.slots.proofs.Turns.{at-most-sixteen}
+use Rattle.slots.proofs.SlotLoop.{at-most-sixteen}
 
 used-or-not : (t : Bool) (u n : ℕ) → u ≤ n → cond t 0 (suc u) ≤ suc n
 used-or-not true u n h = omega arith

@@ -16,9 +16,9 @@ use Rattle.rows.specs.Layout.{slotFirst, slotBits, slotRows}
 use Rattle.rows.specs.Runs.Verdict.{empty, later, slotsVerdict}
 use Rattle.rows.specs.Kept.{Kept, Empty, AllEmpty, LaterKept, SlotsKept}
 use Rattle.rows.specs.Faults.{LaterFault, SlotsFault}
-use Rattle.rows.proofs.Outcomes.{false-not-true, and-both, both-and}
-use Rattle.rows.proofs.Judged.{Judges, unasked, asked, join, choice, restated, widened}
-use Rattle.rows.proofs.JudgedRows.{Rises, rows}
+use Rattle.rows.proofs.Rules.Outcomes.{false-not-true, and-both, both-and}
+use Rattle.rows.proofs.Rules.Judged.{Judges, unasked, asked, join, choice, restated, widened}
+use Rattle.rows.proofs.Rules.JudgedRows.{Rises, rows}
 
 pub empty-is : (vs : List ℕ) → empty vs ≡ true → Empty vs
 unfolding empty

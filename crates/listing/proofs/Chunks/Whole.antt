@@ -10,9 +10,9 @@ use lib.ListN.{take}
 use Rattle.listing.specs.Rows.{cutText}
 use Rattle.listing.specs.Listing.{onto, linesOf, lineRow, limit, rowsFrom}
 use Rattle.listing.specs.Scanning.{Reach, say, reach, lastRow}
-use Rattle.listing.proofs.Kept.{take-kept}
-use Rattle.listing.proofs.WrongLines.{kept-row}
-use Rattle.listing.proofs.Reaches.{Quiet, limit-is, byte-reach, feed-reach, cut-reach}
+use Rattle.listing.proofs.Texts.KeptBytes.{take-kept}
+use Rattle.listing.proofs.Lines.WrongLines.{kept-row}
+use Rattle.listing.proofs.Chunks.ByteByByte.{Quiet, limit-is, byte-reach, feed-reach, cut-reach}
 
 -- all that is said of an input: its rows, and that of a last line without line feed
 abbrev pub said : Reach → List ℕ

@@ -9,9 +9,9 @@ use lib.ListN.{length, getD, take, length-map}
 use borrow.Author.Tests.{eq-eqb, eqb-true}
 use Rattle.bits.specs.Frame.{Bytes}
 use Rattle.rows.specs.Runs.Verdict.{allowed}
-use Rattle.rows.proofs.Outcomes.{and-both, both-and}
+use Rattle.rows.proofs.Rules.Outcomes.{and-both, both-and}
 use Rattle.line.specs.Lines.{digits, worth, capital, capitals, allDigits, isLine, paired, frameOfLine, halves, lineOf}
-use Rattle.line.proofs.Worths.{worth-small, capital-digit, capital-worth, worth-capital, upper-worth, upper-digit}
+use Rattle.line.proofs.DigitValues.{worth-small, capital-digit, capital-worth, worth-capital, upper-worth, upper-digit}
 use Rattle.line.proofs.Pairs.{odd, line-length}
 
 -- ---- numbers below 16

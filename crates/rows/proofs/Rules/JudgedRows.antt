@@ -11,9 +11,9 @@ use Rattle.rows.specs.Layout.{Rule, among, rising, spare, Row}
 use Rattle.rows.specs.Runs.Verdict.{allowed, judge, walk}
 use Rattle.rows.specs.Kept.{In, Keeps, Kept}
 use Rattle.rows.specs.Faults.{blame, RowFault}
-use Rattle.rows.proofs.Outcomes.{and-both}
-use Rattle.rows.proofs.Spans.{in-span, span-in, allowed-in, in-allowed}
-use Rattle.rows.proofs.Judged.{Judges, unasked, asked, join}
+use Rattle.rows.proofs.Rules.Outcomes.{and-both}
+use Rattle.rows.proofs.Rules.Spans.{in-span, span-in, allowed-in, in-allowed}
+use Rattle.rows.proofs.Rules.Judged.{Judges, unasked, asked, join}
 
 -- ---- one field
 

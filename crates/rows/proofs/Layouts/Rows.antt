@@ -13,7 +13,7 @@ use Rattle.rows.specs.declared.slot.SlotKind.{SlotKind}
 use Rattle.rows.specs.declared.slot.SlotKind.the-variants.{Nothing as NoSlots, Prefectures, Places}
 use Rattle.rows.specs.Layout.{Row, Layout, slotCount, slotFirst, slotBits, slotRows, slotsRows, allRows, tiles}
 use Rattle.rows.specs.Values.{each, cut, valuesOf, joined, flat, widths}
-use Rattle.rows.proofs.Outcomes.{and-both}
+use Rattle.rows.proofs.Rules.Outcomes.{and-both}
 
 pub tiled-total : (a : ℕ) (rs : List Row) → tiles a 226 rs ≡ true → a + total (widths rs) ≡ 226
 tiled-total a [] t = omega (arith, eqb-true a 226 t)

@@ -11,7 +11,7 @@ use types.Run.{OneOf}
 use Rattle.rows.specs.Layout.{Span, _to_}
 use Rattle.rows.specs.Runs.Verdict.{allowed}
 use Rattle.rows.specs.Kept.{In}
-use Rattle.rows.proofs.Outcomes.{false-not-true, and-both, both-and, or-either, left-or, right-or}
+use Rattle.rows.proofs.Rules.Outcomes.{false-not-true, and-both, both-and, or-either, left-or, right-or}
 
 or-false : (a b : Bool) → a && b || false ≡ a && b
 or-false true true = refl

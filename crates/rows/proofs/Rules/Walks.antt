@@ -4,7 +4,7 @@ use mathlib.Core.Bool.{Bool}
 use Rattle.rows.specs.declared.refusal.Verdict.{Verdict}
 use Rattle.rows.specs.declared.refusal.Refusal.{Refusal}
 use Rattle.rows.specs.Runs.Questions.{_then_, unless}
-use Rattle.rows.proofs.Outcomes.{then-assoc}
+use Rattle.rows.proofs.Rules.Outcomes.{then-assoc}
 
 -- the test in a question is known by another name
 pub asked : (r v : Verdict) (x : Refusal) (met b : Bool) → r ≡ v then unless met x → met ≡ b → r ≡ v then unless b x

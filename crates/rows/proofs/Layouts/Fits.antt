@@ -14,8 +14,8 @@ use Rattle.rows.specs.declared.slot.SlotKind.{SlotKind}
 use Rattle.rows.specs.Layout.{Span, _to_, Rule, among, rising, spare, Row, Layout, common, ending, slotCount, slotFirst, slotBits, slotRows, slotsRows, allRows, allBelow, fitting, allFit}
 use Rattle.rows.specs.Values.{Values, joined, flat, widths}
 use Rattle.rows.specs.Kept.{In, Keeps, Kept, Empty, AllEmpty, LaterKept, SlotsKept, Holds}
-use Rattle.rows.proofs.Outcomes.{and-both, both-and}
-use Rattle.rows.proofs.Lengths.{SlotsFilled, Filled}
+use Rattle.rows.proofs.Rules.Outcomes.{and-both, both-and}
+use Rattle.rows.proofs.Layouts.Lengths.{SlotsFilled, Filled}
 
 -- ---- one field
 

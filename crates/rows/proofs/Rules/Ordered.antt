@@ -13,7 +13,7 @@ use Rattle.rows.specs.declared.refusal.Refusal.{Refusal}
 use Rattle.rows.specs.Refusals.{says}
 use Rattle.rows.specs.Runs.Questions.{_then_, unless}
 use Rattle.rows.specs.Faults.{Question, _or_, First}
-use Rattle.rows.proofs.Outcomes.{unless-fine, unless-refused, fine-both, refused-one, met-then, false-not-true, and-both}
+use Rattle.rows.proofs.Rules.Outcomes.{unless-fine, unless-refused, fine-both, refused-one, met-then, false-not-true, and-both}
 
 -- every question is met
 abbrev pub Met : List Question → Type 0

@@ -8,7 +8,7 @@ use lib.Seq.{take-at, drop-at}
 use Rattle.rows.specs.declared.slot.SlotKind.{SlotKind}
 use Rattle.rows.specs.Layout.{Layout, slotFirst, slotBits}
 use Rattle.rows.specs.Values.{Values, joined, flat}
-use Rattle.rows.proofs.Lengths.{SlotsFilled, Filled}
+use Rattle.rows.proofs.Layouts.Lengths.{SlotsFilled, Filled}
 
 -- two lists of one length, and what stands behind them
 front-same : (xs ys us vs : List ℕ) → length xs ≡ length ys → xs ++ us ≡ ys ++ vs → (xs ≡ ys) × (us ≡ vs)

@@ -1,0 +1,3 @@
+pub mod LineLoop
+pub mod WrongLines
+pub mod UsedSlots

@@ -1,0 +1,5 @@
+pub mod Rows
+pub mod Lengths
+pub mod Fits
+pub mod Flattened
+pub mod Filling

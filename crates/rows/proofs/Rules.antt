@@ -1,0 +1,9 @@
+pub mod Outcomes
+pub mod Spans
+pub mod Judged
+pub mod JudgedRows
+pub mod JudgedSlots
+pub mod JudgedFrames
+pub mod Ordered
+pub mod Numbers
+pub mod Walks
