@@ -1,9 +1,10 @@
 // What a listing keeps from one chunk of its input to the next.
 ghost use mathlib.Core.Path.{_≡_};
 ghost use mathlib.Core.List.{[], _++_};
-ghost use Prim.Native.Nat.{_≤_, _<_, min};
+ghost use Prim.Native.Nat.{_≤_, _<_};
 ghost use lib.ListN.{take, getD};
 ghost use Rattle.listing.specs.Scanning.{progressOf, begunIn};
+use crate::number::least;
 
 // How many lines have ended, and the first 64 bytes of the line that has not, with zeros behind them.
 // A frame's line has 63, so these settle what is said of a line of any length.
@@ -11,12 +12,6 @@ pub struct Progress {
     pub lines: u32,
     pub length: usize,
     pub begun: [u8; 64],
-}
-
-pub(crate) fn least(a: usize, b: usize) -> usize
-    ensures { λ r. ⌜ r ≡ min a b ⌝ }
-{
-    if a < b { a } else { b }
 }
 
 impl Progress {
