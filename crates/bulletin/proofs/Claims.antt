@@ -10,32 +10,32 @@ use mathlib.Core.List.{List}
 use Prim.Native.Nat.{ℕ, _-_, _<_}
 use lib.ListN.{length, getD, set}
 use Rattle.report.specs.declared.record.Record.{Record}
-use Rattle.nankai.specs.declared.PageNumbers.{Page as Numbers}
+use Rattle.nankai.specs.declared.PageNumbers.{PageNumbers}
 use Rattle.report.specs.declared.record.Body.the-variants.{Nankai}
 use Rattle.rows.specs.declared.refusal.Refusal.{Refusal}
 use Rattle.rows.specs.declared.refusal.Refusal.the-variants.{Unsound}
 use Rattle.report.specs.Runs.Writing.{writeAnswer, Valid}
 use Rattle.rows.specs.declared.refusal.Verdict.{Verdict}
 use Rattle.rows.specs.declared.refusal.Verdict.the-variants.{Fine, Refused}
-use Rattle.bulletin.specs.declared.page.Page.{Page}
-use Rattle.bulletin.specs.declared.name.Name.{Name}
+use Rattle.pages.specs.declared.page.Page.{Page}
+use Rattle.pages.specs.declared.name.Name.{Name}
 use Rattle.bulletin.specs.declared.store.Store.{Store}
 use Rattle.bulletin.specs.declared.take.Admission.{Admission}
 use Rattle.bulletin.specs.declared.take.Admission.the-variants.{Number, Refused as NotAdmitted}
 use Rattle.bulletin.specs.declared.take.Taken.the-variants.{New, Same, Disputed, Refused as RefusedTaking}
-use Rattle.bulletin.specs.Pages.{noPage, join, heldPage, disputedPage}
+use Rattle.pages.specs.Pages.{noPage, join, heldPage, disputedPage}
 use Rattle.nankai.specs.Nankai.{nankai}
 use Rattle.report.specs.Records.{values}
 use Rattle.rows.specs.Faults.{Lowest}
-use Rattle.bulletin.specs.Names.{firstPage, nameVerdict, sameName}
+use Rattle.pages.specs.Names.{firstPage, nameVerdict, sameName}
 use Rattle.bulletin.specs.Stores.{noPages, zeroStore, opening, openOf, soundStore, at}
 use Rattle.bulletin.specs.Takings.{told, nameOf, belongs, writable, admission, putPage, taking, takeOf}
 use Rattle.bulletin.specs.Merges.{mergeVerdict, joined, merging, mergeOf}
-use Rattle.bulletin.proofs.Admitted.{of-bulletin, writable-record}
-use Rattle.bulletin.proofs.Ranges.{first-bad-value}
-use Rattle.bulletin.proofs.Merged.{Whole, marks, merge-at, merge-comm, merge-idem, merge-assoc}
-use Rattle.bulletin.proofs.Marks.{Text, Mark, absent, held, disputed, toPage, joinM, join-to}
-use Rattle.bulletin.proofs.Texts.{same?, eq-same, ne-same}
+use Rattle.bulletin.proofs.Taking.Admitted.{of-bulletin, writable-record}
+use Rattle.pages.proofs.Ranges.{first-bad-value}
+use Rattle.bulletin.proofs.Merging.Merged.{Whole, marks, merge-at, merge-comm, merge-idem, merge-assoc}
+use Rattle.pages.proofs.Marks.{Text, Mark, absent, held, disputed, toPage, joinM, join-to}
+use Rattle.pages.proofs.Texts.{same?, eq-same, ne-same}
 
 -- "So every name in range is opened": without a page
 pub every-name-in-range-is-opened : (n : Name) → nameVerdict n ≡ Fine → openOf n ≡ record { answer = Fine; store = noPages n }
@@ -117,7 +117,7 @@ pub a-held-text-is-not-replaced-by-a-taking : (s : Store) (r : Record) (i : ℕ)
 a-held-text-is-not-replaced-by-a-taking s r i t h e = taking-keeps s (admission s r) (r .text) i t h e
 
 -- "a sound store takes every valid page of its bulletin"
-pub a-sound-store-takes-every-page : (s : Store) (r : Record) (p : Numbers) → soundStore s ≡ true → Valid r → r .body ≡ Nankai p
+pub a-sound-store-takes-every-page : (s : Store) (r : Record) (p : PageNumbers) → soundStore s ≡ true → Valid r → r .body ≡ Nankai p
     → sameName (nameOf (r .common) p) (s .name) ≡ true → takeOf s r ≡ putPage s (p .number - 1) (r .text)
 unfolding taking
 a-sound-store-takes-every-page s r p e v f g =

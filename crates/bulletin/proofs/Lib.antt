@@ -1,13 +1,5 @@
 pub mod Claims
-pub mod Texts
-pub mod Opened
-pub mod Admitted
-pub mod Decided
-pub mod Shapes
-pub mod PageTurns
-pub mod Joins
-pub mod Flat
-pub mod Ranges
-pub mod Told
-pub mod Marks
-pub mod Merged
+pub mod Stores
+pub mod Taking
+pub mod Merging
+pub mod Telling

@@ -1,5 +1,3 @@
-pub mod Pages
-pub mod Names
 pub mod Stores
 pub mod Takings
 pub mod Steps

@@ -4,11 +4,11 @@ use Rattle.rows.specs.declared.refusal.Verdict.{Verdict}
 use Rattle.rows.specs.declared.refusal.Verdict.the-variants.{Fine, Refused}
 use Rattle.rows.specs.declared.refusal.Refusal.the-variants.{OtherBulletin, Unsound}
 use Rattle.rows.specs.Runs.Questions.{_then_, unless}
-use Rattle.bulletin.specs.declared.page.Page.{Page}
+use Rattle.pages.specs.declared.page.Page.{Page}
 use Rattle.bulletin.specs.declared.store.Store.{Store}
 use Rattle.bulletin.specs.declared.merge.Merging.{Merging}
-use Rattle.bulletin.specs.Pages.{join}
-use Rattle.bulletin.specs.Names.{sameName}
+use Rattle.pages.specs.Pages.{join}
+use Rattle.pages.specs.Names.{sameName}
 use Rattle.bulletin.specs.Stores.{soundStore}
 
 unfoldable pub mergeVerdict : Store → Store → Verdict

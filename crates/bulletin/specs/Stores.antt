@@ -1,16 +1,17 @@
 -- A store: opened, and sound.
 use mathlib.Core.Path.{_≡_}
-use mathlib.Core.Bool.{Bool, false, cond}
-use Prim.Native.Nat.{ℕ, _<_}
+use mathlib.Core.Bool.{Bool, false, cond, true}
+use Prim.Native.Nat.{ℕ, _<_, suc}
 use lib.ListN.{length, getD, replicate}
 use Rattle.rows.specs.declared.refusal.Verdict.{Verdict}
 use Rattle.rows.specs.declared.refusal.Verdict.the-variants.{Fine, Refused}
-use Rattle.bulletin.specs.declared.page.Page.{Page}
-use Rattle.bulletin.specs.declared.name.Name.{Name}
+use Rattle.pages.specs.declared.page.Page.{Page}
+use Rattle.pages.specs.declared.name.Name.{Name}
 use Rattle.bulletin.specs.declared.store.Store.{Store}
 use Rattle.bulletin.specs.declared.store.Opening.{Opening}
-use Rattle.bulletin.specs.Pages.{absentPage, noPage, soundFrom, Shaped}
-use Rattle.bulletin.specs.Names.{zeroName, nameVerdict, nameInRange}
+use Rattle.pages.specs.Pages.{absentPage, noPage, soundAt, Shaped}
+use Rattle.pages.specs.Names.{zeroName, nameVerdict, nameInRange}
+use mathlib.Core.List.{List, [], _∷_}
 
 -- "it starts with no page"
 abbrev pub noPages : Name → Store
@@ -26,6 +27,11 @@ opening (Refused x) n = record { answer = Refused x; store = zeroStore }
 
 abbrev pub openOf : Name → Opening
 openOf n = opening (nameVerdict n) n
+
+-- each of these pages is sound, the first of which stands behind i others in a bulletin of so many
+unfoldable pub soundFrom : ℕ → ℕ → List Page → Bool
+soundFrom total i [] = true
+soundFrom total i (p ∷ ps) = cond (soundAt total i p) (soundFrom total (suc i) ps) false
 
 -- "A store is sound when its name is in range", and its pages are
 unfoldable pub soundStore : Store → Bool

@@ -8,21 +8,21 @@ use Rattle.report.specs.declared.record.Common.{Common}
 use Rattle.report.specs.declared.record.Body.{Body}
 use Rattle.report.specs.declared.record.Body.the-variants.{Nothing, Hypocenter, Intensity, Nankai, AshFall}
 use Rattle.report.specs.declared.record.Record.{Record}
-use Rattle.nankai.specs.declared.PageNumbers.{Page as Numbers}
+use Rattle.nankai.specs.declared.PageNumbers.{PageNumbers}
 use Rattle.rows.specs.declared.refusal.Verdict.{Verdict}
 use Rattle.rows.specs.declared.refusal.Verdict.the-variants.{Fine, Refused as Refuses}
 use Rattle.rows.specs.declared.refusal.Refusal.the-variants.{NoPage, OtherBulletin, Unsound}
 use Rattle.report.specs.Runs.Writing.{writeAnswer}
-use Rattle.bulletin.specs.declared.page.Page.{Page}
-use Rattle.bulletin.specs.declared.name.Name.{Name}
+use Rattle.pages.specs.declared.page.Page.{Page}
+use Rattle.pages.specs.declared.name.Name.{Name}
 use Rattle.bulletin.specs.declared.store.Store.{Store}
 use Rattle.bulletin.specs.declared.take.Taken.{Taken}
 use Rattle.bulletin.specs.declared.take.Taken.the-variants.{New, Same, Disputed, Refused}
 use Rattle.bulletin.specs.declared.take.Taking.{Taking}
 use Rattle.bulletin.specs.declared.take.Admission.{Admission}
 use Rattle.bulletin.specs.declared.take.Admission.the-variants.{Number, Refused as NotAdmitted}
-use Rattle.bulletin.specs.Pages.{join, heldPage}
-use Rattle.bulletin.specs.Names.{sameName}
+use Rattle.pages.specs.Pages.{join, heldPage}
+use Rattle.pages.specs.Names.{sameName}
 use Rattle.bulletin.specs.Stores.{soundStore, at}
 
 -- "new where it was absent, same where it was held with those 18 bytes, and disputed otherwise": by the page before and after
@@ -30,7 +30,7 @@ unfoldable pub told : Page → Page → Taken
 told before after = cond (eqb (before .mark) 0) New (cond (eqb (after .mark) 1) Same Disputed)
 
 -- the bulletin that a page names
-abbrev pub nameOf : Common → Numbers → Name
+abbrev pub nameOf : Common → PageNumbers → Name
 nameOf c p = record { common = c; serial = p .serial; total = p .total }
 
 -- 12, then 13

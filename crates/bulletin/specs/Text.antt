@@ -7,7 +7,7 @@ use lib.Dec.{eqb, ltb}
 use Rattle.rows.specs.declared.refusal.Verdict.{Verdict}
 use Rattle.rows.specs.declared.refusal.Verdict.the-variants.{Fine, Refused}
 use Rattle.rows.specs.declared.refusal.Refusal.the-variants.{Unsound, NotHeld, Short}
-use Rattle.bulletin.specs.declared.page.Page.{Page}
+use Rattle.pages.specs.declared.page.Page.{Page}
 use Rattle.bulletin.specs.declared.store.Store.{Store}
 use Rattle.bulletin.specs.declared.text.Telling.{Telling}
 use Rattle.bulletin.specs.Stores.{soundStore, at}

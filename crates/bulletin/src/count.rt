@@ -1,6 +1,5 @@
 // What a store has: how many pages are held, how many are disputed, and the lowest that is not held.
 ghost use mathlib.Core.Path.{_≡_};
-ghost use Prim.Native.Nat.{_≤_};
 ghost use Rattle.bulletin.specs.Counts.{marked, lowest, reportOf};
 use crate::store::Store;
 use rows::refusal::Refusal;
@@ -32,8 +31,7 @@ impl Store {
 
     // The lowest page of the bulletin that is not held.
     pub(crate) fn lowest(self) -> u8
-        ensures is { λ r. ⌜ r ≡ lowest (self .name .total) 0 (self .pages) ⌝ }
-        ensures small { λ r. ⌜ r ≤ 63 ⌝ }
+        ensures { λ r. ⌜ r ≡ lowest (self .name .total) 0 (self .pages) ⌝ }
     {
         let name = self.name;
         let total = name.total as usize;

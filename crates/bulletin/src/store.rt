@@ -1,8 +1,8 @@
 // A store of pages, by value: opened for one bulletin, without a page.
 ghost use mathlib.Core.Path.{_≡_};
 ghost use Rattle.bulletin.specs.Stores.{noPages, zeroStore, openOf, soundStore, ShapedStore};
-use crate::name::Name;
-use crate::page::Page;
+use pages::name::Name;
+use pages::page::Page;
 use rows::refusal::Verdict;
 
 pub struct Store {
@@ -20,7 +20,7 @@ impl Store {
     // The pages of a store, and the bytes of a page.
     pub const PAGES: usize = 63;
 
-    pub const BYTES: usize = 18;
+    pub const BYTES: usize = Page::BYTES;
 
     fn without_pages(name: Name) -> Store
         ensures { λ r. ⌜ r ≡ noPages name ⌝ }

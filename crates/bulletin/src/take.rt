@@ -4,9 +4,9 @@ ghost use Prim.Native.Nat.{_-_, _≤_};
 ghost use Rattle.report.specs.Runs.Writing.{writeAnswer};
 ghost use Rattle.bulletin.specs.Takings.{told, belongs, putPage, takeOf};
 ghost use Rattle.bulletin.specs.Steps.{soundness, found, refusing};
-use crate::name::Name;
-use crate::page::Page;
 use crate::store::Store;
+use pages::name::Name;
+use pages::page::Page;
 use report::record::Body;
 use report::record::Record;
 use rows::refusal::Refusal;
@@ -40,41 +40,37 @@ fn writing(came: Record) -> Verdict
     report::write::write(came, &mut frame)
 }
 
-impl Page {
-    // What a taking answers, by the page before and after it.
-    fn told(self, after: Page) -> Taken
-        ensures { λ r. ⌜ r ≡ told self after ⌝ }
-    {
-        if self.mark == 0 {
-            return Taken::New;
-        }
-        if after.mark == 1 {
-            return Taken::Same;
-        }
-        Taken::Disputed
+// What a taking answers, by the page before and after it.
+fn told(before: Page, after: Page) -> Taken
+    ensures { λ r. ⌜ r ≡ told before after ⌝ }
+{
+    if before.mark == 0 {
+        return Taken::New;
     }
+    if after.mark == 1 {
+        return Taken::Same;
+    }
+    Taken::Disputed
 }
 
-impl Name {
-    // 12, then 13.
-    fn admit(self, came: Record) -> Admission
-        ensures { λ r. ⌜ r ≡ belongs self (came .common) (came .body) ⌝ }
-    {
-        let common = came.common;
-        let body = came.body;
-        let Body::Nankai(page) = body else {
-            return Admission::Refused(Refusal::NoPage);
-        };
-        let found = Name {
-            common: common,
-            serial: page.serial,
-            total: page.total,
-        };
-        if found.is(self) {
-            return Admission::Number(page.number);
-        }
-        Admission::Refused(Refusal::OtherBulletin)
+// 12, then 13.
+fn admit(name: Name, came: Record) -> Admission
+    ensures { λ r. ⌜ r ≡ belongs name (came .common) (came .body) ⌝ }
+{
+    let common = came.common;
+    let body = came.body;
+    let Body::Nankai(page) = body else {
+        return Admission::Refused(Refusal::NoPage);
+    };
+    let found = Name {
+        common: common,
+        serial: page.serial,
+        total: page.total,
+    };
+    if found.is(name) {
+        return Admission::Number(page.number);
     }
+    Admission::Refused(Refusal::OtherBulletin)
 }
 
 impl Admission {
@@ -120,7 +116,7 @@ impl Store {
         let before = self.pages[i];
         let came = Page::held(text);
         let after = before.join(came);
-        let answer = before.told(after);
+        let answer = told(before, after);
         self.pages[i] = after;
         Taking {
             answer: answer,
@@ -142,7 +138,7 @@ impl Store {
         let Verdict::Fine = written else {
             return self.refused(written);
         };
-        let admitted = name.admit(came);
+        let admitted = admit(name, came);
         let Admission::Number(number) = admitted else {
             return self.refused(admitted.verdict());
         };

@@ -1,11 +1,11 @@
 // The text of a store whose pages are all held.
 ghost use mathlib.Core.Path.{_≡_};
 ghost use mathlib.Core.List.{_++_};
-ghost use Prim.Native.Nat.{_*_, _<_, _≤_};
+ghost use Prim.Native.Nat.{_<_, _≤_};
 ghost use lib.ListN.{length, getD, take, drop};
-ghost use Rattle.bulletin.specs.Text.{flat, textLength, absence, textVerdict, tellOf, textOf};
-use crate::page::Page;
+ghost use Rattle.bulletin.specs.Text.{flat, lengthOf, absence, textVerdict, tellOf, textOf};
 use crate::store::Store;
+use pages::page::Page;
 use rows::refusal::Refusal;
 use rows::refusal::Verdict;
 
@@ -15,16 +15,14 @@ pub struct Telling {
     pub length: usize,
 }
 
-impl Page {
-    // How 15 tells that a page is not held: 1 absent, 2 disputed.
-    fn absence(self) -> u8
-        ensures { λ r. ⌜ r ≡ absence self ⌝ }
-    {
-        if self.mark == 0 {
-            return 1;
-        }
-        2
+// How 15 tells that a page is not held: 1 absent, 2 disputed.
+fn absence(page: Page) -> u8
+    ensures { λ r. ⌜ r ≡ absence page ⌝ }
+{
+    if page.mark == 0 {
+        return 1;
     }
+    2
 }
 
 impl Store {
@@ -42,8 +40,7 @@ impl Store {
     // The bytes of the pages of the bulletin, less all zero bytes at their end.
     fn text_length(self) -> usize
         requires { ⌜ self .name .total ≤ 63 ⌝ }
-        ensures is { λ r. ⌜ r ≡ textLength (18 * self .name .total) (flat (self .pages)) ⌝ }
-        ensures small { λ r. ⌜ r ≤ 1134 ⌝ }
+        ensures { λ r. ⌜ r ≡ lengthOf self ⌝ }
     {
         let name = self.name;
         let mut n = Self::BYTES * (name.total as usize);
@@ -82,7 +79,7 @@ impl Store {
         let page = self.pages[(number - 1) as usize];
         Verdict::Refused(Refusal::NotHeld {
             page: number,
-            mark: page.absence(),
+            mark: absence(page),
         })
     }
 

@@ -10,34 +10,34 @@ use Rattle.rows.specs.declared.refusal.Verdict.the-variants.{Fine}
 use Rattle.rows.specs.declared.refusal.Refusal.{Refusal}
 use Rattle.rows.specs.declared.refusal.Refusal.the-variants.{NotHeld}
 use Rattle.report.specs.declared.record.Record.{Record}
-use Rattle.bulletin.specs.declared.name.Name.{Name}
+use Rattle.pages.specs.declared.name.Name.{Name}
 use Rattle.bulletin.specs.declared.store.Store.{Store}
 use Rattle.bulletin.specs.declared.count.Count.{Count}
 use Rattle.bulletin.specs.declared.take.Taken.the-variants.{New, Same, Disputed as AnswersDisputed, Refused}
-use Rattle.bulletin.specs.Pages.{absentPage, heldPage, disputedPage}
-use Rattle.bulletin.specs.Names.{nameVerdict}
+use Rattle.pages.specs.Pages.{absentPage, heldPage, disputedPage}
+use Rattle.pages.specs.Names.{nameVerdict}
 use Rattle.bulletin.specs.Stores.{soundStore, at, ShapedStore}
 use Rattle.bulletin.specs.Takings.{takeOf}
 use Rattle.bulletin.specs.Counts.{reportOf}
 use Rattle.bulletin.specs.Merges.{joined, mergeOf}
-use Rattle.bulletin.proofs.Marks.{absent, held, disputed}
+use Rattle.pages.proofs.Marks.{absent, held, disputed}
 use Rattle.histories.specs.Soundness.{InRange, Sound}
 use Rattle.histories.specs.Frames.{Frame, after, page, SameFrames, Brings, Came, Absent, Held, Disputed, AllTaken}
 use Rattle.histories.specs.Merging.{Tree, merged, allFrames}
 use Rattle.histories.specs.Histories.{History, storeOf, framesOf}
 use Rattle.histories.specs.Reports.{LowestWithout, IsHeld, Reports, inOrder, Trimmed, Tells, TellsNothing, NotHeldBecause}
 use Rattle.histories.specs.Examples.{ofTwoPages, cameTwice}
-use Rattle.histories.proofs.NameRanges.{fine-in-range, in-range-fine}
-use Rattle.histories.proofs.Tested.{tested-sound, sound-tested}
-use Rattle.histories.proofs.Told.{told-page, page-told, same-frames}
-use Rattle.histories.proofs.Answers.{taken-brings, brings-not-refused, answers-new, answers-same, answers-disputed}
-use Rattle.histories.proofs.Merges.{merge-joins, joined-sound, commutes, associates, repeats, held-kept, after-sound, merge-after, tree-after, same-trees}
-use Rattle.histories.proofs.Given.{sound-given, after-shaped}
-use Rattle.histories.proofs.Reached.{joined-shaped, history-after, history-sound, history-shaped, any-store}
-use Rattle.histories.proofs.Reported.{reported, reported-once}
-use Rattle.histories.proofs.Trimming.{trimmed-once}
-use Rattle.histories.proofs.Spoken.{whole-text, at-most, no-text, missed}
-use Rattle.histories.proofs.Twice.{all-taken, twice-reported, twice-told}
+use Rattle.histories.proofs.Soundness.NameRanges.{fine-in-range, in-range-fine}
+use Rattle.histories.proofs.Soundness.Tested.{tested-sound, sound-tested}
+use Rattle.histories.proofs.Frames.Told.{told-page, page-told, same-frames}
+use Rattle.histories.proofs.Frames.Answers.{taken-brings, brings-not-refused, answers-new, answers-same, answers-disputed}
+use Rattle.histories.proofs.Histories.Merges.{merge-joins, joined-sound, commutes, associates, repeats, held-kept, after-sound, merge-after, tree-after, same-trees}
+use Rattle.histories.proofs.Histories.Given.{sound-given, after-shaped}
+use Rattle.histories.proofs.Histories.Reached.{joined-shaped, history-after, history-sound, history-shaped, any-store}
+use Rattle.histories.proofs.Reports.Reported.{reported, reported-once}
+use Rattle.histories.proofs.Reports.Trimming.{trimmed-once}
+use Rattle.histories.proofs.Reports.Spoken.{whole-text, at-most, no-text, missed}
+use Rattle.histories.proofs.Reports.Twice.{all-taken, twice-reported, twice-told}
 
 -- ---- sound
 

@@ -5,7 +5,7 @@ use mathlib.Core.List.{List, [], _∷_}
 use lib.ListN.{replicate}
 use Rattle.report.specs.declared.record.Body.the-variants.{Nankai}
 use Rattle.slots.specs.Slots.{noSlot}
-use Rattle.bulletin.specs.declared.name.Name.{Name}
+use Rattle.pages.specs.declared.name.Name.{Name}
 use Rattle.histories.specs.Frames.{Frame}
 
 -- a bulletin of two pages

@@ -7,8 +7,8 @@ use lib.ListN.{length}
 use Rattle.report.specs.declared.record.Body.the-variants.{Nankai}
 use Rattle.report.specs.declared.record.Record.{Record}
 use Rattle.report.specs.Runs.Writing.{Valid}
-use Rattle.bulletin.specs.declared.page.Page.{Page}
-use Rattle.bulletin.specs.declared.name.Name.{Name}
+use Rattle.pages.specs.declared.page.Page.{Page}
+use Rattle.pages.specs.declared.name.Name.{Name}
 use Rattle.bulletin.specs.declared.store.Store.{Store}
 use Rattle.bulletin.specs.Stores.{openOf, at}
 use Rattle.bulletin.specs.Takings.{takeOf}

@@ -1,7 +1,7 @@
 -- "Condition 3 speaks of a store from its opening on, through takings and merges" (document 01, "The page store").
 use mathlib.Core.Path.{_≡_}
 use mathlib.Core.List.{List, [], _∷_, _++_}
-use Rattle.bulletin.specs.declared.name.Name.{Name}
+use Rattle.pages.specs.declared.name.Name.{Name}
 use Rattle.bulletin.specs.declared.store.Store.{Store}
 use Rattle.bulletin.specs.Stores.{openOf}
 use Rattle.bulletin.specs.Takings.{takeOf}

@@ -1,7 +1,7 @@
 -- Stores that several receivers filled, merged two at a time (document 01: "a merged store counts as having taken the frames
 -- of both").
 use mathlib.Core.List.{List, _++_}
-use Rattle.bulletin.specs.declared.name.Name.{Name}
+use Rattle.pages.specs.declared.name.Name.{Name}
 use Rattle.bulletin.specs.declared.store.Store.{Store}
 use Rattle.bulletin.specs.Merges.{mergeOf}
 use Rattle.histories.specs.Frames.{Frame, after}

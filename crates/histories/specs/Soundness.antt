@@ -4,9 +4,9 @@ use mathlib.Core.Path.{_≡_}
 use mathlib.Core.Logic.{_⊎_}
 use Prim.Native.Nat.{ℕ, _≤_, _<_}
 use lib.ListN.{length}
-use Rattle.bulletin.specs.declared.name.Name.{Name}
+use Rattle.pages.specs.declared.name.Name.{Name}
 use Rattle.bulletin.specs.declared.store.Store.{Store}
-use Rattle.bulletin.specs.Pages.{zeros}
+use Rattle.pages.specs.Pages.{zeros}
 use Rattle.bulletin.specs.Stores.{at}
 
 -- each value in its range, as "The frame on the wire" and "Category 4" have them; "the total is 1-63"

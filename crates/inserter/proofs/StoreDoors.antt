@@ -12,7 +12,7 @@ use Rattle.rows.specs.declared.refusal.Verdict.{Verdict}
 use Rattle.rows.specs.declared.refusal.Verdict.the-variants.{Fine, Refused}
 use Rattle.rows.specs.declared.refusal.Refusal.the-variants.{Short}
 use Rattle.rows.specs.Refusals.{answers}
-use Rattle.bulletin.specs.declared.name.Name.{Name}
+use Rattle.pages.specs.declared.name.Name.{Name}
 use Rattle.bulletin.specs.declared.store.Store.{Store}
 use Rattle.bulletin.specs.declared.store.Opening.{Opening}
 use Rattle.bulletin.specs.declared.take.Taking.{Taking}
@@ -24,8 +24,10 @@ use Rattle.bulletin.specs.Takings.{takeOf}
 use Rattle.bulletin.specs.Merges.{mergeOf}
 use Rattle.bulletin.specs.Counts.{reportOf}
 use Rattle.bulletin.specs.Text.{flat, lengthOf, textVerdict, roomFor, telling, tellOf, textOf}
-use Rattle.bulletin.proofs.Flat.{textLength-most}
-use Rattle.bulletin.proofs.Ranges.{total-most, sound-parts, fine-sound}
+use Rattle.bulletin.proofs.Telling.Flat.{textLength-most}
+use Rattle.pages.proofs.Ranges.{total-most}
+use Rattle.bulletin.proofs.Stores.Sound.{sound-parts}
+use Rattle.bulletin.proofs.Telling.Told.{fine-sound}
 use Rattle.packed.specs.Unpacked.{unpacked, recordFrom}
 use Rattle.packed.specs.Shelves.{storeBytes, storeInto, nameFrom, nameOf, storeFrom, storeOf}
 use Rattle.inserter.specs.Answers.{Left, left, word, called, opened, openInto, takenWord, taken, takeInto, merged, mergeInto, counted, reportInto, lengthOr, told, textInto}

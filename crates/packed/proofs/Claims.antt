@@ -14,7 +14,7 @@ use Rattle.packed.specs.Packed.{packed}
 use Rattle.packed.specs.Unpacked.{bodyFrom, stray, unpacked}
 use Rattle.packed.specs.Shelves.{storeBytes, storeFrom}
 use Rattle.bulletin.specs.declared.store.Store.{Store}
-use Rattle.bulletin.proofs.Flat.{Eighteen}
+use Rattle.bulletin.proofs.Telling.Flat.{Eighteen}
 use Rattle.packed.proofs.Pages as Pages
 use Rattle.packed.proofs.Shelved as Shelved
 use Rattle.packed.proofs.Whole as Whole

@@ -7,10 +7,10 @@ use mathlib.Core.List.{List, [], _∷_, _++_, append-nil, append-assoc}
 use lib.ListN.{length, getD, take, length-append}
 use lib.Seq.{take-suc, take-all}
 use borrow.Author.Tests.{eq-eqb, ne-eqb}
-use Rattle.bulletin.specs.declared.page.Page.{Page}
+use Rattle.pages.specs.declared.page.Page.{Page}
 use Rattle.bulletin.specs.declared.store.Store.{Store}
-use Rattle.bulletin.specs.Pages.{noPage}
-use Rattle.bulletin.proofs.Flat.{Eighteen}
+use Rattle.pages.specs.Pages.{noPage}
+use Rattle.bulletin.proofs.Telling.Flat.{Eighteen}
 use Rattle.packed.specs.Shelves.{nameBytes, pageBytes, pagesBytes, storeBytes, storeInto}
 use Rattle.packed.specs.Writing.{Wrote}
 use Rattle.packed.proofs.Writing.{behind, _then_, whole}

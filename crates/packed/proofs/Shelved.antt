@@ -6,11 +6,11 @@ use mathlib.Core.List.{List, [], _∷_, _++_}
 use lib.ListN.{length, getD, take, drop, length-drop, take-append-drop, length-append}
 use lib.Seq.{drop-at, take-append-seam}
 use Rattle.rows.specs.Values.{each}
-use Rattle.bulletin.specs.declared.page.Page.{Page}
+use Rattle.pages.specs.declared.page.Page.{Page}
 use Rattle.bulletin.specs.declared.store.Store.{Store}
 use Rattle.packed.specs.Shelves.{nameBytes, pageBytes, pagesBytes, storeBytes, nameFrom, pageAt, pagesFrom, storeFrom}
 use Rattle.packed.proofs.Back.{each-same, byte-behind}
-use Rattle.bulletin.proofs.Flat.{Eighteen}
+use Rattle.bulletin.proofs.Telling.Flat.{Eighteen}
 
 -- a page behind n bytes
 page-behind : (n : ℕ) (l : List ℕ) (j k : ℕ) → j ≡ n + k → pageAt l j ≡ pageAt (drop n l) k

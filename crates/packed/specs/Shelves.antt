@@ -14,10 +14,10 @@ use mathlib.Core.List.{List, [], _∷_, _++_}
 use lib.ListN.{length, getD}
 use lib.Dec.{eqb}
 use Rattle.rows.specs.Values.{each}
-use Rattle.bulletin.specs.declared.name.Name.{Name}
-use Rattle.bulletin.specs.declared.page.Page.{Page}
+use Rattle.pages.specs.declared.name.Name.{Name}
+use Rattle.pages.specs.declared.page.Page.{Page}
 use Rattle.bulletin.specs.declared.store.Store.{Store}
-use Rattle.bulletin.specs.Names.{zeroName}
+use Rattle.pages.specs.Names.{zeroName}
 use Rattle.bulletin.specs.Stores.{zeroStore}
 use Rattle.packed.specs.Unpacked.{textAt}
 

@@ -4,9 +4,9 @@ ghost use Prim.Native.Nat.{_+_, _≤_};
 ghost use lib.ListN.{length};
 ghost use Rattle.packed.specs.Shelves.{nameFrom, pageAt, pagesFrom, nameOf, storeOf};
 use crate::text::text_at;
-use bulletin::name::Name;
-use bulletin::page::Page;
 use bulletin::store::Store;
+use pages::name::Name;
+use pages::page::Page;
 use report::record::Common;
 
 fn page_at(bytes: &[u8], at: usize) -> Page

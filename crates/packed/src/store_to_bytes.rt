@@ -5,9 +5,9 @@ ghost use lib.ListN.{length};
 ghost use Rattle.packed.specs.Writing.{Wrote};
 ghost use Rattle.packed.specs.Shelves.{nameBytes, pageBytes, pagesBytes, storeInto};
 use crate::text::put_text;
-use bulletin::name::Name;
-use bulletin::page::Page;
 use bulletin::store::Store;
+use pages::name::Name;
+use pages::page::Page;
 
 fn put_name(out: &mut [u8], name: Name)
     requires { ⌜ length (now out) ≡ 1205 ⌝ }

@@ -12,12 +12,6 @@ use Rattle.bulletin.proofs.in_place.take_in
 use Rattle.settled.specs.Settled.{Settled}
 use Rattle.settled.proofs.Law.{answer, both, beside, first, second}
 
-pub Page-absent-is-settled : Settled bulletin.page.Page.absent.ended bulletin.page.Page.absent.Reads.Post
-Page-absent-is-settled κs a x y = answer
-
-pub Name-of-zeros-is-settled : Settled bulletin.name.Name.of_zeros.ended bulletin.name.Name.of_zeros.Reads.Post
-Name-of-zeros-is-settled κs a x y = answer
-
 pub Store-of-zeros-is-settled : Settled bulletin.store.Store.of_zeros.ended bulletin.store.Store.of_zeros.Reads.Post
 Store-of-zeros-is-settled κs a x y = answer
 

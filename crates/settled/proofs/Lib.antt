@@ -7,6 +7,7 @@ pub mod AshFall
 pub mod Report
 pub mod Line
 pub mod Listing
+pub mod Pages
 pub mod Bulletin
 pub mod Packed
 pub mod Inserter

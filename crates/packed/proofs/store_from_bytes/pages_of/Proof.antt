@@ -4,9 +4,9 @@ use mathlib.Core.List.{List, _++_}
 use Prim.Native.Nat.{ℕ, _+_, _-_, _*_, _≤_}
 use native.Mathlib.Omega.{arith}
 use lib.ListN.{length, replicate, length-set}
-use Rattle.bulletin.specs.declared.page.Page.{Page}
+use Rattle.pages.specs.declared.page.Page.{Page}
 use Rattle.rows.specs.Values.{each}
-use Rattle.bulletin.specs.Pages.{absentPage}
+use Rattle.pages.specs.Pages.{absentPage}
 use Rattle.rows.proofs.Layouts.Filling.{fill, filled}
 use Rattle.packed.specs.Shelves.{pageAt}
 use Rattle.packed.proofs.store_from_bytes.pages_of.Statement.{statement}

@@ -1,9 +1,8 @@
 -- `packed::store_to_bytes::pack_store` meets its contract. Assumes nothing.
 use mathlib.Core.Path.{_≡_}
 use lib.ListN.{length}
-use Rattle.bulletin.proofs.Texts.{unmapped}
-use Rattle.bulletin.proofs.Flat.{Eighteen}
-use Rattle.bulletin.proofs.Shapes.{shapes}
+use Rattle.pages.proofs.Shapes.{unmapped, shapes}
+use Rattle.bulletin.proofs.Telling.Flat.{Eighteen}
 use Rattle.packed.proofs.Pages.{store-in-parts, other-length}
 use borrow.Author.Needs.{needs}
 use Rattle.packed.proofs.store_to_bytes.pack_store.Statement.{statement}

@@ -7,9 +7,8 @@ use lib.Seq.{take-all}
 use borrow.Author.Needs.{needs}
 use Rattle.packed.specs.Shelves.{pagesBytes}
 use Rattle.packed.specs.Writing.{Wrote}
-use Rattle.bulletin.proofs.Texts.{unmapped}
-use Rattle.bulletin.proofs.Flat.{Eighteen}
-use Rattle.bulletin.proofs.Shapes.{shapes}
+use Rattle.pages.proofs.Shapes.{unmapped, shapes}
+use Rattle.bulletin.proofs.Telling.Flat.{Eighteen}
 use Rattle.packed.proofs.Writing.{nothing}
 use Rattle.packed.proofs.Pages.{page-more}
 use Rattle.packed.proofs.store_to_bytes.put_pages.Statement.{statement}

@@ -2,9 +2,8 @@
 use mathlib.Core.Path.{_≡_}
 use native.Mathlib.Omega.{arith}
 use lib.ListN.{length}
-use Rattle.bulletin.proofs.Texts.{unmapped}
-use Rattle.bulletin.proofs.Flat.{Eighteen, getD-flat}
-use Rattle.bulletin.proofs.Shapes.{shapes}
+use Rattle.pages.proofs.Shapes.{unmapped, shapes}
+use Rattle.bulletin.proofs.Telling.Flat.{Eighteen, getD-flat}
 use borrow.Author.Needs.{needs}
 use Rattle.bulletin.proofs.store.Store.byte_at.Statement.{statement}
 use Rattle.bulletin.proofs.store.Store.byte_at.Tie as tie

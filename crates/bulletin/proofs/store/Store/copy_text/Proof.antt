@@ -6,9 +6,8 @@ use native.Mathlib.Omega.{arith}
 use borrow.Author.Needs.{needs}
 use lib.ListN.{length, set, take, drop, length-set}
 use Rattle.bulletin.specs.Text.{flat}
-use Rattle.bulletin.proofs.Texts.{unmapped}
-use Rattle.bulletin.proofs.Flat.{Eighteen, length-flat, copy-more}
-use Rattle.bulletin.proofs.Shapes.{shapes}
+use Rattle.pages.proofs.Shapes.{unmapped, shapes}
+use Rattle.bulletin.proofs.Telling.Flat.{Eighteen, length-flat, copy-more}
 use Rattle.bulletin.proofs.store.Store.copy_text.Statement.{statement}
 use Rattle.bulletin.proofs.store.Store.copy_text.Tie as tie
 

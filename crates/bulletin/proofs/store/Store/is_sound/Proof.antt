@@ -5,11 +5,9 @@ use native.Mathlib.Omega.{arith}
 use borrow.Author.Needs.{needs}
 use borrow.Author.Tests.{not-true, not-false}
 use lib.ListN.{length, drop}
-use Rattle.bulletin.specs.Pages.{soundFrom}
-use Rattle.bulletin.specs.Stores.{soundStore, ShapedStore}
-use Rattle.bulletin.proofs.Texts.{unmapped}
-use Rattle.bulletin.proofs.Shapes.{shapes}
-use Rattle.bulletin.proofs.PageTurns.{sound-more, sound-stop, sound-end}
+use Rattle.bulletin.specs.Stores.{soundFrom, soundStore, ShapedStore}
+use Rattle.pages.proofs.Shapes.{unmapped, shapes}
+use Rattle.bulletin.proofs.Stores.Sound.{sound-more, sound-stop, sound-end}
 use Rattle.bulletin.proofs.store.Store.is_sound.Statement.{statement}
 use Rattle.bulletin.proofs.store.Store.is_sound.Tie as tie
 

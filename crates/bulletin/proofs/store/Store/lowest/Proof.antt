@@ -5,8 +5,8 @@ use native.Mathlib.Omega.{arith}
 use borrow.Author.Needs.{needs}
 use lib.ListN.{length, drop}
 use Rattle.bulletin.specs.Counts.{lowest}
-use Rattle.bulletin.proofs.Texts.{unmapped}
-use Rattle.bulletin.proofs.PageTurns.{lowest-past, lowest-more, lowest-here, lowest-end}
+use Rattle.pages.proofs.Shapes.{unmapped}
+use Rattle.bulletin.proofs.Stores.Counted.{lowest-past, lowest-more, lowest-here, lowest-end}
 use Rattle.bulletin.proofs.store.Store.lowest.Statement.{statement}
 use Rattle.bulletin.proofs.store.Store.lowest.Tie as tie
 
@@ -28,7 +28,7 @@ loop-holds c = (omega arith, refl)
 returns : tie.Need-returns Inv-loop μ-loop
 returns c = let a = c .before .before in
     let s = a .before .before .before in
-    (sym (lowest-past (s .args .t1 .name .total) (drop (a .loop .i) (s .args .t1 .pages)) (a .loop .i) (c .if1 .taken)) ∙ a .loop .inv .1, omega arith)
+    sym (lowest-past (s .args .t1 .name .total) (drop (a .loop .i) (s .args .t1 .pages)) (a .loop .i) (c .if1 .taken)) ∙ a .loop .inv .1
 
 mul-page : tie.Need-mul-page Inv-loop μ-loop
 mul-page c = search needs
@@ -46,7 +46,7 @@ returns-2 : tie.Need-returns-2 Inv-loop μ-loop
 returns-2 c = let a = c .before .before .before .before .before in
     let s = a .before .before .before in
     let size = long s in
-    (sym (lowest-here (s .args .t1 .name .total) (s .args .t1 .pages) (a .loop .i) (omega arith) (omega arith) (c .if2 .taken)) ∙ a .loop .inv .1, omega arith)
+    sym (lowest-here (s .args .t1 .name .total) (s .args .t1 .pages) (a .loop .i) (omega arith) (omega arith) (c .if2 .taken)) ∙ a .loop .inv .1
 
 add-i : tie.Need-add-i Inv-loop μ-loop
 add-i c = search needs
@@ -64,7 +64,7 @@ returns-3 : tie.Need-returns-3 Inv-loop μ-loop
 returns-3 c = let a = c .before in
     let s = a .before .before .before in
     let size = long s in
-    (sym (lowest-end (s .args .t1 .name .total) (s .args .t1 .pages) (a .loop .i) (omega arith)) ∙ a .loop .inv .1, omega arith)
+    sym (lowest-end (s .args .t1 .name .total) (s .args .t1 .pages) (a .loop .i) (omega arith)) ∙ a .loop .inv .1
 
 pub lowest-spec : {M : Type 1} → statement M
 lowest-spec =

@@ -1,6 +1,6 @@
 -- `bulletin::store::Store::of_zeros` meets its contract. Assumes nothing.
 use mathlib.Core.Path.{ap, _∙_}
-use Rattle.bulletin.specs.declared.name.Name.{Name}
+use Rattle.pages.specs.declared.name.Name.{Name}
 use Rattle.bulletin.specs.Stores.{noPages}
 use borrow.Author.Needs.{needs}
 use Rattle.bulletin.proofs.store.Store.of_zeros.Statement.{statement}

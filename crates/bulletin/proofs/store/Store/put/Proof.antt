@@ -1,8 +1,7 @@
 -- `bulletin::store::Store::put` meets its contract. Assumes nothing.
 use mathlib.Core.Path.{_≡_, _∙_, ap}
 use Prim.Native.Nat.{_-_}
-use Rattle.bulletin.specs.declared.page.Page.{Page}
-use Rattle.bulletin.specs.Pages.{join, heldPage}
+use Rattle.pages.specs.Pages.{join, heldPage}
 use Rattle.bulletin.specs.Stores.{at}
 use Rattle.bulletin.specs.Takings.{told, putPage, withPage}
 use borrow.Author.Needs.{needs}

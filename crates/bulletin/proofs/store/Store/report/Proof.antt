@@ -20,7 +20,7 @@ lowest-requires c κs = search needs
 returns : tie.Need-returns
 unfolding reportOf
 returns c = let t = c .before .before .before in
-    simp (sym (t .before .is-sound .ensures .0) ∙ t .if1 .taken, c .before .before .marked .ensures, c .before .marked2 .ensures, c .lowest .ensures .0)
+    simp (sym (t .before .is-sound .ensures .0) ∙ t .if1 .taken, c .before .before .marked .ensures, c .before .marked2 .ensures, c .lowest .ensures)
 
 returns-2 : tie.Need-returns-2
 unfolding reportOf

@@ -4,8 +4,9 @@ use native.Mathlib.Omega.{arith}
 use Rattle.report.proofs.Tables.Shapes.{Shaped}
 use Rattle.bulletin.specs.Takings.{admission}
 use Rattle.bulletin.specs.Steps.{found}
-use Rattle.bulletin.proofs.Texts.{unmapped}
-use Rattle.bulletin.proofs.Admitted.{admits, numbered, unsound-store, sound-store, unwritable, writable-record, taken-refused, taken-in}
+use Rattle.pages.proofs.Shapes.{unmapped}
+use Rattle.bulletin.proofs.Taking.Admitted.{admits, unsound-store, sound-store, unwritable, writable-record, taken-refused, taken-in}
+use Rattle.pages.proofs.Numbered.{numbered}
 use borrow.Author.Needs.{needs}
 use Rattle.bulletin.proofs.store.Store.take.Statement.{statement}
 use Rattle.bulletin.proofs.store.Store.take.Tie as tie

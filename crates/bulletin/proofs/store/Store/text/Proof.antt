@@ -1,7 +1,6 @@
 -- `bulletin::store::Store::text` meets its contract. Assumes nothing.
 use mathlib.Core.Path.{sym, _∙_}
-use Rattle.bulletin.proofs.Ranges.{total-most, sound-parts, fine-sound}
-use Rattle.bulletin.proofs.Told.{told-refused, told-short, told-whole}
+use Rattle.bulletin.proofs.Telling.Told.{fine-most, fine-short, told-refused, told-short, told-whole}
 use borrow.Author.Needs.{needs}
 use Rattle.bulletin.proofs.store.Store.text.Statement.{statement}
 use Rattle.bulletin.proofs.store.Store.text.Tie as tie
@@ -17,16 +16,19 @@ enum-told-2 c = search needs
 
 text-length-requires : tie.Need-text-length-requires
 text-length-requires c κs = let v = c .before .before in
-    total-most _ (sound-parts _ (fine-sound _ (sym (v .text-verdict .ensures) ∙ c .enum-told2 .given .1)) .0)
+    fine-most _ (sym (v .text-verdict .ensures) ∙ c .enum-told2 .given .1)
 
 returns : tie.Need-returns
 returns c = let n = c .before in
     let t = n .before in
     let v = t .before .before in
-    told-short _ _ (v .text-verdict .result) _ (v .text-verdict .ensures) (t .enum-told2 .given .1) (n .text-length .ensures .0) (c .if1 .taken)
+    told-short _ _ (v .text-verdict .result) _ (v .text-verdict .ensures) (t .enum-told2 .given .1) (n .text-length .ensures) (c .if1 .taken)
 
 copy-text-requires : tie.Need-copy-text-requires
-copy-text-requires c κs = search needs
+copy-text-requires c κs = let n = c .before .before in
+    let t = n .before in
+    let v = t .before .before in
+    (fine-short _ _ (sym (v .text-verdict .ensures) ∙ t .enum-told2 .given .1) (n .text-length .ensures), search needs)
 
 returns-2 : tie.Need-returns-2
 returns-2 c = let v = c .before .before in
@@ -41,7 +43,7 @@ returns-3 c = let y = c .before .before in
     let n = e .before in
     let t = n .before in
     let v = t .before .before in
-    told-whole _ _ _ (v .text-verdict .result) _ (v .text-verdict .ensures) (t .enum-told2 .given .1) (n .text-length .ensures .0) (e .if1 .left) (y .copy-text .ensures)
+    told-whole _ _ _ (v .text-verdict .result) _ (v .text-verdict .ensures) (t .enum-told2 .given .1) (n .text-length .ensures) (e .if1 .left) (y .copy-text .ensures)
 
 pub text-spec : {M : Type 1} → statement M
 text-spec =

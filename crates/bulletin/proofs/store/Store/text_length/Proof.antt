@@ -4,7 +4,7 @@ use Prim.Native.Nat.{ℕ, _≤_, _*_}
 use native.Mathlib.Omega.{arith}
 use borrow.Author.Needs.{needs}
 use Rattle.bulletin.specs.Text.{flat, textLength}
-use Rattle.bulletin.proofs.Flat.{len-stop, len-more}
+use Rattle.bulletin.proofs.Telling.Flat.{len-stop, len-more}
 use Rattle.bulletin.proofs.store.Store.text_length.Statement.{statement}
 use Rattle.bulletin.proofs.store.Store.text_length.Tie as tie
 
@@ -34,7 +34,7 @@ returns c = let b = c .before in
     let a = b .before .before in
     let s = a .before .before .before in
     let F = flat (s .args .self .pages) in
-    (sym (len-stop (a .loop .n) F (omega arith) (λ q. c .if1 .taken (b .byte-at .ensures ∙ q))) ∙ a .loop .inv .1, omega arith)
+    sym (len-stop (a .loop .n) F (omega arith) (λ q. c .if1 .taken (b .byte-at .ensures ∙ q))) ∙ a .loop .inv .1
 
 loop-less : tie.Need-loop-less Inv-loop μ-loop
 loop-less c = search needs
@@ -51,7 +51,7 @@ unfolding textLength
 returns-2 c = let a = c .before in
     let s = a .before .before .before in
     let e : 0 ≡ a .loop .n = omega arith in
-    (ap (λ (n : ℕ). textLength n (flat (s .args .self .pages))) e ∙ a .loop .inv .1, omega arith)
+    ap (λ (n : ℕ). textLength n (flat (s .args .self .pages))) e ∙ a .loop .inv .1
 
 pub text-length-spec : {M : Type 1} → statement M
 text-length-spec =

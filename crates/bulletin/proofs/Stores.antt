@@ -1,0 +1,3 @@
+pub mod Opened
+pub mod Sound
+pub mod Counted

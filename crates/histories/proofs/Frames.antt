@@ -1,0 +1,5 @@
+pub mod Standing
+pub mod Brought
+pub mod Takings
+pub mod Told
+pub mod Answers

@@ -1,0 +1,122 @@
+-- What a store stands for: a name, and a mark for each page. Two stores that stand for the same are the same. Assumes nothing.
+use mathlib.Core.Path.{_≡_, refl, ap, sym, _∙_}
+use mathlib.Core.Bool.{cond}
+use mathlib.Core.Logic.{_⊎_, inl, inr, ⊎-elim}
+use Prim.Native.Nat.{ℕ, _<_, _≤_}
+use native.Mathlib.Omega.{arith}
+use lib.ListN.{length, getD-replicate, List·getD-eq-default}
+use lib.Dec.{eqb}
+use Rattle.pages.specs.declared.page.Page.{Page}
+use Rattle.pages.specs.declared.name.Name.{Name}
+use Rattle.bulletin.specs.declared.store.Store.{Store}
+use Rattle.pages.specs.Pages.{noPage, zeros, absentPage}
+use Rattle.bulletin.specs.Stores.{noPages, at}
+use Rattle.bulletin.specs.Merges.{joined}
+use Rattle.pages.proofs.Marks.{Mark, absent, held, disputed, toPage, joinM}
+use Rattle.bulletin.proofs.Merging.Merged.{marks, store-ext, merge-at, merge-long}
+use Rattle.pages.proofs.Texts.{below?}
+use Rattle.histories.specs.Soundness.{InRange, OneOfThree, Sound}
+use Rattle.histories.proofs.Soundness.Tested.{sound-tested}
+
+pub record Stands (s : Store) (n : Name) (m : ℕ → Mark) : Type 0 where
+  pub name : s .name ≡ n
+  pub long : length (s .pages) ≡ 63
+  pub page : (i : ℕ) → i < 63 → at s i ≡ toPage (m i)
+  pub past : (i : ℕ) → n .total ≤ i → m i ≡ absent
+
+pub stands-same : (a b : Store) (n : Name) (m k : ℕ → Mark) → Stands a n m → Stands b n k → ((i : ℕ) → i < 63 → m i ≡ k i) → a ≡ b
+stands-same a b n m k p q e =
+    store-ext a b (p .name ∙ sym (q .name)) (p .long) (q .long) (λ i h. p .page i h ∙ ap toPage (e i h) ∙ sym (q .page i h))
+
+pub stands-for : (s : Store) (n : Name) (m k : ℕ → Mark) → Stands s n m → ((i : ℕ) → m i ≡ k i) → Stands s n k
+stands-for s n m k p e = record {
+  name = p .name;
+  long = p .long;
+  page = λ i h. p .page i h ∙ ap toPage (e i);
+  past = λ i l. sym (e i) ∙ p .past i l;
+}
+
+-- ---- a store that stands for something, with a name in range, is sound
+
+three : (m : Mark) → OneOfThree (toPage m .mark)
+three absent = inl refl
+three (held t) = inr (inl refl)
+three disputed = inr (inr refl)
+
+no-bytes : (m : Mark) → (toPage m .mark ≡ 0) ⊎ (toPage m .mark ≡ 2) → toPage m .text ≡ zeros
+no-bytes absent h = refl
+no-bytes (held t) h = absurd (⊎-elim (λ e. one-is-not-0 e) (λ e. one-is-not-2 e) h)
+  where
+    one-is-not-0 : _≡_ {A = ℕ} 1 0 → ⊥
+    one-is-not-0 e = omega arith
+
+    one-is-not-2 : _≡_ {A = ℕ} 1 2 → ⊥
+    one-is-not-2 e = omega arith
+no-bytes disputed h = refl
+
+pub stands-sound : (s : Store) (n : Name) (m : ℕ → Mark) → InRange n → Stands s n m → Sound s
+stands-sound s n m r p = record {
+  name = rw (p .name) r;
+  state = λ i h. let e = p .page i (omega (arith, p .long)) in rw e (three (m i));
+  empty = λ i h z. let e = p .page i (omega (arith, p .long)) in rw e (no-bytes (m i) (rw e at z));
+  past = λ i h l.
+      let e = p .page i (omega (arith, p .long)) in
+      let t : s .name .total ≡ n .total = ap (λ (x : Name). x .total) (p .name) in
+      ap (λ (q : Page). q .mark) (e ∙ ap toPage (p .past i (omega arith)));
+}
+
+-- ---- a sound store stands for something
+
+-- the mark of a page
+unfoldable pub markIn : Page → Mark
+markIn p = cond (eqb (p .mark) 0) absent (cond (eqb (p .mark) 1) (held (p .text)) disputed)
+
+mark-to : (m : Mark) → markIn (toPage m) ≡ m
+unfolding markIn
+mark-to absent = refl
+mark-to (held t) = refl
+mark-to disputed = refl
+
+no-mark : markIn noPage ≡ absent
+unfolding markIn
+no-mark = refl
+
+unmarked : (m : Mark) → toPage m .mark ≡ 0 → m ≡ absent
+unmarked absent e = refl
+unmarked (held t) e = absurd (one-is-not-0 e)
+  where
+    one-is-not-0 : _≡_ {A = ℕ} 1 0 → ⊥
+    one-is-not-0 e = omega arith
+unmarked disputed e = absurd (two-is-not-0 e)
+  where
+    two-is-not-0 : _≡_ {A = ℕ} 2 0 → ⊥
+    two-is-not-0 e = omega arith
+
+pub sound-stands : (s : Store) → Sound s → length (s .pages) ≡ 63 → Stands s (s .name) (λ i. markIn (at s i))
+sound-stands s p long = record {
+  name = refl;
+  long = long;
+  page = λ i h. let m = found i h in m .1 ∙ ap toPage (sym (mark-to (m .0)) ∙ ap markIn (sym (m .1)));
+  past = λ i l. ⊎-elim (λ h. inside i l h) (λ h. ap markIn (List·getD-eq-default (s .pages) noPage (omega arith)) ∙ no-mark) (below? i 63);
+}
+  where
+    found : (i : ℕ) → i < 63 → (m : Mark) × (at s i ≡ toPage m)
+    found = marks s (record { long = long; sound = sound-tested s p })
+
+    inside : (i : ℕ) → s .name .total ≤ i → i < 63 → markIn (at s i) ≡ absent
+    inside i l h =
+        let m = found i h in
+        ap markIn (m .1) ∙ mark-to (m .0) ∙ unmarked (m .0) (ap (λ (q : Page). q .mark) (sym (m .1)) ∙ p .past i (omega arith) l)
+
+-- ---- opened, and merged
+
+pub opened-stands : (n : Name) → Stands (noPages n) n (λ i. absent)
+opened-stands n = record { name = refl; long = refl; page = λ i h. getD-replicate 63 i absentPage noPage h; past = λ i l. refl }
+
+pub joined-stands : (a b : Store) (n : Name) (m k : ℕ → Mark) → Stands a n m → Stands b n k → Stands (joined a b) n (λ i. joinM (m i) (k i))
+joined-stands a b n m k p q = record {
+  name = p .name;
+  long = merge-long a b (p .long);
+  page = λ i h. merge-at a b i (m i) (k i) h (p .long) (q .long) (p .page i h) (q .page i h);
+  past = λ i l. λ j. joinM (p .past i l j) (q .past i l j);
+}

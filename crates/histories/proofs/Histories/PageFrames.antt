@@ -1,0 +1,82 @@
+-- For each page and each text there is a frame that brings it; and what a frame brings is 18 bytes. Assumes nothing.
+use mathlib.Core.Path.{_≡_, refl, ap, sym, subst}
+use mathlib.Core.List.{List, [], _∷_, _++_}
+use mathlib.Core.Logic.{inl, ⊎-elim}
+use Prim.Native.Nat.{ℕ, zero, suc, _+_, _<_, _≤_}
+use native.Mathlib.Omega.{arith}
+use native.Mathlib.Nat.{suc-ne-zero, suc-inj}
+use lib.ListN.{length, getD, replicate, getD-replicate, List·getD-eq-default}
+use Rattle.report.specs.declared.record.Body.{Body}
+use Rattle.report.specs.declared.record.Body.the-variants.{Nothing}
+use Rattle.slots.specs.declared.slot.Slot.{Slot}
+use Rattle.report.specs.declared.record.Record.{Record}
+use Rattle.rows.specs.Layout.{Row, bytes}
+use Rattle.report.specs.Layout.{layout}
+use Rattle.nankai.specs.Nankai.{page}
+use Rattle.slots.specs.Slots.{noSlot}
+use Rattle.report.specs.Records.{values, bodyValues}
+use Rattle.rows.specs.Kept.{Kept}
+use Rattle.report.specs.Rules.{KeepsRules}
+use Rattle.report.proofs.Claims.{valid-keeps-rules, keeping-rules-is-valid}
+use Rattle.pages.specs.declared.name.Name.{Name}
+use Rattle.pages.proofs.Marks.{Text}
+use Rattle.pages.proofs.Texts.{below?}
+use Rattle.histories.specs.Soundness.{InRange}
+use Rattle.histories.specs.Frames.{Frame, Brings}
+use Rattle.histories.proofs.Soundness.KeptRules.{Bytes18, pageRecord, page-holds}
+
+-- ---- the frame of a page
+
+abbrev pub recordOf : Name → ℕ → Text → Record
+recordOf n p t = pageRecord 0x53 n p (replicate 16 noSlot) t
+
+no-slots : (i : ℕ) → getD (replicate 16 noSlot) i noSlot ≡ noSlot
+no-slots i = ⊎-elim (λ h. getD-replicate 16 i noSlot noSlot h) (λ h. List·getD-eq-default (replicate 16 noSlot) noSlot h) (below? i 16)
+
+module _ (n : Name) (range : InRange n) (p : ℕ) (t : Text) (low : 1 ≤ p) (high : p ≤ n .total) (is : Bytes18 t) where
+  keeps : KeepsRules (recordOf n p t)
+  unfolding layout
+  keeps = record {
+    preamble = inl (omega arith, omega arith);
+    category = λ e. no-nankai e;
+    slots = λ i h. absurd (none h);
+    others = λ i h. let e = no-slots i in (ap (λ (x : Slot). x .hour) e, (ap (λ (x : Slot). x .strength) e, (ap (λ (x : Slot). x .place) e, tt)));
+    text = tt;
+    rows = page-holds 0x53 n p (replicate 16 noSlot) t range low high is;
+  }
+    where
+      no-nankai : recordOf n p t .body ≡ Nothing → ⊥
+      no-nankai e = let z : _≡_ {A = ℕ} 0 1 = cc in apart z
+        where
+          apart : _≡_ {A = ℕ} 0 1 → ⊥
+          apart z = omega arith
+
+      none : {i : ℕ} → i < 0 → ⊥
+      none h = omega arith
+
+  abbrev pub frameOf : Frame
+  frameOf = record { came = recordOf n p t; slots = refl; text = is .long }
+
+  pub frame-brings : Brings n (frameOf .came) p t
+  frame-brings = record {
+    valid = keeping-rules-is-valid (recordOf n p t) (record { slots = refl; text = is .long }) keeps;
+    common = refl;
+    body = refl;
+    text = refl;
+  }
+
+-- ---- what a frame brings
+
+kept-bytes : (k a before : ℕ) (t : Text) (rows : List Row) (more : List ℕ) → length t ≡ k → Kept before (bytes k a ++ rows) (t ++ more) → (j : ℕ) → getD t j 0 < 256
+kept-bytes zero a before [] rows more l h j = omega arith
+kept-bytes zero a before (x ∷ t) rows more l h j = absurd (suc-ne-zero (length t) l)
+kept-bytes (suc k) a before [] rows more l h j = absurd (suc-ne-zero k (sym l))
+kept-bytes (suc k) a before (x ∷ t) rows more l h zero = ⊎-elim (λ z. omega arith) (λ z. absurd z) (h .0)
+kept-bytes (suc k) a before (x ∷ t) rows more l h (suc j) = kept-bytes k (a + 8) x t rows more (suc-inj l) (h .1) j
+
+pub brings-bytes : (n : Name) (f : Frame) (p : ℕ) (t : Text) → Brings n (f .came) p t → Bytes18 t
+unfolding values bodyValues layout
+brings-bytes n f p t b =
+    let r = f .came in
+    let kept = subst (λ (x : Body). Kept 0 (layout x .body) (bodyValues x (r .text))) (b .body) (valid-keeps-rules r (record { slots = f .slots; text = f .text }) (b .valid) .rows .body) in
+    subst Bytes18 (b .text) (record { long = f .text; bytes = kept-bytes 18 57 (n .serial) (r .text) page (p ∷ n .total ∷ []) (f .text) (kept .1) })

@@ -1,0 +1,3 @@
+pub mod KeptRules
+pub mod NameRanges
+pub mod Tested

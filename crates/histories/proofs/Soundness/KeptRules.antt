@@ -1,0 +1,99 @@
+-- A page of a bulletin whose name is in range keeps the rules of category 4. Assumes nothing.
+use mathlib.Core.Path.{_≡_, refl, sym}
+use mathlib.Core.List.{List, [], _∷_, _++_}
+use mathlib.Core.Logic.{_⊎_, inl, inr, ⊎-elim}
+use Prim.Native.Nat.{ℕ, zero, suc, _+_, _<_, _≤_}
+use native.Mathlib.Omega.{arith}
+use native.Mathlib.Nat.{suc-ne-zero, suc-inj}
+use lib.ListN.{length, getD, replicate}
+use Rattle.report.specs.declared.record.Body.the-variants.{Nankai}
+use Rattle.report.specs.declared.record.Record.{Record}
+use Rattle.slots.specs.declared.slot.Slot.{Slot}
+use Rattle.rows.specs.Layout.{_to_, bytes}
+use Rattle.report.specs.Layout.{layout}
+use Rattle.nankai.specs.Nankai.{nankai, page}
+use Rattle.report.specs.Records.{values, bodyValues}
+use Rattle.rows.specs.Kept.{In, Kept, Holds}
+use Rattle.pages.specs.declared.name.Name.{Name}
+use Rattle.pages.proofs.Marks.{Text}
+use Rattle.histories.specs.Soundness.{InRange}
+
+-- "18 bytes, any"
+pub record Bytes18 (t : Text) : Type 0 where
+  pub long : length t ≡ 18
+  pub bytes : (k : ℕ) → getD t k 0 < 256
+
+same-bytes : (n v : ℕ) → v < 256 → (k : ℕ) → getD (replicate n v) k 0 < 256
+same-bytes zero v h k = omega arith
+same-bytes (suc n) v h zero = h
+same-bytes (suc n) v h (suc k) = same-bytes n v h k
+
+pub all-alike : (v : ℕ) → v < 256 → Bytes18 (replicate 18 v)
+all-alike v h = record { long = refl; bytes = same-bytes 18 v h }
+
+-- ---- codes
+
+pub one-span : (lo hi v : ℕ) → In (lo to hi ∷ []) v → (lo ≤ v) × (v ≤ hi)
+one-span lo hi v h = ⊎-elim (λ p. p) (λ z. absurd z) h
+
+pub two-codes : (a b v : ℕ) → In (a to a ∷ b to b ∷ []) v → (v ≡ a) ⊎ (v ≡ b)
+two-codes a b v h = ⊎-elim (λ p. inl (omega arith)) (λ q. ⊎-elim (λ p. inr (omega arith)) (λ n. absurd n) q) h
+
+codes-two : (a b v : ℕ) → (v ≡ a) ⊎ (v ≡ b) → In (a to a ∷ b to b ∷ []) v
+codes-two a b v h = ⊎-elim (λ e. inl (omega arith, omega arith)) (λ e. inr (inl (omega arith, omega arith))) h
+
+only : (v : ℕ) → In (v to v ∷ []) v
+only v = inl (omega arith, omega arith)
+
+-- any bytes, and behind them the page number and the total
+kept-page : (k a before : ℕ) (t : Text) (p total : ℕ) → length t ≡ k → ((j : ℕ) → getD t j 0 < 256) → 1 ≤ p → p ≤ total → total ≤ 63
+    → Kept before (bytes k a ++ page) (t ++ p ∷ total ∷ [])
+kept-page zero a before [] p total l b low high most = (inl (low, omega arith), ((high, most), tt))
+kept-page zero a before (x ∷ t) p total l b low high most = absurd (suc-ne-zero (length t) l)
+kept-page (suc k) a before [] p total l b low high most = absurd (suc-ne-zero k (sym l))
+kept-page (suc k) a before (x ∷ t) p total l b low high most =
+    (inl (omega arith, omega (arith, b 0)), kept-page k (a + 8) x t p total (suc-inj l) (λ j. b (suc j)) low high most)
+
+-- ---- the record of a page
+
+-- without slots, and with Reserved zero
+abbrev pub pageRecord : ℕ → Name → ℕ → List Slot → Text → Record
+pageRecord preamble n p slots t = record {
+  preamble = preamble;
+  reserved = 0;
+  common = n .common;
+  body = Nankai (record { serial = n .serial; number = p; total = n .total });
+  slots = slots;
+  text = t;
+}
+
+pub page-holds : (preamble : ℕ) (n : Name) (p : ℕ) (slots : List Slot) (t : Text) → InRange n → 1 ≤ p → p ≤ n .total → Bytes18 t
+    → Holds nankai (values (pageRecord preamble n p slots t) 0 0)
+unfolding values bodyValues layout
+page-holds preamble n p slots t range low high is = record {
+  head = (
+    only 43,
+    (
+      codes-two 2 7 (n .common .rc) (range .rc),
+      (
+        only 4,
+        (
+          inl (range .month),
+          (
+            inl (range .day),
+            (
+              inl (omega arith, range .hour),
+              (
+                inl (omega arith, range .minute),
+                (codes-two 0 2 (n .common .it) (range .it), (refl, tt)),
+              ),
+            ),
+          ),
+        ),
+      ),
+    ),
+  );
+  body = (inl (range .serial), kept-page 18 57 (n .serial) t p (n .total) (is .long) (is .bytes) low high (range .total .1));
+  slots = tt;
+  last = (refl, (only 1, (inl (omega arith, omega arith), tt)));
+}

@@ -1,0 +1,111 @@
+// Which bulletin a page is of: report classification, issue time, information type, kind of
+// information and page total.
+ghost use mathlib.Core.Path.{_≡_};
+ghost use Rattle.pages.specs.Names.{zeroName, firstPage, nameVerdict, nameInRange, sameCommon, sameName};
+use nankai::PageNumbers;
+use report::check::check;
+use report::record::Body;
+use report::record::Common;
+use report::record::Record;
+use rows::refusal::Verdict;
+use slots::slot::Slot;
+
+pub struct Name {
+    pub common: Common,
+    pub serial: u8,
+    pub total: u8,
+}
+
+fn same_common(a: Common, b: Common) -> bool
+    ensures { λ r. ⌜ r ≡ sameCommon a b ⌝ }
+{
+    if a.rc != b.rc {
+        return false;
+    }
+    if a.month != b.month {
+        return false;
+    }
+    if a.day != b.day {
+        return false;
+    }
+    if a.hour != b.hour {
+        return false;
+    }
+    if a.minute != b.minute {
+        return false;
+    }
+    a.it == b.it
+}
+
+impl Name {
+    // A name that no bulletin has.
+    pub fn of_zeros() -> Name
+        ensures { λ r. ⌜ r ≡ zeroName ⌝ }
+    {
+        Name {
+            common: Common {
+                rc: 0,
+                month: 0,
+                day: 0,
+                hour: 0,
+                minute: 0,
+                it: 0,
+            },
+            serial: 0,
+            total: 0,
+        }
+    }
+
+    // Page 1 of the bulletin, without text.
+    fn first_page(self) -> Record
+        ensures { λ r. ⌜ r ≡ firstPage self ⌝ }
+    {
+        let common = self.common;
+        let body = Body::Nankai(PageNumbers {
+            serial: self.serial,
+            number: 1,
+            total: self.total,
+        });
+        let none = Slot {
+            hour: 0,
+            strength: 0,
+            place: 0,
+        };
+        Record {
+            preamble: 0,
+            reserved: 0,
+            common: common,
+            body: body,
+            slots: [none; 16],
+            text: [0u8; crate::page::Page::BYTES],
+        }
+    }
+
+    // 8 at the first value that is out of range, in the order of a frame: a name is in range where
+    // its first page is, so the ranges of a frame's fields stand in one place.
+    pub fn verdict(self) -> Verdict
+        ensures { λ r. ⌜ r ≡ nameVerdict self ⌝ }
+    {
+        check(self.first_page(), 0, 0)
+    }
+
+    pub fn is_in_range(self) -> bool
+        ensures { λ r. ⌜ r ≡ nameInRange self ⌝ }
+    {
+        match self.verdict() {
+            Verdict::Fine => true,
+            Verdict::Refused(_) => false,
+        }
+    }
+
+    pub fn is(self, other: Name) -> bool
+        ensures { λ r. ⌜ r ≡ sameName self other ⌝ }
+    {
+        let a = self.common;
+        let b = other.common;
+        if same_common(a, b) {
+            return self.serial == other.serial && self.total == other.total;
+        }
+        false
+    }
+}

@@ -1,0 +1,28 @@
+-- Every public function of `pages` is settled (specs/Settled.antt). Assumes nothing.
+use Rattle.pages.proofs as pages
+use Rattle.settled.specs.Settled.{Settled}
+use Rattle.settled.proofs.Law.{answer}
+
+pub Page-absent-is-settled : Settled pages.page.Page.absent.ended pages.page.Page.absent.Reads.Post
+Page-absent-is-settled κs a x y = answer
+
+pub Page-held-is-settled : Settled pages.page.Page.held.ended pages.page.Page.held.Reads.Post
+Page-held-is-settled κs a x y = answer
+
+pub Page-join-is-settled : Settled pages.page.Page.join.ended pages.page.Page.join.Reads.Post
+Page-join-is-settled κs a x y = answer
+
+pub Page-is-sound-at-is-settled : Settled pages.page.Page.is_sound_at.ended pages.page.Page.is_sound_at.Reads.Post
+Page-is-sound-at-is-settled κs a x y = answer
+
+pub Name-of-zeros-is-settled : Settled pages.name.Name.of_zeros.ended pages.name.Name.of_zeros.Reads.Post
+Name-of-zeros-is-settled κs a x y = answer
+
+pub Name-verdict-is-settled : Settled pages.name.Name.verdict.ended pages.name.Name.verdict.Reads.Post
+Name-verdict-is-settled κs a x y = answer
+
+pub Name-is-in-range-is-settled : Settled pages.name.Name.is_in_range.ended pages.name.Name.is_in_range.Reads.Post
+Name-is-in-range-is-settled κs a x y = answer
+
+pub Name-is-is-settled : Settled pages.name.Name.is.ended pages.name.Name.is.Reads.Post
+Name-is-is-settled κs a x y = answer
