@@ -9,9 +9,9 @@ use Rattle.bulletin.specs.declared.take.Taken.the-variants.{Refused as NotTaken
 use Rattle.bulletin.specs.Takings.{takeOf}
 use Rattle.bulletin.specs.Merges.{mergeVerdict}
 use Rattle.bulletin.proofs.Claims.{an-answered-refusal-leaves-the-store, a-refused-merge-gives-the-first}
-use Rattle.packed.specs.Unpacked.{unpacked}
-use Rattle.packed.specs.Shelves.{storeBytes, storeFrom}
-use Rattle.packed.proofs.Claims.{bytes-to-store-and-back}
+use Rattle.record_bytes.specs.Unpacked.{unpacked}
+use Rattle.store_bytes.specs.Stores.{storeBytes, storeFrom}
+use Rattle.store_bytes.proofs.Claims.{bytes-to-store-and-back}
 use Rattle.inserter.specs.Answers.{takeInto, mergeInto}
 use Rattle.inserter.proofs.StoreDoors.{taking-buffer, merging-buffer}
 

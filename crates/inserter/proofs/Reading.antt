@@ -9,8 +9,8 @@ use Rattle.rows.specs.declared.refusal.Verdict.the-variants.{Fine, Refused}
 use Rattle.rows.specs.declared.refusal.Refusal.{Refusal}
 use Rattle.report.specs.declared.read.Reading.{Reading}
 use Rattle.rows.specs.Refusals.{says}
-use Rattle.packed.specs.Packed.{packedInto}
-use Rattle.packed.proofs.Whole.{into-right}
+use Rattle.record_bytes.specs.Packed.{packedInto}
+use Rattle.record_bytes.proofs.ToBytes.Whole.{into-right}
 use Rattle.inserter.specs.Answers.{word, left, handedOver, handed}
 
 module _ (got : Reading) (buffer : List ℕ) (long : length buffer ≡ 145) where

@@ -28,8 +28,8 @@ use Rattle.bulletin.proofs.Telling.Flat.{textLength-most}
 use Rattle.pages.proofs.Ranges.{total-most}
 use Rattle.bulletin.proofs.Stores.Sound.{sound-parts}
 use Rattle.bulletin.proofs.Telling.Told.{fine-sound}
-use Rattle.packed.specs.Unpacked.{unpacked, recordFrom}
-use Rattle.packed.specs.Shelves.{storeBytes, storeInto, nameFrom, nameOf, storeFrom, storeOf}
+use Rattle.record_bytes.specs.Unpacked.{unpacked, recordFrom}
+use Rattle.store_bytes.specs.Stores.{storeBytes, storeInto, nameFrom, nameOf, storeFrom, storeOf}
 use Rattle.inserter.specs.Answers.{Left, left, word, called, opened, openInto, takenWord, taken, takeInto, merged, mergeInto, counted, reportInto, lengthOr, told, textInto}
 use Rattle.inserter.proofs.Writing.{record-whole}
 

@@ -9,7 +9,7 @@ use Rattle.rows.specs.declared.refusal.Verdict.{Verdict}
 use Rattle.report.specs.declared.record.Record.{Record}
 use Rattle.rows.specs.Refusals.{plain, answers}
 use Rattle.report.specs.Runs.Writing.{writeAnswer, writeOf}
-use Rattle.packed.specs.Unpacked.{unpacked, recordFrom}
+use Rattle.record_bytes.specs.Unpacked.{unpacked, recordFrom}
 use Rattle.inserter.specs.Answers.{Left, word, left, writeFrom}
 
 pub record-whole : (bytes : List ℕ) → length bytes ≡ 145 → recordFrom bytes ≡ unpacked bytes

@@ -25,9 +25,9 @@ use Rattle.bulletin.specs.Takings.{takeOf}
 use Rattle.bulletin.specs.Merges.{mergeOf}
 use Rattle.bulletin.specs.Counts.{reportOf}
 use Rattle.bulletin.specs.Text.{tellOf, textOf}
-use Rattle.packed.specs.Packed.{packed}
-use Rattle.packed.specs.Unpacked.{unpacked}
-use Rattle.packed.specs.Shelves.{storeBytes, nameFrom, storeFrom}
+use Rattle.record_bytes.specs.Packed.{packed}
+use Rattle.record_bytes.specs.Unpacked.{unpacked}
+use Rattle.store_bytes.specs.Stores.{storeBytes, nameFrom, storeFrom}
 
 -- a parity has 24 bits; above them stands the number of the refusal, which is 1 where the slice is not 32 bytes long
 unfoldable pub parityAnswer : List ℕ → ℕ

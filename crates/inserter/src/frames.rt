@@ -4,8 +4,11 @@ ghost use Rattle.inserter.specs.Answers.{parityAnswer, left, handed, rea
 use crate::words::refusal_word;
 use crate::words::verdict_word;
 use crate::words::wrong_call;
+use record_bytes::sizes::RECORD_SIZE;
 use report::read::Reading;
 use rows::refusal::Verdict;
+
+const FRAME_SIZE: usize = 32;
 
 // The parity of a lent frame in the low three bytes. A slice that is no frame has 1, the number of
 // that refusal, in the high byte, and zeros below it.
@@ -13,7 +16,7 @@ use rows::refusal::Verdict;
 pub extern "C" fn lz_parity(frame: &[u8]) -> u32
     ensures { λ r. ⌜ r ≡ parityAnswer (now (frame .entry)) ⌝ }
 {
-    if frame.len() != 32 {
+    if frame.len() != FRAME_SIZE {
         return 0x100_0000;
     }
     parity::parity(bits::frame_of(frame))
@@ -23,14 +26,14 @@ pub extern "C" fn lz_parity(frame: &[u8]) -> u32
 pub(crate) fn hand_over(reading: Reading, record_bytes: &mut [u8]) -> u32
     ensures { λ r. ⌜ left r (now (record_bytes .exit)) ≡ handed reading (now (record_bytes .entry)) ⌝ }
 {
-    if record_bytes.len() != 145 {
+    if record_bytes.len() != RECORD_SIZE {
         return wrong_call();
     }
     let answer = reading.answer;
     match answer {
         Verdict::Fine => {
             let found = reading.record;
-            packed::pack(found, record_bytes);
+            record_bytes::pack(found, record_bytes);
             0
         }
         Verdict::Refused(refusal) => refusal_word(refusal),
@@ -54,9 +57,9 @@ pub extern "C" fn lz_read(frame: &[u8], record_bytes: &mut [u8]) -> u32
 pub extern "C" fn lz_write(record_bytes: &[u8], frame: &mut [u8]) -> u32
     ensures { λ r. ⌜ left r (now (frame .exit)) ≡ writeFrom (now (record_bytes .entry)) (now (frame .entry)) ⌝ }
 {
-    if record_bytes.len() != 145 {
+    if record_bytes.len() != RECORD_SIZE {
         return wrong_call();
     }
-    let record = packed::unpack(record_bytes);
+    let record = record_bytes::unpack(record_bytes);
     verdict_word(report::write::write(record, frame))
 }

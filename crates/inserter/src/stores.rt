@@ -7,7 +7,13 @@ use crate::words::taken_word;
 use crate::words::verdict_word;
 use crate::words::wrong_call;
 use bulletin::store::Store;
+use record_bytes::sizes::RECORD_SIZE;
 use rows::refusal::Verdict;
+use store_bytes::sizes::NAME_SIZE;
+use store_bytes::sizes::STORE_SIZE;
+
+// how many pages are held, how many are disputed, the lowest that is not held
+const COUNTS_SIZE: usize = 3;
 
 // Opens a store for the bulletin that 8 bytes name: Rc, month, day, hour, minute, It, Is, page total.
 // 8 with its place where a value is out of range, and then the store is zeros.
@@ -15,16 +21,16 @@ use rows::refusal::Verdict;
 pub extern "C" fn lz_open(name: &[u8], store: &mut [u8]) -> u32
     ensures { λ r. ⌜ left r (now (store .exit)) ≡ openInto (now (name .entry)) (now (store .entry)) ⌝ }
 {
-    if name.len() != 8 {
+    if name.len() != NAME_SIZE {
         return wrong_call();
     }
-    if store.len() != 1205 {
+    if store.len() != STORE_SIZE {
         return wrong_call();
     }
-    let opening = Store::open(packed::unpack_name(name));
+    let opening = Store::open(store_bytes::unpack_name(name));
     let opened = opening.store;
     let answer = opening.answer;
-    packed::pack_store(opened, store);
+    store_bytes::pack_store(opened, store);
     verdict_word(answer)
 }
 
@@ -34,17 +40,17 @@ pub extern "C" fn lz_open(name: &[u8], store: &mut [u8]) -> u32
 pub extern "C" fn lz_take(store: &mut [u8], record_bytes: &[u8]) -> u32
     ensures { λ r. ⌜ left r (now (store .exit)) ≡ takeInto (now (store .entry)) (now (record_bytes .entry)) ⌝ }
 {
-    if store.len() != 1205 {
+    if store.len() != STORE_SIZE {
         return wrong_call();
     }
-    if record_bytes.len() != 145 {
+    if record_bytes.len() != RECORD_SIZE {
         return wrong_call();
     }
-    let before = packed::unpack_store(store);
-    let taking = before.take(packed::unpack(record_bytes));
+    let before = store_bytes::unpack_store(store);
+    let taking = before.take(record_bytes::unpack(record_bytes));
     let after = taking.store;
     let answer = taking.answer;
-    packed::pack_store(after, store);
+    store_bytes::pack_store(after, store);
     taken_word(answer)
 }
 
@@ -53,17 +59,17 @@ pub extern "C" fn lz_take(store: &mut [u8], record_bytes: &[u8]) -> u32
 pub extern "C" fn lz_merge(store: &mut [u8], other: &[u8]) -> u32
     ensures { λ r. ⌜ left r (now (store .exit)) ≡ mergeInto (now (store .entry)) (now (other .entry)) ⌝ }
 {
-    if store.len() != 1205 {
+    if store.len() != STORE_SIZE {
         return wrong_call();
     }
-    if other.len() != 1205 {
+    if other.len() != STORE_SIZE {
         return wrong_call();
     }
-    let before = packed::unpack_store(store);
-    let merging = before.merge(packed::unpack_store(other));
+    let before = store_bytes::unpack_store(store);
+    let merging = before.merge(store_bytes::unpack_store(other));
     let after = merging.store;
     let answer = merging.answer;
-    packed::pack_store(after, store);
+    store_bytes::pack_store(after, store);
     verdict_word(answer)
 }
 
@@ -73,13 +79,13 @@ pub extern "C" fn lz_merge(store: &mut [u8], other: &[u8]) -> u32
 pub extern "C" fn lz_report(store: &[u8], counts: &mut [u8]) -> u32
     ensures { λ r. ⌜ left r (now (counts .exit)) ≡ reportInto (now (store .entry)) (now (counts .entry)) ⌝ }
 {
-    if store.len() != 1205 {
+    if store.len() != STORE_SIZE {
         return wrong_call();
     }
-    if counts.len() != 3 {
+    if counts.len() != COUNTS_SIZE {
         return wrong_call();
     }
-    let count = packed::unpack_store(store).report();
+    let count = store_bytes::unpack_store(store).report();
     let answer = count.answer;
     counts[0] = count.held;
     counts[1] = count.disputed;
@@ -94,10 +100,10 @@ pub extern "C" fn lz_report(store: &[u8], counts: &mut [u8]) -> u32
 pub extern "C" fn lz_text(store: &[u8], text: &mut [u8]) -> u32
     ensures { λ r. ⌜ left r (now (text .exit)) ≡ textInto (now (store .entry)) (now (text .entry)) ⌝ }
 {
-    if store.len() != 1205 {
+    if store.len() != STORE_SIZE {
         return wrong_call();
     }
-    let telling = packed::unpack_store(store).text(text);
+    let telling = store_bytes::unpack_store(store).text(text);
     let answer = telling.answer;
     match answer {
         Verdict::Fine => telling.length as u32,

@@ -9,5 +9,6 @@ pub mod Line
 pub mod Listing
 pub mod Pages
 pub mod Bulletin
-pub mod Packed
+pub mod RecordBytes
+pub mod StoreBytes
 pub mod Inserter

@@ -1,4 +1,0 @@
-pub mod Packed
-pub mod Unpacked
-pub mod Writing
-pub mod Shelves

@@ -1,0 +1,34 @@
+-- What this crate claims of its definitions. Each is proved in the file that its last line names. Assumes nothing.
+use mathlib.Core.Path.{_≡_}
+use mathlib.Core.Bool.{true}
+use Prim.Native.Nat.{ℕ}
+use mathlib.Core.List.{List}
+use lib.ListN.{length, getD}
+use Rattle.rows.specs.declared.refusal.Verdict.the-variants.{Refused}
+use Rattle.rows.specs.declared.refusal.Refusal.the-variants.{Unused}
+use Rattle.report.specs.declared.record.Record.{Record}
+use Rattle.rows.specs.Runs.Verdict.{allowed}
+use Rattle.report.specs.Layout.{preambles}
+use Rattle.report.specs.Runs.Writing.{known, writeAnswer}
+use Rattle.record_bytes.specs.Packed.{packed}
+use Rattle.record_bytes.specs.Unpacked.{bodyFrom, stray, unpacked}
+use Rattle.record_bytes.proofs.ToBytes.Whole as Whole
+use Rattle.record_bytes.proofs.RoundTrip as RoundTrip
+use Rattle.record_bytes.proofs.FromBytes.Refused as Refusing
+
+-- A record with "sixteen slots (hour, strength or intensity, place) and 18 text bytes" has 145 bytes, whatever its category.
+pub packed-has-145-bytes : (r : Record) → length (r .slots) ≡ 16 → length (r .text) ≡ 18 → length (packed r) ≡ 145
+packed-has-145-bytes = Whole.length-packed
+
+-- Nothing is lost: records whose numbers fit their bytes are told apart by the bytes.
+pub bytes-tell-records-apart : (r s : Record) → RoundTrip.Fits r → RoundTrip.Fits s → packed r ≡ packed s → r ≡ s
+bytes-tell-records-apart = RoundTrip.told-apart
+
+-- The way there and back: such a record is given back by its bytes.
+pub packed-then-unpacked : (r : Record) → RoundTrip.Fits r → unpacked (packed r) ≡ r
+packed-then-unpacked = RoundTrip.back
+
+-- Something in bytes 9 to 30 behind what the category has is 11, and in its turn: "1, 3, 7, 11, then 8 and 10 by lowest bit".
+pub stray-bytes-are-refused : (l : List ℕ) → stray (bodyFrom l) l ≡ true → allowed preambles (getD l 1 0) ≡ true → known (bodyFrom l) ≡ true
+    → writeAnswer (unpacked l) 32 ≡ Refused Unused
+stray-bytes-are-refused = Refusing.stray-refused

@@ -1,0 +1,5 @@
+pub mod Claims
+pub mod Texts
+pub mod ToBytes
+pub mod FromBytes
+pub mod RoundTrip

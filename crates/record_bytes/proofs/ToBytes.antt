@@ -1,0 +1,4 @@
+pub mod Chains
+pub mod Numbers
+pub mod Slots
+pub mod Whole

@@ -1,0 +1,38 @@
+-- Slots one behind the other. Assumes nothing.
+use mathlib.Core.Path.{_≡_, refl, ap, _∙_}
+use Prim.Native.Nat.{ℕ, _+_, _*_, _<_}
+use native.Mathlib.Omega.{arith}
+use native.Mathlib.Numerals.{add-one}
+use mathlib.Core.List.{List, [], _∷_, _++_}
+use lib.ListN.{length, getD, take}
+use lib.Seq.{take-suc, length-take-le}
+use Rattle.slots.specs.declared.slot.Slot.{Slot}
+use Rattle.slots.specs.Slots.{noSlot}
+use Rattle.record_bytes.specs.Packed.{slotBytes, slotsBytes}
+use Rattle.record_bytes.specs.Writing.{Wrote}
+use Rattle.record_bytes.proofs.ToBytes.Chains.{behind}
+
+pub length-slots : (ss : List Slot) → length (slotsBytes ss) ≡ 6 * length ss
+unfolding slotsBytes
+length-slots [] = refl
+length-slots (s ∷ ss) = omega (arith, length-slots ss)
+
+slots-append : (ss us : List Slot) → slotsBytes (ss ++ us) ≡ slotsBytes ss ++ slotsBytes us
+unfolding slotsBytes
+slots-append [] us = refl
+slots-append (s ∷ ss) us = ap (λ (t : List ℕ). slotBytes s ++ t) (slots-append ss us)
+
+slots-suc : (ss : List Slot) (k : ℕ) → k < length ss → slotsBytes (take (k + 1) ss) ≡ slotsBytes (take k ss) ++ slotBytes (getD ss k noSlot)
+unfolding slotsBytes
+slots-suc ss k h =
+    ap (λ (n : ℕ). slotsBytes (take n ss)) (add-one k)
+    ∙ ap slotsBytes (take-suc ss k noSlot h)
+    ∙ slots-append (take k ss) (getD ss k noSlot ∷ [])
+
+-- one slot more
+pub slot-more : {l m r : List ℕ} (i k : ℕ) (ss : List Slot) → k < length ss → Wrote l m i (slotsBytes (take k ss))
+    → Wrote m r (i + 6 * k) (slotBytes (getD ss k noSlot)) → Wrote l r i (slotsBytes (take (k + 1) ss))
+slot-more i k ss h x y =
+    let n : length (take k ss) ≡ k = length-take-le k ss (omega arith) in
+    let at : i + 6 * k ≡ i + length (slotsBytes (take k ss)) = omega (arith, length-slots (take k ss)) in
+    rw (slots-suc ss k h) (behind at x y)

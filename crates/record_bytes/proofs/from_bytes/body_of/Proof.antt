@@ -1,0 +1,61 @@
+-- `record_bytes::from_bytes::body_of` meets its contract. Assumes nothing.
+use mathlib.Core.Path.{sym, ap, _∙_}
+use borrow.Author.Tests.{ne-eqb}
+use Rattle.report.specs.declared.record.Body.the-variants.{Hypocenter, Intensity, Nankai, AshFall}
+use Rattle.record_bytes.specs.Unpacked.{bodyBy}
+use Rattle.rows.specs.declared.time.Time.{Time}
+use borrow.Author.Needs.{needs}
+use Rattle.record_bytes.proofs.from_bytes.body_of.Statement.{statement}
+use Rattle.record_bytes.proofs.from_bytes.body_of.Tie as tie
+
+shared-slice-read-match : tie.Need-shared-slice-read-match
+shared-slice-read-match c = search needs
+
+quake-of-requires : tie.Need-quake-of-requires
+quake-of-requires c κs = search needs
+
+time-at-requires : tie.Need-time-at-requires
+time-at-requires c κs = search needs
+
+page-of-requires : tie.Need-page-of-requires
+page-of-requires c κs = search needs
+
+eruption-of-requires : tie.Need-eruption-of-requires
+eruption-of-requires c κs = search needs
+
+returns : tie.Need-returns
+unfolding bodyBy
+returns c = ap Hypocenter (c .quake-of .ensures) ∙ sym (ap (bodyBy (c .before .before .before .before .args .bytes .now)) (c .before .match .keys1))
+
+returns-2 : tie.Need-returns-2
+unfolding bodyBy
+returns-2 c = ap (λ (t : Time). Intensity (record { time = t })) (c .time-at .ensures) ∙ sym (ap (bodyBy (c .before .before .before .before .args .bytes .now)) (c .before .match .keys2))
+
+returns-3 : tie.Need-returns-3
+unfolding bodyBy
+returns-3 c = ap Nankai (c .page-of .ensures) ∙ sym (ap (bodyBy (c .before .before .before .before .args .bytes .now)) (c .before .match .keys3))
+
+returns-4 : tie.Need-returns-4
+unfolding bodyBy
+returns-4 c = ap AshFall (c .eruption-of .ensures) ∙ sym (ap (bodyBy (c .before .before .before .before .args .bytes .now)) (c .before .match .keys4))
+
+returns-5 : tie.Need-returns-5
+unfolding bodyBy
+returns-5 c =
+    let other = c .match .rest in
+    simp (ne-eqb _ 2 (other .0 .0 .0 .1), ne-eqb _ 3 (other .0 .0 .1), ne-eqb _ 4 (other .0 .1), ne-eqb _ 9 (other .1))
+
+pub body-of-spec : {M : Type 1} → statement M
+body-of-spec =
+    tie.close
+    (tie.spec
+    shared-slice-read-match
+    quake-of-requires
+    time-at-requires
+    page-of-requires
+    eruption-of-requires
+    returns
+    returns-2
+    returns-3
+    returns-4
+    returns-5)

@@ -1,0 +1,81 @@
+-- `record_bytes::from_bytes::slots_of` meets its contract: the slots passed are those of the bytes. Assumes nothing.
+use mathlib.Core.Path.{_≡_, refl, ap, _∙_}
+use mathlib.Core.List.{List, _++_}
+use Prim.Native.Nat.{ℕ, _+_, _-_, _*_, _≤_}
+use native.Mathlib.Omega.{arith}
+use lib.ListN.{length, replicate, length-set}
+use Rattle.slots.specs.declared.slot.Slot.{Slot}
+use Rattle.rows.specs.Values.{each}
+use Rattle.slots.specs.Slots.{noSlot}
+use Rattle.rows.proofs.Layouts.Filling.{fill, filled}
+use Rattle.record_bytes.specs.Unpacked.{slotAt}
+use Rattle.record_bytes.proofs.from_bytes.slots_of.Statement.{statement}
+use Rattle.record_bytes.proofs.from_bytes.slots_of.Tie as tie
+
+abbrev nth : List ℕ → ℕ → Slot
+nth l i = slotAt l (31 + 6 * i)
+
+abbrev Inv-loop : tie.InvT-loop
+Inv-loop bytes slots₀ k₀ slots k = (k ≤ 16) × ((length slots ≡ 16) × (slots ≡ each k (nth bytes) ++ replicate (16 - k) noSlot))
+
+abbrev μ-loop : tie.MeasureT-loop
+μ-loop bytes slots₀ k₀ slots k = 16 - k
+
+loop-holds : tie.Need-loop-holds Inv-loop μ-loop
+loop-holds c = (omega arith, (refl, refl))
+
+mul-slot-at : tie.Need-mul-slot-at Inv-loop μ-loop
+mul-slot-at c = omega arith
+
+add-slot-at : tie.Need-add-slot-at Inv-loop μ-loop
+add-slot-at c = omega arith
+
+slot-at-requires : tie.Need-slot-at-requires Inv-loop μ-loop
+slot-at-requires c κs = omega arith
+
+mul-slots : tie.Need-mul-slots Inv-loop μ-loop
+mul-slots c = omega arith
+
+array-set-from-slots : tie.Need-array-set-from-slots Inv-loop μ-loop
+array-set-from-slots c = omega arith
+
+add-k : tie.Need-add-k Inv-loop μ-loop
+add-k c = omega arith
+
+loop-less : tie.Need-loop-less Inv-loop μ-loop
+loop-less c = omega arith
+
+loop-again : tie.Need-loop-again Inv-loop μ-loop
+loop-again c =
+    let l = c .before .before .loop in
+    let s = c .before .before .before .before .args .bytes .now in (
+      omega arith,
+      (
+        length-set (l .slots) (l .k) (c .slot-at .result) ∙ l .inv .1 .0,
+        fill 16 (l .k) (nth s) noSlot (c .slot-at .result) (l .slots) (omega arith) (l .inv .1 .1) (c .slot-at .ensures),
+      ),
+    )
+
+returns : tie.Need-returns Inv-loop μ-loop
+returns c =
+    let l = c .before .loop in
+    let s = c .before .before .before .args .bytes .now in
+    let last : l .k ≡ 16 = omega arith in
+    filled 16 (nth s) noSlot (l .slots) (l .inv .1 .1 ∙ ap (λ (k : ℕ). each k (nth s) ++ replicate (16 - k) noSlot) last)
+
+pub slots-of-spec : {M : Type 1} → statement M
+slots-of-spec =
+    tie.close
+    (tie.spec
+    Inv-loop
+    μ-loop
+    loop-holds
+    mul-slot-at
+    add-slot-at
+    slot-at-requires
+    mul-slots
+    array-set-from-slots
+    add-k
+    loop-less
+    loop-again
+    returns)

@@ -1,0 +1,53 @@
+-- `record_bytes::to_bytes::pack` meets its contract. Assumes nothing.
+use mathlib.Core.Path.{_≡_, sym, _∙_}
+use native.Mathlib.Omega.{arith}
+use lib.ListN.{length, length-map}
+use Rattle.record_bytes.proofs.ToBytes.Whole.{packed-in-parts, into-right, into-wrong}
+use Rattle.record_bytes.proofs.Texts.{text-put}
+use borrow.Author.Needs.{needs}
+use Rattle.record_bytes.proofs.to_bytes.pack.Statement.{statement}
+use Rattle.record_bytes.proofs.to_bytes.pack.Tie as tie
+
+put-head-requires : tie.Need-put-head-requires
+put-head-requires c κs = search needs
+
+put-body-requires : tie.Need-put-body-requires
+put-body-requires c κs = search needs
+
+put-slots-requires : tie.Need-put-slots-requires
+put-slots-requires c κs = search needs
+
+put-text-requires : tie.Need-put-text-requires
+put-text-requires c κs = search needs
+
+same-length : tie.Need-same-length
+same-length c = search needs
+
+returns : tie.Need-returns
+returns c =
+    let text = c .before .before in
+    let slots = text .before .before .before .before in
+    let body = slots .before .before .before .before in
+    let head = body .before .before .before .before in
+    let t = head .before .before .before .before in
+    let s = t .before .before in
+    let r = s .args .r in
+    let n : length (r .slots) ≡ 16 = sym (length-map (r .slots) _) ∙ s .good .0 .1 .1 .1 .1 .1 .1 .0 .1 .0 .1 in
+    let m : length (r .text) ≡ 18 = sym (length-map (r .text) _) ∙ s .good .0 .1 .1 .1 .1 .1 .1 .1 .0 .1 .0 .1 in
+    packed-in-parts r n m (t .if1 .taken) (head .put-head .ensures) (body .put-body .ensures) (slots .put-slots .ensures) (text-put (omega arith) (text .put-text .ensures))
+    ∙ sym (into-right r _ (t .if1 .taken))
+
+returns-2 : tie.Need-returns-2
+returns-2 c = sym (into-wrong _ _ (c .if1 .left))
+
+pub pack-spec : {M : Type 1} → statement M
+pack-spec =
+    tie.close
+    (tie.spec
+    put-head-requires
+    put-body-requires
+    put-slots-requires
+    put-text-requires
+    same-length
+    returns
+    returns-2)

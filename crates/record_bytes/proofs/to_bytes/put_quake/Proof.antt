@@ -1,0 +1,44 @@
+-- `record_bytes::to_bytes::put_quake` meets its contract. Assumes nothing.
+use Rattle.record_bytes.proofs.ToBytes.Chains.{_then_}
+use borrow.Author.Needs.{needs}
+use Rattle.record_bytes.proofs.to_bytes.put_quake.Statement.{statement}
+use Rattle.record_bytes.proofs.to_bytes.put_quake.Tie as tie
+
+put-notifications-requires : tie.Need-put-notifications-requires
+put-notifications-requires c κs = search needs
+
+put-time-requires : tie.Need-put-time-requires
+put-time-requires c κs = search needs
+
+put-source-requires : tie.Need-put-source-requires
+put-source-requires c κs = search needs
+
+put-angle-requires : tie.Need-put-angle-requires
+put-angle-requires c κs = search needs
+
+put-angle-requires-2 : tie.Need-put-angle-requires-2
+put-angle-requires-2 c κs = search needs
+
+same-length : tie.Need-same-length
+same-length c = search needs
+
+returns : tie.Need-returns
+returns c =
+    let longitude = c .before .before in
+    let latitude = longitude .before .before .before .before in
+    let source = latitude .before .before .before .before in
+    let time = source .before .before .before .before in
+    let notifications = time .before .before .before .before in
+    notifications .put-notifications .ensures then time .put-time .ensures then source .put-source .ensures then latitude .put-angle .ensures then longitude .put-angle2 .ensures
+
+pub put-quake-spec : {M : Type 1} → statement M
+put-quake-spec =
+    tie.close
+    (tie.spec
+    put-notifications-requires
+    put-time-requires
+    put-source-requires
+    put-angle-requires
+    put-angle-requires-2
+    same-length
+    returns)

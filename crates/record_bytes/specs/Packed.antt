@@ -1,0 +1,93 @@
+-- A record as 145 bytes, for callers that know bytes only. Each number stands in its own width, the most significant byte
+-- first:
+--
+--   0           the category: 2, 3, 4, 9, or 0 where there is none
+--   1           preamble
+--   2           Reserved
+--   3           Rc
+--   4 to 7      month, day, hour, minute of the issue
+--   8           It
+--   9 to 30     what the category has beside slots and text, and zeros behind it:
+--                 2  three notifications (2 bytes each), day, hour, minute, depth (2), magnitude, epicenter (2),
+--                    latitude and longitude, each as side, degrees, minutes, seconds
+--                 3  day, hour, minute
+--                 4  Is, page number, page total
+--                 9  day, hour, minute, warning type, volcano (2)
+--   31 to 126   sixteen slots of six bytes: hour, strength, place (4)
+--   127 to 144  text
+use Prim.Native.Nat.{ℕ, _-_}
+use mathlib.Core.Bool.{cond}
+use mathlib.Core.List.{List, [], _∷_, _++_}
+use lib.ListN.{length, replicate}
+use lib.Dec.{eqb}
+use Rattle.bits.specs.Layout.{decode}
+use Rattle.hypocenter.specs.declared.Quake.{Quake}
+use Rattle.report.specs.declared.record.Body.{Body}
+use Rattle.report.specs.declared.record.Body.the-variants.{Nothing, Hypocenter, Intensity, Nankai, AshFall}
+use Rattle.slots.specs.declared.slot.Slot.{Slot}
+use Rattle.report.specs.declared.record.Record.{Record}
+use Rattle.report.specs.Layout.{layout}
+use Rattle.rows.specs.Values.{timeValues}
+use Rattle.hypocenter.specs.Hypocenter.{angleValues}
+
+-- v in n bytes; a number of one byte is written as it is
+abbrev pub wide : ℕ → ℕ → List ℕ
+wide n v = decode (replicate n 8) v
+
+-- l, and zeros behind it up to n bytes
+abbrev pub padded : ℕ → List ℕ → List ℕ
+padded n l = l ++ replicate (n - length l) 0
+
+-- 0 to 8
+abbrev pub headBytes : Record → List ℕ
+headBytes r =
+    layout (r .body) .code
+    ∷ r .preamble
+    ∷ r .reserved
+    ∷ r .common .rc
+    ∷ r .common .month
+    ∷ r .common .day
+    ∷ r .common .hour
+    ∷ r .common .minute
+    ∷ r .common .it ∷ []
+
+-- ---- 9 to 30
+
+abbrev pub notificationBytes : Quake → List ℕ
+notificationBytes q = wide 2 (q .notification1) ++ wide 2 (q .notification2) ++ wide 2 (q .notification3)
+
+abbrev pub sourceBytes : Quake → List ℕ
+sourceBytes q = wide 2 (q .depth) ++ q .magnitude ∷ wide 2 (q .epicenter)
+
+abbrev pub quakeBytes : Quake → List ℕ
+quakeBytes q =
+    notificationBytes q  -- 9, 11, 13
+    ++ timeValues (q .time)  -- 15
+    ++ sourceBytes q  -- 18, 20, 21
+    ++ angleValues (q .latitude)  -- 23
+    ++ angleValues (q .longitude)  -- 27
+
+unfoldable pub bodyBytes : Body → List ℕ
+bodyBytes Nothing = []
+bodyBytes (Hypocenter q) = quakeBytes q
+bodyBytes (Intensity s) = timeValues (s .time)
+bodyBytes (Nankai p) = p .serial ∷ p .number ∷ p .total ∷ []
+bodyBytes (AshFall e) = timeValues (e .time) ++ e .warning ∷ wide 2 (e .volcano)
+
+-- ---- 31 to 126
+
+abbrev pub slotBytes : Slot → List ℕ
+slotBytes s = s .hour ∷ s .strength ∷ wide 4 (s .place)
+
+unfoldable pub slotsBytes : List Slot → List ℕ
+slotsBytes [] = []
+slotsBytes (s ∷ ss) = slotBytes s ++ slotsBytes ss
+
+-- ---- all of them
+
+unfoldable pub packed : Record → List ℕ
+packed r = headBytes r ++ padded 22 (bodyBytes (r .body)) ++ slotsBytes (r .slots) ++ r .text
+
+-- a lent buffer of 145 bytes takes them; one of another length stays as it was
+unfoldable pub packedInto : Record → List ℕ → List ℕ
+packedInto r buffer = cond (eqb (length buffer) 145) (packed r) buffer

@@ -1,0 +1,17 @@
+-- Every public function of `record_bytes` is settled (specs/Settled.antt). Assumes nothing.
+use Rattle.record_bytes.proofs as «record_bytes»
+use Rattle.settled.specs.Settled.{Settled}
+use Rattle.settled.proofs.Law.{answer, buffer, second}
+
+pub unpack-is-settled : Settled «record_bytes».unpack.ended «record_bytes».unpack.Reads.Post
+unpack-is-settled κs a x y = answer
+
+pub pack-is-settled : Settled «record_bytes».pack.ended «record_bytes».pack.Reads.Post
+pack-is-settled κs a x y = buffer second
+
+pub text-at-is-settled : Settled «record_bytes».text.text_at.ended «record_bytes».text.text_at.Reads.Post
+text-at-is-settled κs a x y = answer
+
+-- the lent buffer is the first of three parameters
+pub put-text-is-settled : Settled «record_bytes».text.put_text.ended «record_bytes».text.put_text.Reads.Post
+put-text-is-settled κs a x y = buffer (λ b. (b, (tt, (tt, tt))))

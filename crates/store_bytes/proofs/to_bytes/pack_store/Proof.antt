@@ -1,0 +1,36 @@
+-- `store_bytes::to_bytes::pack_store` meets its contract. Assumes nothing.
+use mathlib.Core.Path.{_≡_}
+use lib.ListN.{length}
+use Rattle.pages.proofs.Shapes.{unmapped, shapes}
+use Rattle.bulletin.proofs.Telling.Flat.{Eighteen}
+use Rattle.store_bytes.proofs.Pages.{store-in-parts, other-length}
+use borrow.Author.Needs.{needs}
+use Rattle.store_bytes.proofs.to_bytes.pack_store.Statement.{statement}
+use Rattle.store_bytes.proofs.to_bytes.pack_store.Tie as tie
+
+put-name-requires : tie.Need-put-name-requires
+put-name-requires c κs = search needs
+
+put-pages-requires : tie.Need-put-pages-requires
+put-pages-requires c κs = search needs
+
+same-length : tie.Need-same-length
+same-length c = search needs
+
+returns : tie.Need-returns
+returns c =
+    let pages = c .before .before in
+    let name = pages .before .before .before .before in
+    let t = name .before .before .before in
+    let s = t .before .before in
+    let a = s .good .0 .1 .1 .1 .0 .1 in
+    let n : length (s .args .store .pages) ≡ 63 = unmapped _ (s .args .store .pages) 63 (a .0 .1) in
+    let e : Eighteen (s .args .store .pages) = λ i h. shapes (s .args .store .pages) _ (a .1) i h .long in
+    store-in-parts (s .args .store) n e (t .if1 .taken) (name .put-name .ensures) (pages .put-pages .ensures)
+
+returns-2 : tie.Need-returns-2
+returns-2 c = other-length _ _ (c .if1 .left)
+
+pub pack-store-spec : {M : Type 1} → statement M
+pack-store-spec =
+    tie.close (tie.spec put-name-requires put-pages-requires same-length returns returns-2)

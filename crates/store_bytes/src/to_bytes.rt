@@ -1,0 +1,60 @@
+// From a store to its bytes, front to back.
+ghost use mathlib.Core.Path.{_≡_};
+ghost use Prim.Native.Nat.{_+_, _≤_};
+ghost use lib.ListN.{length};
+ghost use Rattle.record_bytes.specs.Writing.{Wrote};
+ghost use Rattle.store_bytes.specs.Stores.{nameBytes, pageBytes, pagesBytes, storeInto};
+use crate::sizes::PAGE_SIZE;
+use crate::sizes::PAGES_AT;
+use crate::sizes::STORE_SIZE;
+use bulletin::store::Store;
+use pages::name::Name;
+use pages::page::Page;
+use record_bytes::text::put_text;
+
+fn put_name(out: &mut [u8], name: Name)
+    requires { ⌜ length (now out) ≡ 1205 ⌝ }
+    ensures { λ _. ⌜ Wrote (now (out .entry)) (now (out .exit)) 0 (nameBytes name) ⌝ }
+{
+    let common = name.common;
+    out[0] = common.rc;
+    out[1] = common.month;
+    out[2] = common.day;
+    out[3] = common.hour;
+    out[4] = common.minute;
+    out[5] = common.it;
+    out[6] = name.serial;
+    out[7] = name.total;
+}
+
+fn put_page(out: &mut [u8], at: usize, page: Page)
+    requires { ⌜ at + 19 ≤ length (now out) ⌝ }
+    ensures { λ _. ⌜ Wrote (now (out .entry)) (now (out .exit)) at (pageBytes page) ⌝ }
+{
+    let text = page.text;
+    out[at] = page.mark;
+    put_text(out, at + 1, text);
+}
+
+fn put_pages(out: &mut [u8], store: Store)
+    requires { ⌜ length (now out) ≡ 1205 ⌝ }
+    ensures { λ _. ⌜ Wrote (now (out .entry)) (now (out .exit)) 8 (pagesBytes (store .pages)) ⌝ }
+{
+    let mut k = 0;
+    while k < Store::PAGES {
+        let page = store.pages[k];
+        put_page(out, PAGES_AT + PAGE_SIZE * k, page);
+        k += 1;
+    }
+}
+
+// The store, into a lent buffer of 1205 bytes. A buffer of another length stays as it was.
+pub fn pack_store(store: Store, out: &mut [u8])
+    ensures { λ _. ⌜ now (out .exit) ≡ storeInto store (now (out .entry)) ⌝ }
+{
+    if out.len() == STORE_SIZE {
+        let name = store.name;
+        put_name(out, name);
+        put_pages(out, store);
+    }
+}
