@@ -11,3 +11,6 @@ Eruption-check-is-settled κs a x y = answer
 
 pub Eruption-lay-is-settled : Settled ash_fall.Eruption.lay.ended ash_fall.Eruption.lay.Reads.Post
 Eruption-lay-is-settled κs a x y = answer
+
+pub Prefecture-of-is-settled : Settled ash_fall.meaning.Prefecture.of.ended ash_fall.meaning.Prefecture.of.Reads.Post
+Prefecture-of-is-settled κs a x y = answer

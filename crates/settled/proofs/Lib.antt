@@ -3,7 +3,10 @@ pub mod Bits
 pub mod Parity
 pub mod Rows
 pub mod Hypocenter
+pub mod Intensity
+pub mod Nankai
 pub mod AshFall
+pub mod Slots
 pub mod Report
 pub mod Line
 pub mod Listing

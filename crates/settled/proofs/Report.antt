@@ -3,9 +3,6 @@ use Rattle.report.proofs as report
 use Rattle.settled.specs.Settled.{Settled}
 use Rattle.settled.proofs.Law.{answer, both, second}
 
-pub Prefecture-of-is-settled : Settled report.meaning.Prefecture.of.ended report.meaning.Prefecture.of.Reads.Post
-Prefecture-of-is-settled κs a x y = answer
-
 pub Body-slot-kind-is-settled : Settled report.record.Body.slot_kind.ended report.record.Body.slot_kind.Reads.Post
 Body-slot-kind-is-settled κs a x y = answer
 
