@@ -279,7 +279,7 @@ uint32_t lz_merge(uint8_t *store, size_t store_length,
  * complete where all are held, however many frames came. Where something is
  * refused the three bytes become zeros. Refuses: 14.
  */
-uint32_t lz_report(const uint8_t *store, size_t store_length,
+uint32_t lz_count(const uint8_t *store, size_t store_length,
                    uint8_t *counts, size_t counts_length);
 
 /*

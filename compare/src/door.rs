@@ -54,7 +54,7 @@ mod raw {
             other: *const u8,
             other_length: usize,
         ) -> u32;
-        pub fn lz_report(
+        pub fn lz_count(
             store: *const u8,
             store_length: usize,
             counts: *mut u8,
@@ -118,7 +118,7 @@ pub fn merge(store: &mut [u8], other: &[u8]) -> [u8; 4] {
 
 /// Writes held, disputed and lowest page to three bytes.
 pub fn report(store: &[u8], counts: &mut [u8]) -> [u8; 4] {
-    from_to(raw::lz_report, store, counts)
+    from_to(raw::lz_count, store, counts)
 }
 
 /// Writes the text of a store. Where nothing is refused, the last two bytes of

@@ -84,8 +84,8 @@ static void telling_is_unsound(int line, const uint8_t *store)
               lz_text(store, LZ_STORE_BYTES, lent, sizeof lent));
     same_word(__FILE__, line, "lz_text", unsound, lz_text(store, LZ_STORE_BYTES, lent, 0));
     untouched(__FILE__, line, "text", lent, 0, sizeof lent);
-    same_word(__FILE__, line, "lz_report", unsound,
-              lz_report(store, LZ_STORE_BYTES, lent, LZ_COUNT_BYTES));
+    same_word(__FILE__, line, "lz_count", unsound,
+              lz_count(store, LZ_STORE_BYTES, lent, LZ_COUNT_BYTES));
     same_bytes(__FILE__, line, "counts", zeros, lent, LZ_COUNT_BYTES);
     untouched(__FILE__, line, "counts", lent, LZ_COUNT_BYTES, sizeof lent);
 }
@@ -146,7 +146,7 @@ void check_bulletin_calls_wrong(void)
         SAME_WORD(refused(LZ_WRONG_CALL), lz_open(given, name, lent, store));
         SAME_WORD(refused(LZ_WRONG_CALL), lz_take(lent, store, given, record));
         SAME_WORD(refused(LZ_WRONG_CALL), lz_merge(lent, store, given, second));
-        SAME_WORD(refused(LZ_WRONG_CALL), lz_report(given, store, lent, counts));
+        SAME_WORD(refused(LZ_WRONG_CALL), lz_count(given, store, lent, counts));
         if (one != 2) {
             SAME_WORD(refused(LZ_WRONG_CALL), lz_text(given, store, lent, LZ_TEXT_MOST));
         }

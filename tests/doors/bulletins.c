@@ -13,8 +13,8 @@ static void same_counts(int line, const uint8_t *store, uint8_t held, uint8_t di
     const uint8_t expected[LZ_COUNT_BYTES] = {held, disputed, lowest};
     uint8_t lent[LZ_COUNT_BYTES + 1];
     fill(lent, sizeof lent);
-    same_word(__FILE__, line, "lz_report", LZ_FINE,
-              lz_report(store, LZ_STORE_BYTES, lent, LZ_COUNT_BYTES));
+    same_word(__FILE__, line, "lz_count", LZ_FINE,
+              lz_count(store, LZ_STORE_BYTES, lent, LZ_COUNT_BYTES));
     same_bytes(__FILE__, line, "held, disputed, lowest", expected, lent, LZ_COUNT_BYTES);
     untouched(__FILE__, line, "counts", lent, LZ_COUNT_BYTES, sizeof lent);
 }

@@ -1,4 +1,4 @@
--- What is proved of the page store, by sentence of document 01. Assumes nothing.
+-- What is proved of the page store, by sentence of document 01.
 use mathlib.Core.Path.{_≡_, refl, ap, sym, _∙_}
 use mathlib.Core.Logic.{_⊎_, inl, inr, ⊎-elim}
 use mathlib.Core.Bool.{Bool, true, false, cond}
@@ -27,14 +27,14 @@ use Rattle.pages.specs.Pages.{noPage, join, heldPage, disputedPage}
 use Rattle.nankai.specs.Nankai.{nankai}
 use Rattle.report.specs.Records.{values}
 use Rattle.rows.specs.Faults.{Lowest}
-use Rattle.pages.specs.Names.{firstPage, nameVerdict, sameName}
-use Rattle.bulletin.specs.Stores.{noPages, zeroStore, opening, openOf, soundStore, at}
-use Rattle.bulletin.specs.Takings.{told, nameOf, belongs, writable, admission, putPage, taking, takeOf}
-use Rattle.bulletin.specs.Merges.{mergeVerdict, joined, merging, mergeOf}
-use Rattle.bulletin.proofs.Taking.Admitted.{of-bulletin, writable-record}
+use Rattle.pages.specs.Names.{firstPageOf, nameVerdict, sameName}
+use Rattle.bulletin.specs.Stores.{noPages, zeroStore, opening, openOf, soundStore, pageBehind}
+use Rattle.bulletin.specs.Takings.{takingAnswer, bulletinOf, pageNumberIn, writable, admission, putPage, taking, takeOf}
+use Rattle.bulletin.specs.Merges.{mergeVerdict, joinedStores, merging, mergeOf}
+use Rattle.bulletin.proofs.Taking.TakingOutcomes.{of-bulletin, writable-record}
 use Rattle.pages.proofs.Ranges.{first-bad-value}
 use Rattle.bulletin.proofs.Merging.Merged.{Whole, marks, merge-at, merge-comm, merge-idem, merge-assoc}
-use Rattle.pages.proofs.Marks.{Text, Mark, absent, held, disputed, toPage, joinM, join-to}
+use Rattle.pages.proofs.States.{Text, Mark, absent, held, disputed, toPage, joinM, join-to}
 use Rattle.pages.proofs.Texts.{same?, eq-same, ne-same}
 
 -- "So every name in range is opened": without a page
@@ -42,7 +42,7 @@ pub every-name-in-range-is-opened : (n : Name) → nameVerdict n ≡ Fine → op
 every-name-in-range-is-opened n e = ap (λ (v : Verdict). opening v n) e
 
 -- "Opening: 8 at the first bad value in frame order": of the values of the bulletin's first page, by the table of category 4
-pub opening-is-refused-at-the-first-bad-value : (n : Name) (x : Refusal) → nameVerdict n ≡ Refused x → Lowest nankai (values (firstPage n) 0 0) x
+pub opening-is-refused-at-the-first-bad-value : (n : Name) (x : Refusal) → nameVerdict n ≡ Refused x → Lowest nankai (values (firstPageOf n) 0 0) x
 opening-is-refused-at-the-first-bad-value = first-bad-value
 
 -- "a refused opening [gives] a store of zeros"
@@ -61,11 +61,11 @@ not-a-refusal false true x e = let z : _≡_ {A = ℕ} 0 1 = cc in omega (arith,
 not-a-refusal false false x e = let z : _≡_ {A = ℕ} 0 1 = cc in omega (arith, z)
 
 pub an-answered-refusal-leaves-the-store : (s : Store) (r : Record) (x : Refusal) → takeOf s r .answer ≡ RefusedTaking x → takeOf s r .store ≡ s
-unfolding taking putPage told
+unfolding taking putPage takingAnswer
 an-answered-refusal-leaves-the-store s r x = by (admission s r)
   where
     by : (a : Admission) → taking a s (r .text) .answer ≡ RefusedTaking x → taking a s (r .text) .store ≡ s
-    by (Number k) e = absurd (not-a-refusal (eqb (at s (k - 1) .mark) 0) (eqb (join (at s (k - 1)) (heldPage (r .text)) .mark) 1) x e)
+    by (Number k) e = absurd (not-a-refusal (eqb (pageBehind s (k - 1) .mark) 0) (eqb (join (pageBehind s (k - 1)) (heldPage (r .text)) .mark) 1) x e)
     by (NotAdmitted y) e = refl
 
 -- "a refused merge [gives] the first store as given"
@@ -73,13 +73,13 @@ pub a-refused-merge-gives-the-first : (s o : Store) (x : Refusal) → mergeVerdi
 a-refused-merge-gives-the-first s o x e = ap (λ (v : Verdict). merging v s o .store) e
 
 -- "Merging goes page by page": in whatever order, and however often
-pub merging-is-commutative : (a b : Store) → Whole a → Whole b → a .name ≡ b .name → joined a b ≡ joined b a
+pub merging-is-commutative : (a b : Store) → Whole a → Whole b → a .name ≡ b .name → joinedStores a b ≡ joinedStores b a
 merging-is-commutative = merge-comm
 
-pub merging-is-associative : (a b c : Store) → Whole a → Whole b → Whole c → joined (joined a b) c ≡ joined a (joined b c)
+pub merging-is-associative : (a b c : Store) → Whole a → Whole b → Whole c → joinedStores (joinedStores a b) c ≡ joinedStores a (joinedStores b c)
 merging-is-associative = merge-assoc
 
-pub merging-is-idempotent : (a : Store) → Whole a → joined a a ≡ a
+pub merging-is-idempotent : (a : Store) → Whole a → joinedStores a a ≡ a
 merging-is-idempotent = merge-idem
 
 -- a held page's text is never replaced by a merge
@@ -88,49 +88,49 @@ held-stays t absent = inl refl
 held-stays t (held u) = ⊎-elim (λ e. inl (rw (eq-same t u e))) (λ n. inr (rw (ne-same t u n))) (same? t u)
 held-stays t disputed = inr refl
 
-pub a-held-text-is-not-replaced-by-a-merge : (a b : Store) → Whole a → Whole b → (i : ℕ) (t : List ℕ) → i < 63 → at a i ≡ heldPage t
-    → (at (joined a b) i ≡ heldPage t) ⊎ (at (joined a b) i ≡ disputedPage)
+pub a-held-text-is-not-replaced-by-a-merge : (a b : Store) → Whole a → Whole b → (i : ℕ) (t : List ℕ) → i < 63 → pageBehind a i ≡ heldPage t
+    → (pageBehind (joinedStores a b) i ≡ heldPage t) ⊎ (pageBehind (joinedStores a b) i ≡ disputedPage)
 a-held-text-is-not-replaced-by-a-merge a b p q i t h e =
     let n = marks b q i h in
     let j = merge-at a b i (held t) (n .0) h (p .long) (q .long) e (n .1) in
     ⊎-elim (λ k. inl (j ∙ ap toPage k)) (λ k. inr (j ∙ ap toPage k)) (held-stays t (n .0))
 
 -- nor by a taking
-taking-keeps : (s : Store) (a : Admission) (x : List ℕ) (i : ℕ) (t : List ℕ) → i < length (s .pages) → at s i ≡ heldPage t
-    → (at (taking a s x .store) i ≡ heldPage t) ⊎ (at (taking a s x .store) i ≡ disputedPage)
+taking-keeps : (s : Store) (a : Admission) (x : List ℕ) (i : ℕ) (t : List ℕ) → i < length (s .pages) → pageBehind s i ≡ heldPage t
+    → (pageBehind (taking a s x .store) i ≡ heldPage t) ⊎ (pageBehind (taking a s x .store) i ≡ disputedPage)
 unfolding taking putPage
 taking-keeps s (NotAdmitted y) x i t h e = inl e
 taking-keeps s (Number k) x i t h e = go (eqb i (k - 1)) refl
   where
     after : List Page
-    after = set (s .pages) (k - 1) (join (at s (k - 1)) (heldPage x))
+    after = set (s .pages) (k - 1) (join (pageBehind s (k - 1)) (heldPage x))
 
     go : (b : Bool) → eqb i (k - 1) ≡ b → (getD after i noPage ≡ heldPage t) ⊎ (getD after i noPage ≡ disputedPage)
     go true q =
         let same : k - 1 ≡ i = sym (eqb-true i (k - 1) q) in
-        let new = ap (λ (j : ℕ). getD (set (s .pages) j (join (at s j) (heldPage x))) i noPage) same ∙ getD-set-same (s .pages) i (join (at s i) (heldPage x)) noPage h ∙ ap (λ (p : Page). join p (heldPage x)) e ∙ join-to (held t) (held x) in
+        let new = ap (λ (j : ℕ). getD (set (s .pages) j (join (pageBehind s j) (heldPage x))) i noPage) same ∙ getD-set-same (s .pages) i (join (pageBehind s i) (heldPage x)) noPage h ∙ ap (λ (p : Page). join p (heldPage x)) e ∙ join-to (held t) (held x) in
         ⊎-elim (λ z. inl (new ∙ ap toPage z)) (λ z. inr (new ∙ ap toPage z)) (held-stays t (held x))
     go false q = inl (getD-set-other (s .pages) (k - 1) i _ noPage (λ z. eqb-false i (k - 1) q (omega (arith, z))) ∙ e)
 
-pub a-held-text-is-not-replaced-by-a-taking : (s : Store) (r : Record) (i : ℕ) (t : List ℕ) → i < length (s .pages) → at s i ≡ heldPage t
-    → (at (takeOf s r .store) i ≡ heldPage t) ⊎ (at (takeOf s r .store) i ≡ disputedPage)
+pub a-held-text-is-not-replaced-by-a-taking : (s : Store) (r : Record) (i : ℕ) (t : List ℕ) → i < length (s .pages) → pageBehind s i ≡ heldPage t
+    → (pageBehind (takeOf s r .store) i ≡ heldPage t) ⊎ (pageBehind (takeOf s r .store) i ≡ disputedPage)
 a-held-text-is-not-replaced-by-a-taking s r i t h e = taking-keeps s (admission s r) (r .text) i t h e
 
 -- "a sound store takes every valid page of its bulletin"
 pub a-sound-store-takes-every-page : (s : Store) (r : Record) (p : PageNumbers) → soundStore s ≡ true → Valid r → r .body ≡ Nankai p
-    → sameName (nameOf (r .common) p) (s .name) ≡ true → takeOf s r ≡ putPage s (p .number - 1) (r .text)
+    → sameName (bulletinOf (r .common) p) (s .name) ≡ true → takeOf s r ≡ putPage s (p .number - 1) (r .text)
 unfolding taking
 a-sound-store-takes-every-page s r p e v f g =
     ap (λ (a : Admission). taking a s (r .text)) (sym (of-bulletin (s .name) (r .common) (r .body) p f g ∙ writable-record s r (writeAnswer r 32) e refl v))
 
 -- "Preamble and Reserved play no part"
-asked : (s : Store) (r : Record) → Valid r → admission s r ≡ cond (soundStore s) (belongs (s .name) (r .common) (r .body)) (NotAdmitted Unsound)
+asked : (s : Store) (r : Record) → Valid r → admission s r ≡ cond (soundStore s) (pageNumberIn (s .name) (r .common) (r .body)) (NotAdmitted Unsound)
 unfolding admission
-asked s r v = ap (λ (w : Verdict). cond (soundStore s) (writable w (belongs (s .name) (r .common) (r .body))) (NotAdmitted Unsound)) v
+asked s r v = ap (λ (w : Verdict). cond (soundStore s) (writable w (pageNumberIn (s .name) (r .common) (r .body))) (NotAdmitted Unsound)) v
 
 pub preamble-and-reserved-play-no-part : (s : Store) (r q : Record) → Valid r → Valid q → r .common ≡ q .common → r .body ≡ q .body
     → r .text ≡ q .text → takeOf s r ≡ takeOf s q
 preamble-and-reserved-play-no-part s r q v w c b t =
     ap (λ (a : Admission). taking a s (r .text)) (asked s r v)
-    ∙ (λ j. taking (cond (soundStore s) (belongs (s .name) (c j) (b j)) (NotAdmitted Unsound)) s (t j))
+    ∙ (λ j. taking (cond (soundStore s) (pageNumberIn (s .name) (c j) (b j)) (NotAdmitted Unsound)) s (t j))
     ∙ sym (ap (λ (a : Admission). taking a s (q .text)) (asked s q w))

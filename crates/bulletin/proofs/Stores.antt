@@ -1,3 +1,3 @@
-pub mod Opened
 pub mod Sound
 pub mod Counted
+pub mod OpeningOutcomes

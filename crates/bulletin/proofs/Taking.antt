@@ -1,2 +1,2 @@
-pub mod Admitted
-pub mod Decided
+pub mod TakingOutcomes
+pub mod TakenOrRefused

@@ -1,2 +1,2 @@
-pub mod Flat
-pub mod Told
+pub mod TextOutcomes
+pub mod PageBytes

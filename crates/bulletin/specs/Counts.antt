@@ -11,18 +11,18 @@ use Rattle.bulletin.specs.declared.count.Count.{Count}
 use Rattle.bulletin.specs.Stores.{soundStore}
 
 -- how many pages have the mark
-unfoldable pub marked : ℕ → List Page → ℕ
-marked k [] = 0
-marked k (p ∷ ps) = cond (eqb (p .mark) k) (suc (marked k ps)) (marked k ps)
+unfoldable pub countMarked : ℕ → List Page → ℕ
+countMarked k [] = 0
+countMarked k (p ∷ ps) = cond (eqb (p .mark) k) (suc (countMarked k ps)) (countMarked k ps)
 
 -- the lowest page that is not held, of those up to the total, looked for behind i others
-unfoldable pub lowest : ℕ → ℕ → List Page → ℕ
-lowest total i [] = 0
-lowest total i (p ∷ ps) = cond (ltb i total) (cond (eqb (p .mark) 1) (lowest total (suc i) ps) (suc i)) 0
+unfoldable pub lowestNotHeld : ℕ → ℕ → List Page → ℕ
+lowestNotHeld total i [] = 0
+lowestNotHeld total i (p ∷ ps) = cond (ltb i total) (cond (eqb (p .mark) 1) (lowestNotHeld total (suc i) ps) (suc i)) 0
 
 -- "The reports of a store: 14"; "A refused report gives zeros"
-unfoldable pub reportOf : Store → Count
-reportOf s =
+unfoldable pub countOf : Store → Count
+countOf s =
     cond (soundStore s)
-    (record { answer = Fine; held = marked 1 (s .pages); disputed = marked 2 (s .pages); lowest = lowest (s .name .total) 0 (s .pages) })
+    (record { answer = Fine; held = countMarked 1 (s .pages); disputed = countMarked 2 (s .pages); lowest = lowestNotHeld (s .name .total) 0 (s .pages) })
     (record { answer = Refused Unsound; held = 0; disputed = 0; lowest = 0 })

@@ -20,12 +20,12 @@ joins [] qs = []
 joins (p ∷ ps) [] = p ∷ ps
 joins (p ∷ ps) (q ∷ qs) = join p q ∷ joins ps qs
 
-abbrev pub joined : Store → Store → Store
-joined s o = record { name = s .name; pages = joins (s .pages) (o .pages) }
+abbrev pub joinedStores : Store → Store → Store
+joinedStores s o = record { name = s .name; pages = joins (s .pages) (o .pages) }
 
 -- "a refused merge [gives] the first store as given"
 abbrev pub merging : Verdict → Store → Store → Merging
-merging Fine s o = record { answer = Fine; store = joined s o }
+merging Fine s o = record { answer = Fine; store = joinedStores s o }
 merging (Refused x) s o = record { answer = Refused x; store = s }
 
 abbrev pub mergeOf : Store → Store → Merging

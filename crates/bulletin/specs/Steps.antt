@@ -15,11 +15,11 @@ unfoldable pub soundness : Store → Verdict
 soundness s = unless (soundStore s) Unsound
 
 -- 12, 13
-abbrev pub found : Admission → Verdict
-found (Number k) = Fine
-found (NotAdmitted x) = Refuses x
+abbrev pub admissionVerdict : Admission → Verdict
+admissionVerdict (Number k) = Fine
+admissionVerdict (NotAdmitted x) = Refuses x
 
 -- what a step's refusal comes to. No step hands on `Fine`, which is none; a function by value needs an answer there too
-abbrev pub refusing : Verdict → Store → Taking
-refusing (Refuses x) s = record { answer = Refused x; store = s }
-refusing Fine s = record { answer = Same; store = s }
+abbrev pub refusedTaking : Verdict → Store → Taking
+refusedTaking (Refuses x) s = record { answer = Refused x; store = s }
+refusedTaking Fine s = record { answer = Same; store = s }

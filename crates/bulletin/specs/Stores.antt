@@ -38,10 +38,10 @@ unfoldable pub soundStore : Store → Bool
 soundStore s = cond (nameInRange (s .name)) (soundFrom (s .name .total) 0 (s .pages)) false
 
 -- the page behind i others
-abbrev pub at : Store → ℕ → Page
-at s i = getD (s .pages) i noPage
+abbrev pub pageBehind : Store → ℕ → Page
+pageBehind s i = getD (s .pages) i noPage
 
 -- what the type of a store tells: 63 pages of 18 bytes
 pub record ShapedStore (s : Store) : Type 0 where
   pub long : length (s .pages) ≡ 63
-  pub pages : (i : ℕ) → i < 63 → Shaped (at s i)
+  pub pages : (i : ℕ) → i < 63 → Shaped (pageBehind s i)

@@ -6,7 +6,7 @@ use lib.ListN.{set}
 use lib.Dec.{eqb}
 use Rattle.report.specs.declared.record.Common.{Common}
 use Rattle.report.specs.declared.record.Body.{Body}
-use Rattle.report.specs.declared.record.Body.the-variants.{Nothing, Hypocenter, Intensity, Nankai, AshFall}
+use Rattle.report.specs.declared.record.Body.the-variants.{NoCategory, Hypocenter, Intensity, Nankai, AshFall}
 use Rattle.report.specs.declared.record.Record.{Record}
 use Rattle.nankai.specs.declared.PageNumbers.{PageNumbers}
 use Rattle.rows.specs.declared.refusal.Verdict.{Verdict}
@@ -23,23 +23,23 @@ use Rattle.bulletin.specs.declared.take.Admission.{Admission}
 use Rattle.bulletin.specs.declared.take.Admission.the-variants.{Number, Refused as NotAdmitted}
 use Rattle.pages.specs.Pages.{join, heldPage}
 use Rattle.pages.specs.Names.{sameName}
-use Rattle.bulletin.specs.Stores.{soundStore, at}
+use Rattle.bulletin.specs.Stores.{soundStore, pageBehind}
 
 -- "new where it was absent, same where it was held with those 18 bytes, and disputed otherwise": by the page before and after
-unfoldable pub told : Page → Page → Taken
-told before after = cond (eqb (before .mark) 0) New (cond (eqb (after .mark) 1) Same Disputed)
+unfoldable pub takingAnswer : Page → Page → Taken
+takingAnswer before after = cond (eqb (before .mark) 0) New (cond (eqb (after .mark) 1) Same Disputed)
 
 -- the bulletin that a page names
-abbrev pub nameOf : Common → PageNumbers → Name
-nameOf c p = record { common = c; serial = p .serial; total = p .total }
+abbrev pub bulletinOf : Common → PageNumbers → Name
+bulletinOf c p = record { common = c; serial = p .serial; total = p .total }
 
 -- 12, then 13
-unfoldable pub belongs : Name → Common → Body → Admission
-belongs n c (Nankai p) = cond (sameName (nameOf c p) n) (Number (p .number)) (NotAdmitted OtherBulletin)
-belongs n c Nothing = NotAdmitted NoPage
-belongs n c (Hypocenter q) = NotAdmitted NoPage
-belongs n c (Intensity t) = NotAdmitted NoPage
-belongs n c (AshFall e) = NotAdmitted NoPage
+unfoldable pub pageNumberIn : Name → Common → Body → Admission
+pageNumberIn n c (Nankai p) = cond (sameName (bulletinOf c p) n) (Number (p .number)) (NotAdmitted OtherBulletin)
+pageNumberIn n c NoCategory = NotAdmitted NoPage
+pageNumberIn n c (Hypocenter q) = NotAdmitted NoPage
+pageNumberIn n c (Intensity t) = NotAdmitted NoPage
+pageNumberIn n c (AshFall e) = NotAdmitted NoPage
 
 abbrev pub writable : Verdict → Admission → Admission
 writable Fine a = a
@@ -47,7 +47,7 @@ writable (Refuses x) a = NotAdmitted x
 
 -- each step as it is asked: 14, then what writing refuses, then 12 and 13
 unfoldable pub admission : Store → Record → Admission
-admission s r = cond (soundStore s) (writable (writeAnswer r 32) (belongs (s .name) (r .common) (r .body))) (NotAdmitted Unsound)
+admission s r = cond (soundStore s) (writable (writeAnswer r 32) (pageNumberIn (s .name) (r .common) (r .body))) (NotAdmitted Unsound)
 
 abbrev pub withPage : Store → ℕ → Page → Store
 withPage s i p = record { name = s .name; pages = set (s .pages) i p }
@@ -55,8 +55,8 @@ withPage s i p = record { name = s .name; pages = set (s .pages) i p }
 -- the page behind i others is joined with one held with the text
 unfoldable pub putPage : Store → ℕ → List ℕ → Taking
 putPage s i t =
-    let after = join (at s i) (heldPage t) in
-    record { answer = told (at s i) after; store = withPage s i after }
+    let after = join (pageBehind s i) (heldPage t) in
+    record { answer = takingAnswer (pageBehind s i) after; store = withPage s i after }
 
 -- "A refused taking leaves the store as given"
 unfoldable pub taking : Admission → Store → List ℕ → Taking

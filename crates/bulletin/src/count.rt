@@ -1,6 +1,6 @@
 // What a store has: how many pages are held, how many are disputed, and the lowest that is not held.
 ghost use mathlib.Core.Path.{_≡_};
-ghost use Rattle.bulletin.specs.Counts.{marked, lowest, reportOf};
+ghost use Rattle.bulletin.specs.Counts.{countMarked, lowestNotHeld, countOf};
 use crate::store::Store;
 use rows::refusal::Refusal;
 use rows::refusal::Verdict;
@@ -15,7 +15,7 @@ pub struct Count {
 
 impl Store {
     fn marked(self, mark: u8) -> u8
-        ensures { λ r. ⌜ r ≡ marked mark (self .pages) ⌝ }
+        ensures { λ r. ⌜ r ≡ countMarked mark (self .pages) ⌝ }
     {
         let mut n = 0;
         let mut i = 0;
@@ -31,7 +31,7 @@ impl Store {
 
     // The lowest page of the bulletin that is not held.
     pub(crate) fn lowest(self) -> u8
-        ensures { λ r. ⌜ r ≡ lowest (self .name .total) 0 (self .pages) ⌝ }
+        ensures { λ r. ⌜ r ≡ lowestNotHeld (self .name .total) 0 (self .pages) ⌝ }
     {
         let name = self.name;
         let total = name.total as usize;
@@ -49,8 +49,8 @@ impl Store {
         0
     }
 
-    pub fn report(self) -> Count
-        ensures { λ r. ⌜ r ≡ reportOf self ⌝ }
+    pub fn count(self) -> Count
+        ensures { λ r. ⌜ r ≡ countOf self ⌝ }
     {
         if self.is_sound() {
             return Count {

@@ -1,6 +1,6 @@
 // Two receivers' stores of one bulletin made one.
 ghost use mathlib.Core.Path.{_≡_};
-ghost use Rattle.bulletin.specs.Merges.{joined, mergeVerdict, mergeOf};
+ghost use Rattle.bulletin.specs.Merges.{joinedStores, mergeVerdict, mergeOf};
 use crate::store::Store;
 use rows::refusal::Refusal;
 use rows::refusal::Verdict;
@@ -25,7 +25,7 @@ impl Store {
     }
 
     fn joined(mut self, other: Store) -> Store
-        ensures { λ r. ⌜ r ≡ joined self other ⌝ }
+        ensures { λ r. ⌜ r ≡ joinedStores self other ⌝ }
     {
         let mut i = 0;
         while i < Self::PAGES {

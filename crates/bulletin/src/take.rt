@@ -2,8 +2,8 @@
 ghost use mathlib.Core.Path.{_≡_};
 ghost use Prim.Native.Nat.{_-_, _≤_};
 ghost use Rattle.report.specs.Runs.Writing.{writeAnswer};
-ghost use Rattle.bulletin.specs.Takings.{told, belongs, putPage, takeOf};
-ghost use Rattle.bulletin.specs.Steps.{soundness, found, refusing};
+ghost use Rattle.bulletin.specs.Takings.{takingAnswer, pageNumberIn, putPage, takeOf};
+ghost use Rattle.bulletin.specs.Steps.{soundness, admissionVerdict, refusedTaking};
 use crate::store::Store;
 use pages::name::Name;
 use pages::page::Page;
@@ -42,7 +42,7 @@ fn writing(came: Record) -> Verdict
 
 // What a taking answers, by the page before and after it.
 fn told(before: Page, after: Page) -> Taken
-    ensures { λ r. ⌜ r ≡ told before after ⌝ }
+    ensures { λ r. ⌜ r ≡ takingAnswer before after ⌝ }
 {
     if before.mark == 0 {
         return Taken::New;
@@ -55,7 +55,7 @@ fn told(before: Page, after: Page) -> Taken
 
 // 12, then 13.
 fn admit(name: Name, came: Record) -> Admission
-    ensures { λ r. ⌜ r ≡ belongs name (came .common) (came .body) ⌝ }
+    ensures { λ r. ⌜ r ≡ pageNumberIn name (came .common) (came .body) ⌝ }
 {
     let common = came.common;
     let body = came.body;
@@ -75,7 +75,7 @@ fn admit(name: Name, came: Record) -> Admission
 
 impl Admission {
     fn verdict(self) -> Verdict
-        ensures { λ r. ⌜ r ≡ found self ⌝ }
+        ensures { λ r. ⌜ r ≡ admissionVerdict self ⌝ }
     {
         match self {
             Admission::Number(_) => Verdict::Fine,
@@ -94,7 +94,7 @@ impl Store {
 
     // A refused taking leaves the store as it was. No step hands on `Fine`.
     fn refused(self, verdict: Verdict) -> Taking
-        ensures { λ r. ⌜ r ≡ refusing verdict self ⌝ }
+        ensures { λ r. ⌜ r ≡ refusedTaking verdict self ⌝ }
     {
         match verdict {
             Verdict::Refused(refusal) => Taking {

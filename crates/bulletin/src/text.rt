@@ -3,7 +3,7 @@ ghost use mathlib.Core.Path.{_≡_};
 ghost use mathlib.Core.List.{_++_};
 ghost use Prim.Native.Nat.{_<_, _≤_};
 ghost use lib.ListN.{length, getD, take, drop};
-ghost use Rattle.bulletin.specs.Text.{flat, lengthOf, absence, textVerdict, tellOf, textOf};
+ghost use Rattle.bulletin.specs.Text.{bytesInOrder, textLengthOf, whyNotHeld, textVerdict, textAnswer, textBuffer};
 use crate::store::Store;
 use pages::page::Page;
 use rows::refusal::Refusal;
@@ -17,7 +17,7 @@ pub struct Telling {
 
 // How 15 tells that a page is not held: 1 absent, 2 disputed.
 fn absence(page: Page) -> u8
-    ensures { λ r. ⌜ r ≡ absence page ⌝ }
+    ensures { λ r. ⌜ r ≡ whyNotHeld page ⌝ }
 {
     if page.mark == 0 {
         return 1;
@@ -28,7 +28,7 @@ fn absence(page: Page) -> u8
 impl Store {
     fn byte_at(self, k: usize) -> u8
         requires { ⌜ k < 1134 ⌝ }
-        ensures { λ r. ⌜ r ≡ getD (flat (self .pages)) k 0 ⌝ }
+        ensures { λ r. ⌜ r ≡ getD (bytesInOrder (self .pages)) k 0 ⌝ }
     {
         let i = k / Self::BYTES;
         let j = k % Self::BYTES;
@@ -40,7 +40,7 @@ impl Store {
     // The bytes of the pages of the bulletin, less all zero bytes at their end.
     fn text_length(self) -> usize
         requires { ⌜ self .name .total ≤ 63 ⌝ }
-        ensures { λ r. ⌜ r ≡ lengthOf self ⌝ }
+        ensures { λ r. ⌜ r ≡ textLengthOf self ⌝ }
     {
         let name = self.name;
         let mut n = Self::BYTES * (name.total as usize);
@@ -56,7 +56,7 @@ impl Store {
 
     fn copy_text(self, n: usize, out: &mut [u8])
         requires { ⌜ (n ≤ 1134) × (n ≤ length (now out)) ⌝ }
-        ensures { λ _. ⌜ now (out .exit) ≡ take n (flat (self .pages)) ++ drop n (now (out .entry)) ⌝ }
+        ensures { λ _. ⌜ now (out .exit) ≡ take n (bytesInOrder (self .pages)) ++ drop n (now (out .entry)) ⌝ }
     {
         let mut k = 0;
         while k < n {
@@ -84,7 +84,7 @@ impl Store {
     }
 
     pub fn text(self, out: &mut [u8]) -> Telling
-        ensures { λ r. ⌜ (r ≡ tellOf self (length (now (out .entry)))) × (now (out .exit) ≡ textOf self (now (out .entry))) ⌝ }
+        ensures { λ r. ⌜ (r ≡ textAnswer self (length (now (out .entry)))) × (now (out .exit) ≡ textBuffer self (now (out .entry))) ⌝ }
     {
         let answer = self.text_verdict();
         match answer {

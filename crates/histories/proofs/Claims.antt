@@ -1,5 +1,5 @@
 -- What is proved of a store from its opening on, through takings and merges, each claim with the sentence of document 01 that
--- it settles. Assumes nothing.
+-- it settles.
 use mathlib.Core.Path.{_≡_, refl, sym, subst}
 use mathlib.Core.Bool.{true}
 use mathlib.Core.List.{List, _++_}
@@ -16,28 +16,28 @@ use Rattle.bulletin.specs.declared.count.Count.{Count}
 use Rattle.bulletin.specs.declared.take.Taken.the-variants.{New, Same, Disputed as AnswersDisputed, Refused}
 use Rattle.pages.specs.Pages.{absentPage, heldPage, disputedPage}
 use Rattle.pages.specs.Names.{nameVerdict}
-use Rattle.bulletin.specs.Stores.{soundStore, at, ShapedStore}
+use Rattle.bulletin.specs.Stores.{soundStore, pageBehind, ShapedStore}
 use Rattle.bulletin.specs.Takings.{takeOf}
-use Rattle.bulletin.specs.Counts.{reportOf}
-use Rattle.bulletin.specs.Merges.{joined, mergeOf}
-use Rattle.pages.proofs.Marks.{absent, held, disputed}
+use Rattle.bulletin.specs.Counts.{countOf}
+use Rattle.bulletin.specs.Merges.{joinedStores, mergeOf}
+use Rattle.pages.proofs.States.{absent, held, disputed}
 use Rattle.histories.specs.Soundness.{InRange, Sound}
-use Rattle.histories.specs.Frames.{Frame, after, page, SameFrames, Brings, Came, Absent, Held, Disputed, AllTaken}
-use Rattle.histories.specs.Merging.{Tree, merged, allFrames}
-use Rattle.histories.specs.Histories.{History, storeOf, framesOf}
+use Rattle.histories.specs.Frames.{Frame, storeAfter, pageNumbered, SameFrames, Brings, Came, Absent, Held, Disputed, AllTaken}
+use Rattle.histories.specs.Merging.{Tree, treeStore, allFrames}
+use Rattle.histories.specs.Histories.{History, historyStore, framesOf}
 use Rattle.histories.specs.Reports.{LowestWithout, IsHeld, Reports, inOrder, Trimmed, Tells, TellsNothing, NotHeldBecause}
 use Rattle.histories.specs.Examples.{ofTwoPages, cameTwice}
 use Rattle.histories.proofs.Soundness.NameRanges.{fine-in-range, in-range-fine}
 use Rattle.histories.proofs.Soundness.Tested.{tested-sound, sound-tested}
-use Rattle.histories.proofs.Frames.Told.{told-page, page-told, same-frames}
+use Rattle.histories.proofs.Frames.PageStates.{told-page, page-told, same-frames}
 use Rattle.histories.proofs.Frames.Answers.{taken-brings, brings-not-refused, answers-new, answers-same, answers-disputed}
 use Rattle.histories.proofs.Histories.Merges.{merge-joins, joined-sound, commutes, associates, repeats, held-kept, after-sound, merge-after, tree-after, same-trees}
-use Rattle.histories.proofs.Histories.Given.{sound-given, after-shaped}
-use Rattle.histories.proofs.Histories.Reached.{joined-shaped, history-after, history-sound, history-shaped, any-store}
+use Rattle.histories.proofs.Histories.FramesForAStore.{sound-given, after-shaped}
+use Rattle.histories.proofs.Histories.StoresOfHistories.{joined-shaped, history-after, history-sound, history-shaped, any-store}
 use Rattle.histories.proofs.Reports.Reported.{reported, reported-once}
 use Rattle.histories.proofs.Reports.Trimming.{trimmed-once}
-use Rattle.histories.proofs.Reports.Spoken.{whole-text, at-most, no-text, missed}
-use Rattle.histories.proofs.Reports.Twice.{all-taken, twice-reported, twice-told}
+use Rattle.histories.proofs.Reports.TextFromFrames.{whole-text, at-most, no-text, missed}
+use Rattle.histories.proofs.Reports.OnePageTwice.{all-taken, twice-reported, twice-told}
 
 -- ---- sound
 
@@ -59,59 +59,59 @@ taken-exactly-when-a-page-of-the-bulletin s r h = (taken-brings s r, λ b. bring
 
 -- "Each page from 1 to the total is absent, held with its 18 bytes, or disputed": absent exactly when no frame brought it ..
 pub absent-exactly-when-none-came : (n : Name) (frames : List Frame) (p : ℕ) → InRange n → 1 ≤ p → p ≤ n .total
-    → page (after n frames) p ≡ absentPage ↔ Absent n frames p
+    → pageNumbered (storeAfter n frames) p ≡ absentPage ↔ Absent n frames p
 absent-exactly-when-none-came n frames p r low high = (told-page n r frames p absent low high, page-told n r frames p absent low high)
 
 -- .. held with a text exactly when a frame brought it with that text, and every frame that brought it did ..
 pub held-exactly-when-one-text-came : (n : Name) (frames : List Frame) (p : ℕ) (t : List ℕ) → InRange n → 1 ≤ p → p ≤ n .total
-    → page (after n frames) p ≡ heldPage t ↔ Held n frames p t
+    → pageNumbered (storeAfter n frames) p ≡ heldPage t ↔ Held n frames p t
 held-exactly-when-one-text-came n frames p t r low high = (told-page n r frames p (held t) low high, page-told n r frames p (held t) low high)
 
 -- .. and disputed exactly when two frames brought it with texts that differ: neither does the second text replace the first,
 -- nor is it "dropped unseen".
 pub disputed-exactly-when-two-differ : (n : Name) (frames : List Frame) (p : ℕ) → InRange n → 1 ≤ p → p ≤ n .total
-    → page (after n frames) p ≡ disputedPage ↔ Disputed n frames p
+    → pageNumbered (storeAfter n frames) p ≡ disputedPage ↔ Disputed n frames p
 disputed-exactly-when-two-differ n frames p r low high = (told-page n r frames p disputed low high, page-told n r frames p disputed low high)
 
 -- "Taking a page answers new where it was absent" ..
 pub new-where-none-came : (n : Name) (frames : List Frame) (f : Frame) (p : ℕ) (t : List ℕ) → InRange n → Brings n (f .came) p t
-    → Absent n frames p → takeOf (after n frames) (f .came) .answer ≡ New
+    → Absent n frames p → takeOf (storeAfter n frames) (f .came) .answer ≡ New
 new-where-none-came n frames f p t r b h = answers-new n r frames f p t b h
 
 -- .. "same where it was held with those 18 bytes" ..
 pub same-where-that-text-came : (n : Name) (frames : List Frame) (f : Frame) (p : ℕ) (t : List ℕ) → InRange n → Brings n (f .came) p t
-    → Held n frames p t → takeOf (after n frames) (f .came) .answer ≡ Same
+    → Held n frames p t → takeOf (storeAfter n frames) (f .came) .answer ≡ Same
 same-where-that-text-came n frames f p t r b h = answers-same n r frames f p t b h
 
 -- .. "and disputed otherwise": where another text had come
 pub disputed-where-another-came : (n : Name) (frames : List Frame) (f : Frame) (p : ℕ) (t u : List ℕ) → InRange n → Brings n (f .came) p t
-    → Came n frames p u → (u ≡ t → ⊥) → takeOf (after n frames) (f .came) .answer ≡ AnswersDisputed
+    → Came n frames p u → (u ≡ t → ⊥) → takeOf (storeAfter n frames) (f .came) .answer ≡ AnswersDisputed
 disputed-where-another-came n frames f p t u r b c d = answers-disputed n r frames f p t b u c d
 
 -- In whatever order frames come, and however often ("one may have come twice"), the same frames give the same store.
-pub order-and-repeats-do-not-matter : (n : Name) (a b : List Frame) → InRange n → SameFrames a b → after n a ≡ after n b
+pub order-and-repeats-do-not-matter : (n : Name) (a b : List Frame) → InRange n → SameFrames a b → storeAfter n a ≡ storeAfter n b
 order-and-repeats-do-not-matter n a b r same = same-frames n a b r same
 
 -- ---- merged
 
 -- "a merged store counts as having taken the frames of both"
 pub merging-takes-the-frames-of-both : (n : Name) (a b : List Frame) → InRange n
-    → mergeOf (after n a) (after n b) ≡ record { answer = Fine; store = after n (a ++ b) }
+    → mergeOf (storeAfter n a) (storeAfter n b) ≡ record { answer = Fine; store = storeAfter n (a ++ b) }
 merging-takes-the-frames-of-both n a b r = merge-after n r a b
 
 -- .. however many receivers there are, and however their stores are merged ..
-pub a-tree-of-merges-takes-all-frames : (n : Name) (t : Tree) → InRange n → merged n t ≡ after n (allFrames t)
+pub a-tree-of-merges-takes-all-frames : (n : Name) (t : Tree) → InRange n → treeStore n t ≡ storeAfter n (allFrames t)
 a-tree-of-merges-takes-all-frames n t r = tree-after n r t
 
 -- .. so two ways of merging the same frames give the same store
-pub ways-of-merging-agree : (n : Name) (a b : Tree) → InRange n → SameFrames (allFrames a) (allFrames b) → merged n a ≡ merged n b
+pub ways-of-merging-agree : (n : Name) (a b : Tree) → InRange n → SameFrames (allFrames a) (allFrames b) → treeStore n a ≡ treeStore n b
 ways-of-merging-agree n a b r same = same-trees n r a b same
 
 -- "Merging: 14, 13": two sound stores of one bulletin are merged, page by page, and what they give is sound
-pub sound-stores-are-merged : (a b : Store) → Sound a → Sound b → a .name ≡ b .name → mergeOf a b ≡ record { answer = Fine; store = joined a b }
+pub sound-stores-are-merged : (a b : Store) → Sound a → Sound b → a .name ≡ b .name → mergeOf a b ≡ record { answer = Fine; store = joinedStores a b }
 sound-stores-are-merged a b p q e = merge-joins a b p q e
 
-pub merging-keeps-soundness : (a b : Store) → Sound a → Sound b → ShapedStore a → ShapedStore b → a .name ≡ b .name → Sound (joined a b) × ShapedStore (joined a b)
+pub merging-keeps-soundness : (a b : Store) → Sound a → Sound b → ShapedStore a → ShapedStore b → a .name ≡ b .name → Sound (joinedStores a b) × ShapedStore (joinedStores a b)
 merging-keeps-soundness a b p q x y e = (joined-sound a b p q (x .long) (y .long) e, joined-shaped a b p q x y e)
 
 -- "The laws of merging": it does not matter which store is the first ..
@@ -128,40 +128,40 @@ pub merging-is-idempotent : (a : Store) → Sound a → ShapedStore a → mergeO
 merging-is-idempotent a p x = repeats a p (x .long)
 
 -- "all else is disputed": the text of a held page is never replaced by another, in whatever store it is merged with
-pub a-held-text-is-not-replaced : (a b : Store) → ShapedStore a → ShapedStore b → (i : ℕ) (t : List ℕ) → i < 63 → at a i ≡ heldPage t
-    → (at (mergeOf a b .store) i ≡ heldPage t) ⊎ (at (mergeOf a b .store) i ≡ disputedPage)
+pub a-held-text-is-not-replaced : (a b : Store) → ShapedStore a → ShapedStore b → (i : ℕ) (t : List ℕ) → i < 63 → pageBehind a i ≡ heldPage t
+    → (pageBehind (mergeOf a b .store) i ≡ heldPage t) ⊎ (pageBehind (mergeOf a b .store) i ≡ disputedPage)
 a-held-text-is-not-replaced a b x y i t h e = held-kept a b (x .long) (y .long) i t h e
 
 -- ---- from its opening on
 
 -- "Every sound store is one that some list of frames gives": of frames that are all taken ..
 pub every-sound-store-is-given-by-frames : (s : Store) → Sound s → ShapedStore s
-    → (frames : List Frame) × AllTaken (s .name) frames × (s ≡ after (s .name) frames)
+    → (frames : List Frame) × AllTaken (s .name) frames × (s ≡ storeAfter (s .name) frames)
 every-sound-store-is-given-by-frames s p x = sound-given s p x
 
 -- .. and every store that frames give is sound, and can be passed on
-pub what-frames-give-is-sound : (n : Name) (frames : List Frame) → InRange n → Sound (after n frames) × ShapedStore (after n frames)
+pub what-frames-give-is-sound : (n : Name) (frames : List Frame) → InRange n → Sound (storeAfter n frames) × ShapedStore (storeAfter n frames)
 what-frames-give-is-sound n frames r = (after-sound n r frames, after-shaped n r frames)
 
 -- "Condition 3 speaks of a store from its opening on, through takings and merges": whatever has happened to it, it is the store
 -- that its frames give ..
-pub a-history-comes-to-its-frames : (n : Name) (h : History n) → InRange n → storeOf h ≡ after n (framesOf h)
+pub a-history-comes-to-its-frames : (n : Name) (h : History n) → InRange n → historyStore h ≡ storeAfter n (framesOf h)
 a-history-comes-to-its-frames n h r = history-after n r h
 
 -- .. and sound ..
-pub a-history-comes-to-a-sound-store : (n : Name) (h : History n) → InRange n → Sound (storeOf h) × ShapedStore (storeOf h)
+pub a-history-comes-to-a-sound-store : (n : Name) (h : History n) → InRange n → Sound (historyStore h) × ShapedStore (historyStore h)
 a-history-comes-to-a-sound-store n h r = (history-sound n r h, history-shaped n r h)
 
 -- .. and goes on with whatever store it is merged with next: "a sound store from elsewhere counts as having taken such a list"
 pub any-store-may-be-merged : (n : Name) (h : History n) (s : Store) → InRange n → ShapedStore s
-    → (k : History n) × (storeOf k ≡ mergeOf (storeOf h) s .store)
+    → (k : History n) × (historyStore k ≡ mergeOf (historyStore h) s .store)
 any-store-may-be-merged n h s r x = any-store n r h s x
 
 -- ---- reported and told
 
 -- "A store reports how many pages are held, how many are disputed, and the lowest page that is not held (0 if none)": each of
 -- the three is defined from the frames taken ..
-pub the-report-is-told-by-the-frames : (n : Name) (frames : List Frame) → InRange n → Reports n frames (reportOf (after n frames))
+pub the-report-is-told-by-the-frames : (n : Name) (frames : List Frame) → InRange n → Reports n frames (countOf (storeAfter n frames))
 the-report-is-told-by-the-frames n frames r = reported n r frames
 
 -- .. and no other report is told by them: not "an invented number of held or disputed pages" ..
@@ -169,13 +169,13 @@ pub the-frames-tell-one-report : (n : Name) (frames : List Frame) (c d : Count) 
 the-frames-tell-one-report n frames c d p q = reported-once n frames c d p q
 
 -- .. also after merges, and with stores from elsewhere
-pub a-history-reports-its-frames : (n : Name) (h : History n) → InRange n → Reports n (framesOf h) (reportOf (storeOf h))
-a-history-reports-its-frames n h r = subst (λ (s : Store). Reports n (framesOf h) (reportOf s)) (sym (history-after n r h)) (reported n r (framesOf h))
+pub a-history-reports-its-frames : (n : Name) (h : History n) → InRange n → Reports n (framesOf h) (countOf (historyStore h))
+a-history-reports-its-frames n h r = subst (λ (s : Store). Reports n (framesOf h) (countOf s)) (sym (history-after n r h)) (reported n r (framesOf h))
 
 -- "The text is the pages' bytes in order, less all zero bytes at its end": where each page is held with its text ..
 pub the-text-is-told-by-the-frames : (n : Name) (frames : List Frame) (t : ℕ → List ℕ) → InRange n
     → ((p : ℕ) → 1 ≤ p → p ≤ n .total → Held n frames p (t p))
-    → (text : List ℕ) × Trimmed (inOrder t (n .total)) text × Tells (after n frames) text
+    → (text : List ℕ) × Trimmed (inOrder t (n .total)) text × Tells (storeAfter n frames) text
 the-text-is-told-by-the-frames n frames t r all = whole-text n r frames t all
 
 -- .. and no other text is that, which is "at most 1,134 bytes"
@@ -188,18 +188,18 @@ the-text-is-at-most-1134-bytes n frames t text r all h = at-most n r frames t te
 
 -- "15: a page is not held; with the lowest such page and whether it is absent or disputed"
 pub no-text-where-a-page-is-not-held : (n : Name) (frames : List Frame) (k : ℕ) → InRange n → LowestWithout (IsHeld n frames) (n .total) k
-    → (mark : ℕ) × NotHeldBecause n frames k mark × TellsNothing (after n frames) (NotHeld k mark)
+    → (mark : ℕ) × NotHeldBecause n frames k mark × TellsNothing (storeAfter n frames) (NotHeld k mark)
 no-text-where-a-page-is-not-held n frames k r h = no-text n r frames k h
 
 -- Not "a bulletin called complete because as many frames came as it has pages": a page that no frame brought is missed by the
 -- report and by the text, however many frames came ..
 pub a-page-that-did-not-come-is-missed : (n : Name) (frames : List Frame) (p : ℕ) → InRange n → 1 ≤ p → p ≤ n .total → Absent n frames p
-    → (k : ℕ) × (mark : ℕ) × (reportOf (after n frames) .lowest ≡ k) × NotHeldBecause n frames k mark × TellsNothing (after n frames) (NotHeld k mark)
+    → (k : ℕ) × (mark : ℕ) × (countOf (storeAfter n frames) .lowest ≡ k) × NotHeldBecause n frames k mark × TellsNothing (storeAfter n frames) (NotHeld k mark)
 a-page-that-did-not-come-is-missed n frames p r low high none = missed n r frames p low high none
 
 -- .. "one may have come twice": a bulletin of two pages, of which the first came twice. Both frames are taken, one page is
 -- held, page 2 is the lowest that is not, and the text is refused with 15, page 2, absent.
 pub one-page-twice-is-not-complete : AllTaken ofTwoPages cameTwice × (length cameTwice ≡ ofTwoPages .total)
-    × (reportOf (after ofTwoPages cameTwice) ≡ record { answer = Fine; held = 1; disputed = 0; lowest = 2 })
-    × TellsNothing (after ofTwoPages cameTwice) (NotHeld 2 1)
+    × (countOf (storeAfter ofTwoPages cameTwice) ≡ record { answer = Fine; held = 1; disputed = 0; lowest = 2 })
+    × TellsNothing (storeAfter ofTwoPages cameTwice) (NotHeld 2 1)
 one-page-twice-is-not-complete = (all-taken, refl, twice-reported, twice-told)

@@ -1,5 +1,5 @@
-pub mod Standing
-pub mod Brought
 pub mod Takings
-pub mod Told
 pub mod Answers
+pub mod PageStates
+pub mod StoreStates
+pub mod TextsBrought

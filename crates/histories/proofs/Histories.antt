@@ -1,4 +1,4 @@
 pub mod PageFrames
-pub mod Given
 pub mod Merges
-pub mod Reached
+pub mod FramesForAStore
+pub mod StoresOfHistories

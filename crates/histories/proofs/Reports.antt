@@ -1,5 +1,5 @@
 pub mod Counts
 pub mod Reported
 pub mod Trimming
-pub mod Spoken
-pub mod Twice
+pub mod TextFromFrames
+pub mod OnePageTwice

@@ -13,8 +13,8 @@ abbrev pub ofTwoPages : Name
 ofTwoPages = record { common = record { rc = 7; month = 3; day = 11; hour = 14; minute = 46; it = 0 }; serial = 1; total = 2 }
 
 -- the frame of its first page
-abbrev pub firstPage : Frame
-firstPage = record {
+abbrev pub exampleFrame : Frame
+exampleFrame = record {
   came = record {
     preamble = 0x53;
     reserved = 0;
@@ -29,4 +29,4 @@ firstPage = record {
 
 -- it came twice
 abbrev pub cameTwice : List Frame
-cameTwice = firstPage ∷ firstPage ∷ []
+cameTwice = exampleFrame ∷ exampleFrame ∷ []

@@ -10,7 +10,7 @@ use Rattle.report.specs.Runs.Writing.{Valid}
 use Rattle.pages.specs.declared.page.Page.{Page}
 use Rattle.pages.specs.declared.name.Name.{Name}
 use Rattle.bulletin.specs.declared.store.Store.{Store}
-use Rattle.bulletin.specs.Stores.{openOf, at}
+use Rattle.bulletin.specs.Stores.{openOf, pageBehind}
 use Rattle.bulletin.specs.Takings.{takeOf}
 
 -- a frame is what its record says: "sixteen slots (hour, strength or intensity, place) and 18 text bytes"
@@ -25,12 +25,12 @@ takes s [] = s
 takes s (f ∷ fs) = takes (takeOf s (f .came) .store) fs
 
 -- "A store is opened for one bulletin", and takes these frames
-abbrev pub after : Name → List Frame → Store
-after n frames = takes (openOf n .store) frames
+abbrev pub storeAfter : Name → List Frame → Store
+storeAfter n frames = takes (openOf n .store) frames
 
 -- page p of a store
-abbrev pub page : Store → ℕ → Page
-page s p = at s (p - 1)
+abbrev pub pageNumbered : Store → ℕ → Page
+pageNumbered s p = pageBehind s (p - 1)
 
 -- the record is one of the frames
 abbrev pub Among : Record → List Frame → Type 0

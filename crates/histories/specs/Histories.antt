@@ -7,7 +7,7 @@ use Rattle.bulletin.specs.Stores.{openOf}
 use Rattle.bulletin.specs.Takings.{takeOf}
 use Rattle.bulletin.specs.Merges.{mergeOf}
 use Rattle.histories.specs.Soundness.{Sound}
-use Rattle.histories.specs.Frames.{Frame, after}
+use Rattle.histories.specs.Frames.{Frame, storeAfter}
 
 -- the store was opened; it took a frame, or refused it; it was merged with a store that has a history of its own, with a store
 -- from elsewhere that some list of frames gives, or with a store that is not sound or of another bulletin, which is refused
@@ -15,16 +15,16 @@ pub data History (n : Name) : Type 0 where
   opened : History n
   took : History n → Frame → History n
   merged : History n → History n → History n
-  met : History n → (s : Store) (frames : List Frame) → s ≡ after n frames → History n
+  met : History n → (s : Store) (frames : List Frame) → s ≡ storeAfter n frames → History n
   refused : History n → (s : Store) → (Sound s → s .name ≡ n → ⊥) → History n
 
 -- the store that it has come to
-abbrev pub storeOf : {n : Name} → History n → Store
-storeOf {n} opened = openOf n .store
-storeOf (took h f) = takeOf (storeOf h) (f .came) .store
-storeOf (merged h k) = mergeOf (storeOf h) (storeOf k) .store
-storeOf (met h s frames e) = mergeOf (storeOf h) s .store
-storeOf (refused h s no-sound-store) = mergeOf (storeOf h) s .store
+abbrev pub historyStore : {n : Name} → History n → Store
+historyStore {n} opened = openOf n .store
+historyStore (took h f) = takeOf (historyStore h) (f .came) .store
+historyStore (merged h k) = mergeOf (historyStore h) (historyStore k) .store
+historyStore (met h s frames e) = mergeOf (historyStore h) s .store
+historyStore (refused h s no-sound-store) = mergeOf (historyStore h) s .store
 
 -- the frames that came: "a merged store counts as having taken the frames of both", and "a sound store from elsewhere counts
 -- as having taken such a list"

@@ -4,16 +4,16 @@ use mathlib.Core.List.{List, _++_}
 use Rattle.pages.specs.declared.name.Name.{Name}
 use Rattle.bulletin.specs.declared.store.Store.{Store}
 use Rattle.bulletin.specs.Merges.{mergeOf}
-use Rattle.histories.specs.Frames.{Frame, after}
+use Rattle.histories.specs.Frames.{Frame, storeAfter}
 
 -- one receiver's frames, or two stores merged
 pub data Tree : Type 0 where
   receiver : List Frame → Tree
   merge : Tree → Tree → Tree
 
-abbrev pub merged : Name → Tree → Store
-merged n (receiver frames) = after n frames
-merged n (merge a b) = mergeOf (merged n a) (merged n b) .store
+abbrev pub treeStore : Name → Tree → Store
+treeStore n (receiver frames) = storeAfter n frames
+treeStore n (merge a b) = mergeOf (treeStore n a) (treeStore n b) .store
 
 -- all frames, one receiver's behind the other's
 abbrev pub allFrames : Tree → List Frame

@@ -10,7 +10,7 @@ use Rattle.rows.specs.declared.refusal.Refusal.the-variants.{Short}
 use Rattle.pages.specs.declared.name.Name.{Name}
 use Rattle.bulletin.specs.declared.store.Store.{Store}
 use Rattle.bulletin.specs.declared.count.Count.{Count}
-use Rattle.bulletin.specs.Text.{tellOf, textOf}
+use Rattle.bulletin.specs.Text.{textAnswer, textBuffer}
 use Rattle.histories.specs.Frames.{Frame, Absent, Held, Disputed}
 
 -- ---- "how many pages are held, how many are disputed, and the lowest page that is not held (0 if none)"
@@ -56,15 +56,15 @@ pub record Trimmed (whole text : List ℕ) : Type 0 where
 
 -- a store tells the text: "Text leaves the bytes after its length untouched", and 16 where the buffer is too short
 pub record Tells (s : Store) (text : List ℕ) : Type 0 where
-  pub answer : (out : List ℕ) → length text ≤ length out → tellOf s (length out) ≡ record { answer = Fine; length = length text }
-  pub written : (out : List ℕ) → length text ≤ length out → textOf s out ≡ text ++ drop (length text) out
-  pub short : (out : List ℕ) → length out < length text → tellOf s (length out) ≡ record { answer = Refused Short; length = 0 }
-  pub untouched : (out : List ℕ) → length out < length text → textOf s out ≡ out
+  pub answer : (out : List ℕ) → length text ≤ length out → textAnswer s (length out) ≡ record { answer = Fine; length = length text }
+  pub written : (out : List ℕ) → length text ≤ length out → textBuffer s out ≡ text ++ drop (length text) out
+  pub short : (out : List ℕ) → length out < length text → textAnswer s (length out) ≡ record { answer = Refused Short; length = 0 }
+  pub untouched : (out : List ℕ) → length out < length text → textBuffer s out ≡ out
 
 -- a store tells nothing, for this reason
 pub record TellsNothing (s : Store) (x : Refusal) : Type 0 where
-  pub answer : (size : ℕ) → tellOf s size ≡ record { answer = Refused x; length = 0 }
-  pub untouched : (out : List ℕ) → textOf s out ≡ out
+  pub answer : (size : ℕ) → textAnswer s size ≡ record { answer = Refused x; length = 0 }
+  pub untouched : (out : List ℕ) → textBuffer s out ≡ out
 
 -- "15: a page is not held; with the lowest such page and whether it is absent or disputed": mark 1 is absent, 2 disputed
 pub record NotHeldBecause (n : Name) (frames : List Frame) (k mark : ℕ) : Type 0 where

@@ -6,8 +6,8 @@ use Prim.Native.Nat.{ℕ, _≤_, _<_}
 use lib.ListN.{length}
 use Rattle.pages.specs.declared.name.Name.{Name}
 use Rattle.bulletin.specs.declared.store.Store.{Store}
-use Rattle.pages.specs.Pages.{zeros}
-use Rattle.bulletin.specs.Stores.{at}
+use Rattle.pages.specs.Pages.{noText}
+use Rattle.bulletin.specs.Stores.{pageBehind}
 
 -- each value in its range, as "The frame on the wire" and "Category 4" have them; "the total is 1-63"
 pub record InRange (n : Name) : Type 0 where
@@ -27,6 +27,6 @@ OneOfThree mark = (mark ≡ 0) ⊎ ((mark ≡ 1) ⊎ (mark ≡ 2))
 -- of each page of a store, the one behind i others
 pub record Sound (s : Store) : Type 0 where
   pub name : InRange (s .name)
-  pub state : (i : ℕ) → i < length (s .pages) → OneOfThree (at s i .mark)
-  pub empty : (i : ℕ) → i < length (s .pages) → (at s i .mark ≡ 0) ⊎ (at s i .mark ≡ 2) → at s i .text ≡ zeros
-  pub past : (i : ℕ) → i < length (s .pages) → s .name .total ≤ i → at s i .mark ≡ 0
+  pub state : (i : ℕ) → i < length (s .pages) → OneOfThree (pageBehind s i .mark)
+  pub empty : (i : ℕ) → i < length (s .pages) → (pageBehind s i .mark ≡ 0) ⊎ (pageBehind s i .mark ≡ 2) → pageBehind s i .text ≡ noText
+  pub past : (i : ℕ) → i < length (s .pages) → s .name .total ≤ i → pageBehind s i .mark ≡ 0

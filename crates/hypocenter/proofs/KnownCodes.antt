@@ -1,4 +1,4 @@
--- A depth or a magnitude is let through exactly where it says something. Assumes nothing.
+-- A depth or a magnitude is let through exactly where it says something.
 use mathlib.Core.Path.{_≡_, refl, sym, _∙_}
 use mathlib.Core.Bool.{Bool, true, false, _&&_}
 use mathlib.Core.Logic.{inl, inr, ⊎-elim}

@@ -1,4 +1,4 @@
--- The walk over the fields, cut into the pieces that the code asks. Assumes nothing.
+-- The walk over the fields, cut into the pieces that the code asks.
 use mathlib.Core.Path.{_≡_}
 use mathlib.Core.Bool.{_&&_}
 use mathlib.Core.List.{[], _∷_}

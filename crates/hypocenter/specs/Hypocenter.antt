@@ -3,7 +3,7 @@ use Prim.Native.Nat.{ℕ, _+_}
 use mathlib.Core.Bool.{_&&_, cond}
 use mathlib.Core.List.{List, [], _∷_, _++_}
 use lib.Dec.{eqb, leb}
-use Rattle.rows.specs.declared.slot.SlotKind.the-variants.{Nothing as NoSlots}
+use Rattle.rows.specs.declared.slot.SlotKind.the-variants.{NoSlots}
 use Rattle.bits.specs.Frame.{fieldOf}
 use Rattle.hypocenter.specs.declared.angle.Angle.{Angle}
 use Rattle.hypocenter.specs.declared.Quake.{Quake}

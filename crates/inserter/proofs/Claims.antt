@@ -1,4 +1,4 @@
--- What this crate claims of its definitions: a refused call leaves a store's bytes as they were. Assumes nothing.
+-- What this crate claims of its definitions: a refused call leaves a store's bytes as they were.
 use mathlib.Core.Path.{_≡_, ap, _∙_}
 use mathlib.Core.List.{List}
 use Prim.Native.Nat.{ℕ}

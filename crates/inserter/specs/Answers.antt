@@ -23,8 +23,8 @@ use Rattle.bulletin.specs.declared.text.Telling.{Telling}
 use Rattle.bulletin.specs.Stores.{openOf}
 use Rattle.bulletin.specs.Takings.{takeOf}
 use Rattle.bulletin.specs.Merges.{mergeOf}
-use Rattle.bulletin.specs.Counts.{reportOf}
-use Rattle.bulletin.specs.Text.{tellOf, textOf}
+use Rattle.bulletin.specs.Counts.{countOf}
+use Rattle.bulletin.specs.Text.{textAnswer, textBuffer}
 use Rattle.record_bytes.specs.Packed.{packed}
 use Rattle.record_bytes.specs.Unpacked.{unpacked}
 use Rattle.store_bytes.specs.Stores.{storeBytes, nameFrom, storeFrom}
@@ -34,88 +34,88 @@ unfoldable pub parityAnswer : List ℕ → ℕ
 parityAnswer s = cond (eqb (length s) 32) (parityOf s) (1 * 2 ^ 24)
 
 -- an answer as one word: the number of the refusal in the high byte, 0 where there is none, then place, page and mark
-abbrev pub word : Said → ℕ
-word a = a .number * 2 ^ 24 + a .place * 2 ^ 16 + a .page * 2 ^ 8 + a .mark
+abbrev pub answerWord : Said → ℕ
+answerWord a = a .number * 2 ^ 24 + a .place * 2 ^ 16 + a .page * 2 ^ 8 + a .mark
 
 -- what is left of a call: its answer, and the lent buffer
-pub record Left : Type 0 where
+pub record CallResult : Type 0 where
   pub answer : ℕ
   pub buffer : List ℕ
 
-abbrev pub left : ℕ → List ℕ → Left
-left a b = record { answer = a; buffer = b }
+abbrev pub callResult : ℕ → List ℕ → CallResult
+callResult a b = record { answer = a; buffer = b }
 
 -- a call whose buffers do not have the lengths that it takes is 255, and touches nothing
-abbrev pub called : Bool → Left → List ℕ → Left
-called right l buffer = cond right l (left (word (plain 255)) buffer)
+abbrev pub ifLengthsFit : Bool → CallResult → List ℕ → CallResult
+ifLengthsFit right l buffer = cond right l (callResult (answerWord (plain 255)) buffer)
 
 -- ---- reading
 
 -- a record that was read goes into the buffer; a refusal leaves the buffer as it was
-abbrev pub handedOver : Verdict → Record → List ℕ → Left
-handedOver Fine r buffer = left (word (answers Fine)) (packed r)
-handedOver (Refused x) r buffer = left (word (answers (Refused x))) buffer
+abbrev pub readingByAnswer : Verdict → Record → List ℕ → CallResult
+readingByAnswer Fine r buffer = callResult (answerWord (answers Fine)) (packed r)
+readingByAnswer (Refused x) r buffer = callResult (answerWord (answers (Refused x))) buffer
 
-unfoldable pub handed : Reading → List ℕ → Left
-handed r buffer = called (eqb (length buffer) 145) (handedOver (r .answer) (r .«record») buffer) buffer
+unfoldable pub readingInto : Reading → List ℕ → CallResult
+readingInto r buffer = ifLengthsFit (eqb (length buffer) 145) (readingByAnswer (r .answer) (r .«record») buffer) buffer
 
-abbrev pub readInto : List ℕ → List ℕ → Left
-readInto frame buffer = handed (readOf frame) buffer
+abbrev pub readInto : List ℕ → List ℕ → CallResult
+readInto frame buffer = readingInto (readOf frame) buffer
 
-abbrev pub readLineInto : List ℕ → List ℕ → Left
-readLineInto line buffer = handed (lineReading line) buffer
+abbrev pub readLineInto : List ℕ → List ℕ → CallResult
+readLineInto line buffer = readingInto (lineReading line) buffer
 
 -- ---- writing: a refusal leaves the buffer as it was
 
-unfoldable pub writeFrom : List ℕ → List ℕ → Left
-writeFrom bytes buffer =
+unfoldable pub writeInto : List ℕ → List ℕ → CallResult
+writeInto bytes buffer =
     let r = unpacked bytes in
-    called (eqb (length bytes) 145) (left (word (answers (writeAnswer r (length buffer)))) (writeOf r buffer)) buffer
+    ifLengthsFit (eqb (length bytes) 145) (callResult (answerWord (answers (writeAnswer r (length buffer)))) (writeOf r buffer)) buffer
 
-abbrev pub writeLineInto : List ℕ → List ℕ → Left
-writeLineInto frame buffer = left (word (answers (lineAnswer frame (length buffer)))) (lineInto frame buffer)
+abbrev pub writeLineInto : List ℕ → List ℕ → CallResult
+writeLineInto frame buffer = callResult (answerWord (answers (lineAnswer frame (length buffer)))) (lineInto frame buffer)
 
 -- ---- the page store: a refusal leaves it as it was, but for opening, which then leaves zeros
 
-abbrev pub opened : Opening → Left
-opened o = left (word (answers (o .answer))) (storeBytes (o .store))
+abbrev pub openResult : Opening → CallResult
+openResult o = callResult (answerWord (answers (o .answer))) (storeBytes (o .store))
 
-unfoldable pub openInto : List ℕ → List ℕ → Left
-openInto name buffer = called (eqb (length name) 8 && eqb (length buffer) 1205) (opened (openOf (nameFrom name))) buffer
+unfoldable pub openInto : List ℕ → List ℕ → CallResult
+openInto name buffer = ifLengthsFit (eqb (length name) 8 && eqb (length buffer) 1205) (openResult (openOf (nameFrom name))) buffer
 
 -- "new where it was absent, same where it was held with those 18 bytes, and disputed otherwise"
 abbrev pub takenWord : Taken → ℕ
 takenWord New = 1
 takenWord Same = 2
 takenWord Disputed = 3
-takenWord (NotTaken x) = word (says x)
+takenWord (NotTaken x) = answerWord (says x)
 
-abbrev pub taken : Taking → Left
-taken t = left (takenWord (t .answer)) (storeBytes (t .store))
+abbrev pub takeResult : Taking → CallResult
+takeResult t = callResult (takenWord (t .answer)) (storeBytes (t .store))
 
-unfoldable pub takeInto : List ℕ → List ℕ → Left
-takeInto buffer bytes = called (eqb (length buffer) 1205 && eqb (length bytes) 145) (taken (takeOf (storeFrom buffer) (unpacked bytes))) buffer
+unfoldable pub takeInto : List ℕ → List ℕ → CallResult
+takeInto buffer bytes = ifLengthsFit (eqb (length buffer) 1205 && eqb (length bytes) 145) (takeResult (takeOf (storeFrom buffer) (unpacked bytes))) buffer
 
-abbrev pub merged : Merging → Left
-merged m = left (word (answers (m .answer))) (storeBytes (m .store))
+abbrev pub mergeResult : Merging → CallResult
+mergeResult m = callResult (answerWord (answers (m .answer))) (storeBytes (m .store))
 
-unfoldable pub mergeInto : List ℕ → List ℕ → Left
-mergeInto buffer other = called (eqb (length buffer) 1205 && eqb (length other) 1205) (merged (mergeOf (storeFrom buffer) (storeFrom other))) buffer
+unfoldable pub mergeInto : List ℕ → List ℕ → CallResult
+mergeInto buffer other = ifLengthsFit (eqb (length buffer) 1205 && eqb (length other) 1205) (mergeResult (mergeOf (storeFrom buffer) (storeFrom other))) buffer
 
 -- held, disputed, lowest
-abbrev pub counted : Count → Left
-counted c = left (word (answers (c .answer))) (c .held ∷ c .disputed ∷ c .lowest ∷ [])
+abbrev pub countResult : Count → CallResult
+countResult c = callResult (answerWord (answers (c .answer))) (c .held ∷ c .disputed ∷ c .lowest ∷ [])
 
-unfoldable pub reportInto : List ℕ → List ℕ → Left
-reportInto store buffer = called (eqb (length store) 1205 && eqb (length buffer) 3) (counted (reportOf (storeFrom store))) buffer
+unfoldable pub countInto : List ℕ → List ℕ → CallResult
+countInto store buffer = ifLengthsFit (eqb (length store) 1205 && eqb (length buffer) 3) (countResult (countOf (storeFrom store))) buffer
 
 -- the length of the text, or the refusal
-abbrev pub lengthOr : Verdict → ℕ → ℕ
-lengthOr Fine n = n
-lengthOr (Refused x) n = word (says x)
+abbrev pub lengthOrRefusal : Verdict → ℕ → ℕ
+lengthOrRefusal Fine n = n
+lengthOrRefusal (Refused x) n = answerWord (says x)
 
-abbrev pub told : Telling → List ℕ → Left
-told t buffer = left (lengthOr (t .answer) (t .length)) buffer
+abbrev pub textResult : Telling → List ℕ → CallResult
+textResult t buffer = callResult (lengthOrRefusal (t .answer) (t .length)) buffer
 
-unfoldable pub textInto : List ℕ → List ℕ → Left
-textInto store buffer = called (eqb (length store) 1205) (told (tellOf (storeFrom store) (length buffer)) (textOf (storeFrom store) buffer)) buffer
+unfoldable pub textInto : List ℕ → List ℕ → CallResult
+textInto store buffer = ifLengthsFit (eqb (length store) 1205) (textResult (textAnswer (storeFrom store) (length buffer)) (textBuffer (storeFrom store) buffer)) buffer

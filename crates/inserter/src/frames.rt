@@ -1,6 +1,6 @@
 // The parity of a frame, reading a frame, writing a record.
 ghost use mathlib.Core.Path.{_≡_};
-ghost use Rattle.inserter.specs.Answers.{parityAnswer, left, handed, readInto, writeFrom};
+ghost use Rattle.inserter.specs.Answers.{parityAnswer, callResult, readingInto, readInto, writeInto};
 use crate::words::refusal_word;
 use crate::words::verdict_word;
 use crate::words::wrong_call;
@@ -24,7 +24,7 @@ pub extern "C" fn lz_parity(frame: &[u8]) -> u32
 
 // A record that was read goes into a lent buffer of 145 bytes; a refusal leaves the buffer as it was.
 pub(crate) fn hand_over(reading: Reading, record_bytes: &mut [u8]) -> u32
-    ensures { λ r. ⌜ left r (now (record_bytes .exit)) ≡ handed reading (now (record_bytes .entry)) ⌝ }
+    ensures { λ r. ⌜ callResult r (now (record_bytes .exit)) ≡ readingInto reading (now (record_bytes .entry)) ⌝ }
 {
     if record_bytes.len() != RECORD_SIZE {
         return wrong_call();
@@ -45,7 +45,7 @@ pub(crate) fn hand_over(reading: Reading, record_bytes: &mut [u8]) -> u32
 // it stays as it was. A buffer that is not 145 bytes long is 255, whatever the frame is.
 #[no_mangle]
 pub extern "C" fn lz_read(frame: &[u8], record_bytes: &mut [u8]) -> u32
-    ensures { λ r. ⌜ left r (now (record_bytes .exit)) ≡ readInto (now (frame .entry)) (now (record_bytes .entry)) ⌝ }
+    ensures { λ r. ⌜ callResult r (now (record_bytes .exit)) ≡ readInto (now (frame .entry)) (now (record_bytes .entry)) ⌝ }
 {
     hand_over(report::read::read(frame), record_bytes)
 }
@@ -55,7 +55,7 @@ pub extern "C" fn lz_read(frame: &[u8], record_bytes: &mut [u8]) -> u32
 // the frame is.
 #[no_mangle]
 pub extern "C" fn lz_write(record_bytes: &[u8], frame: &mut [u8]) -> u32
-    ensures { λ r. ⌜ left r (now (frame .exit)) ≡ writeFrom (now (record_bytes .entry)) (now (frame .entry)) ⌝ }
+    ensures { λ r. ⌜ callResult r (now (frame .exit)) ≡ writeInto (now (record_bytes .entry)) (now (frame .entry)) ⌝ }
 {
     if record_bytes.len() != RECORD_SIZE {
         return wrong_call();

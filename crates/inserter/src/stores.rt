@@ -1,7 +1,7 @@
 // The page store of a bulletin in 1205 lent bytes. Any such bytes are a store; one that is not sound is
 // refused with 14 in 14's turn, and stays as it was.
 ghost use mathlib.Core.Path.{_≡_};
-ghost use Rattle.inserter.specs.Answers.{left, openInto, takeInto, mergeInto, reportInto, textInto};
+ghost use Rattle.inserter.specs.Answers.{callResult, openInto, takeInto, mergeInto, countInto, textInto};
 use crate::words::refusal_word;
 use crate::words::taken_word;
 use crate::words::verdict_word;
@@ -19,7 +19,7 @@ const COUNTS_SIZE: usize = 3;
 // 8 with its place where a value is out of range, and then the store is zeros.
 #[no_mangle]
 pub extern "C" fn lz_open(name: &[u8], store: &mut [u8]) -> u32
-    ensures { λ r. ⌜ left r (now (store .exit)) ≡ openInto (now (name .entry)) (now (store .entry)) ⌝ }
+    ensures { λ r. ⌜ callResult r (now (store .exit)) ≡ openInto (now (name .entry)) (now (store .entry)) ⌝ }
 {
     if name.len() != NAME_SIZE {
         return wrong_call();
@@ -38,7 +38,7 @@ pub extern "C" fn lz_open(name: &[u8], store: &mut [u8]) -> u32
 // is disputed. A refusal leaves the store as it was.
 #[no_mangle]
 pub extern "C" fn lz_take(store: &mut [u8], record_bytes: &[u8]) -> u32
-    ensures { λ r. ⌜ left r (now (store .exit)) ≡ takeInto (now (store .entry)) (now (record_bytes .entry)) ⌝ }
+    ensures { λ r. ⌜ callResult r (now (store .exit)) ≡ takeInto (now (store .entry)) (now (record_bytes .entry)) ⌝ }
 {
     if store.len() != STORE_SIZE {
         return wrong_call();
@@ -57,7 +57,7 @@ pub extern "C" fn lz_take(store: &mut [u8], record_bytes: &[u8]) -> u32
 // Merges another store of the same bulletin into a store. A refusal leaves the store as it was.
 #[no_mangle]
 pub extern "C" fn lz_merge(store: &mut [u8], other: &[u8]) -> u32
-    ensures { λ r. ⌜ left r (now (store .exit)) ≡ mergeInto (now (store .entry)) (now (other .entry)) ⌝ }
+    ensures { λ r. ⌜ callResult r (now (store .exit)) ≡ mergeInto (now (store .entry)) (now (other .entry)) ⌝ }
 {
     if store.len() != STORE_SIZE {
         return wrong_call();
@@ -76,8 +76,8 @@ pub extern "C" fn lz_merge(store: &mut [u8], other: &[u8]) -> u32
 // Puts into three bytes how many pages are held, how many are disputed, and the lowest that is not
 // held, 0 where all are. A refusal leaves three zeros.
 #[no_mangle]
-pub extern "C" fn lz_report(store: &[u8], counts: &mut [u8]) -> u32
-    ensures { λ r. ⌜ left r (now (counts .exit)) ≡ reportInto (now (store .entry)) (now (counts .entry)) ⌝ }
+pub extern "C" fn lz_count(store: &[u8], counts: &mut [u8]) -> u32
+    ensures { λ r. ⌜ callResult r (now (counts .exit)) ≡ countInto (now (store .entry)) (now (counts .entry)) ⌝ }
 {
     if store.len() != STORE_SIZE {
         return wrong_call();
@@ -85,7 +85,7 @@ pub extern "C" fn lz_report(store: &[u8], counts: &mut [u8]) -> u32
     if counts.len() != COUNTS_SIZE {
         return wrong_call();
     }
-    let count = store_bytes::unpack_store(store).report();
+    let count = store_bytes::unpack_store(store).count();
     let answer = count.answer;
     counts[0] = count.held;
     counts[1] = count.disputed;
@@ -98,7 +98,7 @@ pub extern "C" fn lz_report(store: &[u8], counts: &mut [u8]) -> u32
 // them do.
 #[no_mangle]
 pub extern "C" fn lz_text(store: &[u8], text: &mut [u8]) -> u32
-    ensures { λ r. ⌜ left r (now (text .exit)) ≡ textInto (now (store .entry)) (now (text .entry)) ⌝ }
+    ensures { λ r. ⌜ callResult r (now (text .exit)) ≡ textInto (now (store .entry)) (now (text .entry)) ⌝ }
 {
     if store.len() != STORE_SIZE {
         return wrong_call();

@@ -2,7 +2,7 @@
 ghost use mathlib.Core.Path.{_≡_};
 ghost use Prim.Native.Nat.{_+_, _*_, _^_};
 ghost use Rattle.rows.specs.Refusals.{says, answers, plain};
-ghost use Rattle.inserter.specs.Answers.{word, takenWord};
+ghost use Rattle.inserter.specs.Answers.{answerWord, takenWord};
 use bulletin::take::Taken;
 use rows::refusal::Refusal;
 use rows::refusal::Verdict;
@@ -14,7 +14,7 @@ fn word(number: u8, place: u8, page: u8, mark: u8) -> u32
 }
 
 pub(crate) fn refusal_word(refusal: Refusal) -> u32
-    ensures { λ r. ⌜ r ≡ word (says refusal) ⌝ }
+    ensures { λ r. ⌜ r ≡ answerWord (says refusal) ⌝ }
 {
     match refusal {
         Refusal::Length => word(1, 0, 0, 0),
@@ -38,7 +38,7 @@ pub(crate) fn refusal_word(refusal: Refusal) -> u32
 }
 
 pub(crate) fn verdict_word(verdict: Verdict) -> u32
-    ensures { λ r. ⌜ r ≡ word (answers verdict) ⌝ }
+    ensures { λ r. ⌜ r ≡ answerWord (answers verdict) ⌝ }
 {
     match verdict {
         Verdict::Fine => 0,
@@ -59,7 +59,7 @@ pub(crate) fn taken_word(taken: Taken) -> u32
 
 // The answer to a call with a buffer of a length that it does not take.
 pub(crate) fn wrong_call() -> u32
-    ensures { λ r. ⌜ r ≡ word (plain 255) ⌝ }
+    ensures { λ r. ⌜ r ≡ answerWord (plain 255) ⌝ }
 {
     word(255, 0, 0, 0)
 }

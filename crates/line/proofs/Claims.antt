@@ -1,4 +1,4 @@
--- What this crate claims of its definitions. Each is proved in the file that its last line names. Assumes nothing.
+-- What this crate claims of its definitions. Each is proved in the file that its last line names.
 use mathlib.Core.Path.{_≡_}
 use mathlib.Core.Bool.{true, false}
 use mathlib.Core.List.{List}

@@ -1,4 +1,4 @@
--- Which bits a digit has. Assumes nothing.
+-- Which bits a digit has.
 use mathlib.Core.Path.{_≡_, refl, sym, ap, _∙_}
 use mathlib.Core.Bool.{Bool, true, false, cond}
 use mathlib.Core.List.{List}

@@ -1,4 +1,4 @@
--- The loop over a line's digits: one digit, one turn, and the ways out. Assumes nothing.
+-- The loop over a line's digits: one digit, one turn, and the ways out.
 use mathlib.Core.Path.{_≡_, sym, ap, _∙_}
 use mathlib.Core.Bool.{true, false}
 use mathlib.Core.List.{List}

@@ -1,5 +1,4 @@
 -- What a byte of a line is worth, and the table of the code. What holds of every byte is one computed test.
--- Assumes nothing.
 use mathlib.Core.Path.{_≡_, refl, sym, ap, _∙_}
 use mathlib.Core.Bool.{Bool, true, false, cond}
 use mathlib.Core.Logic.{⊎-elim}

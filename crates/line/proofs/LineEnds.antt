@@ -1,4 +1,4 @@
--- The ways out of reading a line and of writing one. Assumes nothing.
+-- The ways out of reading a line and of writing one.
 use mathlib.Core.Path.{_≡_, refl, sym, ap, _∙_}
 use mathlib.Core.Bool.{Bool, true, false, cond}
 use mathlib.Core.List.{List, _++_}

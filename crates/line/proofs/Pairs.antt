@@ -1,4 +1,4 @@
--- Two digits a byte. Assumes nothing.
+-- Two digits a byte.
 use mathlib.Core.Path.{_≡_, refl, ap, _∙_}
 use mathlib.Core.Bool.{Bool, true, false, cond}
 use Prim.Native.Nat.{ℕ, zero, suc, _+_, _*_, _/_, _%_, _<_}

@@ -1,4 +1,4 @@
--- What lines are read as. Assumes nothing.
+-- What lines are read as.
 use mathlib.Core.Path.{_≡_, refl, sym, ap, _∙_}
 use mathlib.Core.Bool.{Bool, true, false}
 use mathlib.Core.List.{List}

@@ -1,4 +1,4 @@
--- From a frame to its line and back, and from a line to its frame and back. Assumes nothing.
+-- From a frame to its line and back, and from a line to its frame and back.
 use mathlib.Core.Path.{_≡_, refl, sym, ap, ap₂, _∙_}
 use mathlib.Core.Bool.{true, _&&_}
 use mathlib.Core.List.{List, [], _∷_, map}

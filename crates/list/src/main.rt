@@ -25,11 +25,11 @@ fn text() -> [u8; TEXT]
     [0u8; TEXT]
 }
 
-// What comes behind a chunk: another, the end of the input, or nothing, where the listing breaks off.
+// What comes behind a chunk: another, the end of the input, or a fault, where the listing breaks off.
 enum Next {
     Chunk,
     End,
-    Nothing,
+    Fault,
 }
 
 struct Turn {
@@ -55,7 +55,7 @@ fn end_or_fault(got: isize) -> Next {
         return Next::End;
     }
     os::fail(b"standard input");
-    Next::Nothing
+    Next::Fault
 }
 
 // Reads once and writes the rows of the lines that ended.
@@ -79,7 +79,7 @@ fn pass(from: Progress, chunk: &mut [u8], text: &mut [u8]) -> Turn {
     }
     Turn {
         progress: progress,
-        next: Next::Nothing,
+        next: Next::Fault,
     }
 }
 
@@ -104,7 +104,7 @@ fn all(chunk: &mut [u8], text: &mut [u8]) {
                 end(progress, text);
                 return;
             }
-            Next::Nothing => {
+            Next::Fault => {
                 return;
             }
         }

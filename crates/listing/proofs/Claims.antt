@@ -1,4 +1,4 @@
--- What is claimed of the listing (document 01, "The listing"). Assumes nothing.
+-- What is claimed of the listing (document 01, "The listing").
 use mathlib.Core.Path.{_≡_, refl, sym, ap, _∙_}
 use mathlib.Core.Bool.{false, cond}
 use mathlib.Core.List.{List, [], _∷_, _++_, append-assoc, append-nil}
@@ -12,11 +12,11 @@ use lib.Seq.{take-all, take-append-seam}
 use Rattle.report.specs.declared.read.Reading.{Reading}
 use Rattle.rows.specs.Runs.Verdict.{allowed}
 use Rattle.line.specs.Lines.{digits, lineReading}
-use Rattle.listing.specs.declared.row.Entry.the-variants.{Nothing}
+use Rattle.listing.specs.declared.row.Entry.the-variants.{Dash}
 use Rattle.listing.specs.declared.progress.Progress.{Progress}
-use Rattle.listing.specs.Rows.{Filled, rowOf, refusedRow, rowText, headingText, cutText, longest, laid}
+use Rattle.listing.specs.Rows.{Filled, rowOf, refusedRow, rowText, headingText, cutText, longest, filledBy}
 use Rattle.listing.specs.Listing.{onto, linesOf, lineRow, limit, rowsFrom, listing}
-use Rattle.listing.specs.Scanning.{Reach, say, reach, lastRow, progressOf, begunIn, taken, Left, leftBy, scanned, finished}
+use Rattle.listing.specs.Scanning.{Reach, say, reach, lastRow, progressOf, begunIn, bytesTaken, AfterScan, afterReach, scanned, finished}
 use Rattle.listing.proofs.Texts.KeptBytes.{begun-back}
 use Rattle.listing.proofs.Lines.WrongLines.{noLine, wrong-length, wrong-byte}
 use Rattle.listing.proofs.Chunks.Divisions.{chunks-join, stays-short}
@@ -38,7 +38,7 @@ inputOf (c ∷ cs) = c .chunk ++ inputOf cs
 abbrev pub textOf : Filled → List ℕ
 textOf f = take (f .written) (f .buffer)
 
-abbrev pub textLeft : Left → List ℕ
+abbrev pub textLeft : AfterScan → List ℕ
 textLeft l = take (l .step .written) (l .buffer)
 
 -- what a program writes that calls `scan` for one chunk after another, and then `finish`
@@ -46,20 +46,20 @@ unfoldable pub written : Progress → List Call → List ℕ → List ℕ
 written p [] out = textOf (finished p out)
 written p (c ∷ cs) out = let l = scanned p (c .chunk) (c .out) in textLeft l ++ written (l .step .progress) cs out
 
-laid-text : (t out : List ℕ) → longest ≤ length out → textOf (laid t out) ≡ t
-unfolding laid
+laid-text : (t out : List ℕ) → longest ≤ length out → textOf (filledBy t out) ≡ t
+unfolding filledBy
 laid-text t out h = simp (le-ltb (length out) longest h) (take-append-seam t _)
 
-all-taken : (c : Call) → taken (c .chunk) (c .out) ≡ length (c .chunk)
-unfolding taken
+all-taken : (c : Call) → bytesTaken (c .chunk) (c .out) ≡ length (c .chunk)
+unfolding bytesTaken
 all-taken c = min-eq-left (omega (arith, c .roomy))
 
-scanned-whole : (n : ℕ) (begun : List ℕ) (c : Call) → length begun ≤ 64 → scanned (progressOf n begun) (c .chunk) (c .out) ≡ leftBy (reach n begun (c .chunk)) (length (c .chunk)) (c .out)
+scanned-whole : (n : ℕ) (begun : List ℕ) (c : Call) → length begun ≤ 64 → scanned (progressOf n begun) (c .chunk) (c .out) ≡ afterReach (reach n begun (c .chunk)) (length (c .chunk)) (c .out)
 unfolding scanned progressOf
 scanned-whole n begun c h =
-    ap (λ (k : ℕ). leftBy (reach n (begunIn (progressOf n begun)) (take k (c .chunk))) k (c .out)) (all-taken c)
-    ∙ ap (λ (l : List ℕ). leftBy (reach n (begunIn (progressOf n begun)) l) (length (c .chunk)) (c .out)) (take-all (length (c .chunk)) (c .chunk) (omega arith))
-    ∙ ap (λ (b : List ℕ). leftBy (reach n b (c .chunk)) (length (c .chunk)) (c .out)) (begun-back n begun h)
+    ap (λ (k : ℕ). afterReach (reach n (begunIn (progressOf n begun)) (take k (c .chunk))) k (c .out)) (all-taken c)
+    ∙ ap (λ (l : List ℕ). afterReach (reach n (begunIn (progressOf n begun)) l) (length (c .chunk)) (c .out)) (take-all (length (c .chunk)) (c .chunk) (omega arith))
+    ∙ ap (λ (b : List ℕ). afterReach (reach n b (c .chunk)) (length (c .chunk)) (c .out)) (begun-back n begun h)
 
 finished-text : (out : List ℕ) (n : ℕ) (begun : List ℕ) → longest ≤ length out → length begun ≤ 64 → textOf (finished (progressOf n begun) out) ≡ lastRow n begun
 unfolding finished progressOf
@@ -70,14 +70,14 @@ unfolding written inputOf reach say
 from-progress [] out n begun r h = finished-text out n begun r h
 from-progress (c ∷ cs) out n begun r h =
     let w : Reach = reach n begun (c .chunk) in
-    ap (λ (l : Left). textLeft l ++ written (l .step .progress) cs out) (scanned-whole n begun c h)
+    ap (λ (l : AfterScan). textLeft l ++ written (l .step .progress) cs out) (scanned-whole n begun c h)
     ∙ ap (λ (t : List ℕ). t ++ written (progressOf (w .lines) (w .begun)) cs out) (take-append-seam (w .text) _)
     ∙ ap (λ (t : List ℕ). w .text ++ t) (from-progress cs out (w .lines) (w .begun) r (stays-short (c .chunk) begun n h))
     ∙ sym (append-assoc (w .text) (reach (w .lines) (w .begun) (inputOf cs) .text) _)
     ∙ sym (ap said (chunks-join (c .chunk) (inputOf cs) begun n))
 
 pub any-division-gives-the-listing : (head out : List ℕ) (cs : List Call) → longest ≤ length head → longest ≤ length out
-    → textOf (laid headingText head) ++ written (progressOf 0 []) cs out ≡ listing (inputOf cs)
+    → textOf (filledBy headingText head) ++ written (progressOf 0 []) cs out ≡ listing (inputOf cs)
 unfolding listing
 any-division-gives-the-listing head out cs h r =
     ap (λ (t : List ℕ). t ++ written (progressOf 0 []) cs out) (laid-text headingText head h)
@@ -114,7 +114,7 @@ more-lines-are-cut ls h = cut-behind limit 0 ls (omega arith) h
 -- ---- 17
 
 abbrev pub row17 : ℕ → List ℕ
-row17 n = rowText n (refusedRow 17 Nothing)
+row17 n = rowText n (refusedRow 17 Dash)
 
 says-17 : (n : ℕ) (l : List ℕ) → lineReading l ≡ noLine → lineRow n l ≡ row17 n
 unfolding lineRow

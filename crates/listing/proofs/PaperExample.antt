@@ -1,4 +1,4 @@
--- The example of document 01, "The listing", byte for byte. Assumes nothing.
+-- The example of document 01, "The listing", byte for byte.
 use mathlib.Core.Path.{_≡_, refl}
 use mathlib.Core.List.{List, [], _∷_, _++_}
 use Prim.Native.Nat.{ℕ}

@@ -9,13 +9,13 @@ use Rattle.rows.specs.declared.refusal.Verdict.{Verdict}
 use Rattle.rows.specs.declared.refusal.Verdict.the-variants.{Fine, Refused}
 use Rattle.report.specs.declared.record.Record.{Record}
 use Rattle.rows.specs.declared.slot.SlotKind.{SlotKind}
-use Rattle.rows.specs.declared.slot.SlotKind.the-variants.{Nothing as NoSlots, Prefectures, Places}
+use Rattle.rows.specs.declared.slot.SlotKind.the-variants.{NoSlots, Prefectures, Places}
 use Rattle.report.specs.declared.read.Reading.{Reading}
 use Rattle.rows.specs.Refusals.{Said, says}
 use Rattle.report.specs.Layout.{layout}
 use Rattle.report.specs.Meaning.{usedOf}
 use Rattle.listing.specs.declared.row.Entry.{Entry}
-use Rattle.listing.specs.declared.row.Entry.the-variants.{Nothing, Number}
+use Rattle.listing.specs.declared.row.Entry.the-variants.{Dash, Number}
 use Rattle.listing.specs.declared.row.Row.{Row}
 use Rattle.listing.specs.Decimal.{decimal}
 
@@ -23,20 +23,20 @@ use Rattle.listing.specs.Decimal.{decimal}
 
 -- "first bit for 8, 9, 10"
 abbrev pub placeEntry : Said → Entry
-placeEntry a = cond (leb 8 (a .number) && leb (a .number) 10) (Number (a .place)) Nothing
+placeEntry a = cond (leb 8 (a .number) && leb (a .number) 10) (Number (a .place)) Dash
 
 -- "slots used in categories 3 and 9"
 abbrev pub slotsEntry : SlotKind → ℕ → Entry
-slotsEntry NoSlots n = Nothing
+slotsEntry NoSlots n = Dash
 slotsEntry Prefectures n = Number n
 slotsEntry Places n = Number n
 
 abbrev pub refusedRow : ℕ → Entry → Row
-refusedRow number place = record { answer = number; place = place; category = Nothing; slots = Nothing }
+refusedRow number place = record { answer = number; place = place; category = Dash; slots = Dash }
 
 -- "Category and slots are given only for a frame that was read"
 abbrev pub rowFor : Verdict → Record → Row
-rowFor Fine r = record { answer = 0; place = Nothing; category = Number (layout (r .body) .code); slots = slotsEntry (layout (r .body) .slots) (usedOf r) }
+rowFor Fine r = record { answer = 0; place = Dash; category = Number (layout (r .body) .code); slots = slotsEntry (layout (r .body) .slots) (usedOf r) }
 rowFor (Refused x) r = refusedRow (says x .number) (placeEntry (says x))
 
 abbrev pub rowOf : Reading → Row
@@ -46,7 +46,7 @@ rowOf r = rowFor (r .answer) (r .«record»)
 
 -- an entry behind a space: "A dash stands where there is nothing to say"
 abbrev pub entryText : Entry → List ℕ
-entryText Nothing = 32 ∷ 45 ∷ []
+entryText Dash = 32 ∷ 45 ∷ []
 entryText (Number n) = 32 ∷ decimal n
 
 -- the row of the line with this number
@@ -81,5 +81,5 @@ abbrev pub over : List ℕ → List ℕ → List ℕ
 over text out = text ++ drop (length text) out
 
 -- a buffer that is shorter than the longest line is left as it was
-unfoldable pub laid : List ℕ → List ℕ → Filled
-laid text out = cond (ltb (length out) longest) (filled 0 out) (filled (length text) (over text out))
+unfoldable pub filledBy : List ℕ → List ℕ → Filled
+filledBy text out = cond (ltb (length out) longest) (filled 0 out) (filled (length text) (over text out))

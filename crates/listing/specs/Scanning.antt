@@ -6,7 +6,7 @@ use lib.Dec.{ltb, eqb}
 use lib.ListN.{length, take}
 use Rattle.listing.specs.declared.progress.Progress.{Progress}
 use Rattle.listing.specs.declared.scan.Step.{Step}
-use Rattle.listing.specs.Rows.{cutText, longest, over, Filled, laid}
+use Rattle.listing.specs.Rows.{cutText, longest, over, Filled, filledBy}
 use Rattle.listing.specs.Listing.{lineRow, limit}
 
 -- ---- byte by byte
@@ -37,13 +37,13 @@ lastRow n (b ∷ l) = cond (ltb n limit) (lineRow (suc n) (b ∷ l)) []
 -- ---- in memory
 
 -- the first k elements of l, with zeros where it has fewer
-unfoldable pub padded : ℕ → List ℕ → List ℕ
-padded zero l = []
-padded (suc k) [] = 0 ∷ padded k []
-padded (suc k) (x ∷ l) = x ∷ padded k l
+unfoldable pub sizedTo : ℕ → List ℕ → List ℕ
+sizedTo zero l = []
+sizedTo (suc k) [] = 0 ∷ sizedTo k []
+sizedTo (suc k) (x ∷ l) = x ∷ sizedTo k l
 
 unfoldable pub progressOf : ℕ → List ℕ → Progress
-progressOf n begun = record { lines = n; length = length begun; begun = padded 64 begun }
+progressOf n begun = record { lines = n; length = length begun; begun = sizedTo 64 begun }
 
 -- the line that was begun
 abbrev pub begunIn : Progress → List ℕ
@@ -52,24 +52,24 @@ begunIn p = take (p .length) (p .begun)
 -- ---- a call
 
 -- as many bytes of a chunk as certainly have room for their rows
-unfoldable pub taken : List ℕ → List ℕ → ℕ
-taken chunk out = min (length chunk) (length out / longest)
+unfoldable pub bytesTaken : List ℕ → List ℕ → ℕ
+bytesTaken chunk out = min (length chunk) (length out / longest)
 
 -- what a call leaves: its answer, and the lent buffer
-pub record Left : Type 0 where
+pub record AfterScan : Type 0 where
   pub step : Step
   pub buffer : List ℕ
 
-abbrev pub left : Step → List ℕ → Left
-left s b = record { step = s; buffer = b }
+abbrev pub afterScan : Step → List ℕ → AfterScan
+afterScan s b = record { step = s; buffer = b }
 
-abbrev pub leftBy : Reach → ℕ → List ℕ → Left
-leftBy w used out = left (record { progress = progressOf (w .lines) (w .begun); written = length (w .text); used = used }) (over (w .text) out)
+abbrev pub afterReach : Reach → ℕ → List ℕ → AfterScan
+afterReach w used out = afterScan (record { progress = progressOf (w .lines) (w .begun); written = length (w .text); used = used }) (over (w .text) out)
 
 -- a chunk
-unfoldable pub scanned : Progress → List ℕ → List ℕ → Left
-scanned p chunk out = leftBy (reach (p .lines) (begunIn p) (take (taken chunk out) chunk)) (taken chunk out) out
+unfoldable pub scanned : Progress → List ℕ → List ℕ → AfterScan
+scanned p chunk out = afterReach (reach (p .lines) (begunIn p) (take (bytesTaken chunk out) chunk)) (bytesTaken chunk out) out
 
 -- the end of the input
 unfoldable pub finished : Progress → List ℕ → Filled
-finished p out = laid (lastRow (p .lines) (begunIn p)) out
+finished p out = filledBy (lastRow (p .lines) (begunIn p)) out

@@ -5,7 +5,7 @@ ghost use lib.ListN.{length};
 ghost use Rattle.rows.specs.Refusals.{says};
 ghost use Rattle.report.specs.Meaning.{usedOf};
 ghost use Rattle.rows.specs.declared.refusal.Verdict.the-variants.{Fine};
-ghost use Rattle.listing.specs.Rows.{rowFor, rowOf, refusedRow, placeEntry, slotsEntry, entryText, rowText, headingText, cutText, filled, laid};
+ghost use Rattle.listing.specs.Rows.{rowFor, rowOf, refusedRow, placeEntry, slotsEntry, entryText, rowText, headingText, cutText, filled, filledBy};
 ghost use Rattle.listing.specs.Pieces.{Wrote};
 use crate::text::put_byte;
 use crate::text::put_number;
@@ -21,7 +21,7 @@ pub const LONGEST: usize = 27;
 
 // A number, or nothing to say.
 pub enum Entry {
-    Nothing,
+    Dash,
     Number(u8),
 }
 
@@ -40,8 +40,8 @@ impl Row {
         Row {
             answer: number,
             place: place,
-            category: Entry::Nothing,
-            slots: Entry::Nothing,
+            category: Entry::Dash,
+            slots: Entry::Dash,
         }
     }
 
@@ -49,23 +49,23 @@ impl Row {
         ensures { λ r. ⌜ r ≡ refusedRow (says refusal .number) (placeEntry (says refusal)) ⌝ }
     {
         match refusal {
-            Refusal::Length => Row::refused(1, Entry::Nothing),
-            Refusal::Padding => Row::refused(2, Entry::Nothing),
-            Refusal::Preamble => Row::refused(3, Entry::Nothing),
-            Refusal::Parity => Row::refused(4, Entry::Nothing),
-            Refusal::Message => Row::refused(5, Entry::Nothing),
-            Refusal::Version => Row::refused(6, Entry::Nothing),
-            Refusal::Category => Row::refused(7, Entry::Nothing),
+            Refusal::Length => Row::refused(1, Entry::Dash),
+            Refusal::Padding => Row::refused(2, Entry::Dash),
+            Refusal::Preamble => Row::refused(3, Entry::Dash),
+            Refusal::Parity => Row::refused(4, Entry::Dash),
+            Refusal::Message => Row::refused(5, Entry::Dash),
+            Refusal::Version => Row::refused(6, Entry::Dash),
+            Refusal::Category => Row::refused(7, Entry::Dash),
             Refusal::Range(place) => Row::refused(8, Entry::Number(place)),
             Refusal::Spare(place) => Row::refused(9, Entry::Number(place)),
             Refusal::Gap(place) => Row::refused(10, Entry::Number(place)),
-            Refusal::Unused => Row::refused(11, Entry::Nothing),
-            Refusal::NoPage => Row::refused(12, Entry::Nothing),
-            Refusal::OtherBulletin => Row::refused(13, Entry::Nothing),
-            Refusal::Unsound => Row::refused(14, Entry::Nothing),
-            Refusal::NotHeld { page: _, mark: _ } => Row::refused(15, Entry::Nothing),
-            Refusal::Short => Row::refused(16, Entry::Nothing),
-            Refusal::Line => Row::refused(17, Entry::Nothing),
+            Refusal::Unused => Row::refused(11, Entry::Dash),
+            Refusal::NoPage => Row::refused(12, Entry::Dash),
+            Refusal::OtherBulletin => Row::refused(13, Entry::Dash),
+            Refusal::Unsound => Row::refused(14, Entry::Dash),
+            Refusal::NotHeld { page: _, mark: _ } => Row::refused(15, Entry::Dash),
+            Refusal::Short => Row::refused(16, Entry::Dash),
+            Refusal::Line => Row::refused(17, Entry::Dash),
         }
     }
 
@@ -74,7 +74,7 @@ impl Row {
         ensures { λ r. ⌜ r ≡ slotsEntry kind (usedOf found) ⌝ }
     {
         match kind {
-            SlotKind::Nothing => Entry::Nothing,
+            SlotKind::NoSlots => Entry::Dash,
             SlotKind::Prefectures => Entry::Number(found.slots_used() as u8),
             SlotKind::Places => Entry::Number(found.slots_used() as u8),
         }
@@ -87,7 +87,7 @@ impl Row {
         let slots = Row::slots_entry(body.slot_kind(), found);
         Row {
             answer: 0,
-            place: Entry::Nothing,
+            place: Entry::Dash,
             category: Entry::Number(body.code()),
             slots: slots,
         }
@@ -114,7 +114,7 @@ fn put_entry(out: &mut [u8], at: usize, entry: Entry) -> usize
 {
     let next = put_byte(out, at, b' ');
     match entry {
-        Entry::Nothing => put_byte(out, next, b'-'),
+        Entry::Dash => put_byte(out, next, b'-'),
         Entry::Number(n) => put_number(out, next, n as u32),
     }
 }
@@ -145,7 +145,7 @@ pub(crate) fn put_cut(out: &mut [u8], at: usize) -> usize
 // Puts the first line of a listing at the start of out, and answers its length. An out of less than
 // 27 bytes is left as it is, and the answer is 0.
 pub fn write_heading(out: &mut [u8]) -> usize
-    ensures is { λ r. ⌜ filled r (now (out .exit)) ≡ laid headingText (now (out .entry)) ⌝ }
+    ensures is { λ r. ⌜ filled r (now (out .exit)) ≡ filledBy headingText (now (out .entry)) ⌝ }
     ensures fits { λ r. ⌜ r ≤ length (now (out .entry)) ⌝ }
 {
     if out.len() < LONGEST {
@@ -156,7 +156,7 @@ pub fn write_heading(out: &mut [u8]) -> usize
 
 // Puts the row of the line with this number at the start of out, as `write_heading` does.
 pub fn write_row(number: u32, reading: Reading, out: &mut [u8]) -> usize
-    ensures is { λ r. ⌜ filled r (now (out .exit)) ≡ laid (rowText number (rowOf reading)) (now (out .entry)) ⌝ }
+    ensures is { λ r. ⌜ filled r (now (out .exit)) ≡ filledBy (rowText number (rowOf reading)) (now (out .entry)) ⌝ }
     ensures fits { λ r. ⌜ r ≤ length (now (out .entry)) ⌝ }
 {
     if out.len() < LONGEST {

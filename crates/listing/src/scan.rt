@@ -5,7 +5,7 @@ ghost use Prim.Native.Nat.{_+_, _-_, _*_, _≤_, _<_};
 ghost use lib.ListN.{length, drop};
 ghost use Rattle.listing.specs.Rows.{filled};
 ghost use Rattle.listing.specs.Listing.{limit};
-ghost use Rattle.listing.specs.Scanning.{begunIn, left, scanned, finished};
+ghost use Rattle.listing.specs.Scanning.{begunIn, afterScan, scanned, finished};
 ghost use Rattle.listing.specs.Pieces.{Found, Scanned};
 use crate::number::least;
 use crate::progress::Progress;
@@ -144,7 +144,7 @@ fn scan_all(from: Progress, chunk: &[u8], out: &mut [u8]) -> Step
 // at the start of out. It takes as many as out has room for, at 27 bytes a row, or all of them: an out
 // of 27 times the chunk's length leaves no byte.
 pub fn scan(from: Progress, chunk: &[u8], out: &mut [u8]) -> Step
-    ensures is { λ r. ⌜ left r (now (out .exit)) ≡ scanned from (now (chunk .entry)) (now (out .entry)) ⌝ }
+    ensures is { λ r. ⌜ afterScan r (now (out .exit)) ≡ scanned from (now (chunk .entry)) (now (out .entry)) ⌝ }
     ensures fits { λ r. ⌜ r .written ≤ length (now (out .entry)) ⌝ }
 {
     let most = least(chunk.len(), out.len() / LONGEST);

@@ -17,19 +17,19 @@ use Rattle.rows.specs.Runs.Verdict.{judge, walk, allowed}
 use Rattle.rows.proofs.Rules.Outcomes.{fine-then, unless-true, then-fine}
 use Rattle.rows.proofs.Rules.Spans.{in-allowed, allowed-one}
 use Rattle.nankai.specs.declared.PageNumbers.{PageNumbers}
-use Rattle.nankai.specs.Nankai.{nankai, page, numbered, numberValues, pageValues}
+use Rattle.nankai.specs.Nankai.{nankai, pageRows, numbered, numberValues, pageValues}
 
 byte : (x : ℕ) → x < 256 → x ≤ 255
 byte x k = omega arith
 
 bytes-pass : (n a b : ℕ) (text : List ℕ) (x y : ℕ) → Bytes text → length text ≡ n
-    → walk b (bytes n a ++ page) (text ++ x ∷ y ∷ []) ≡ walk 0 page (x ∷ y ∷ [])
+    → walk b (bytes n a ++ pageRows) (text ++ x ∷ y ∷ []) ≡ walk 0 pageRows (x ∷ y ∷ [])
 unfolding walk judge
 bytes-pass zero a b [] x y h l = refl
 bytes-pass zero a b (t ∷ text) x y h l = absurd (suc-ne-zero (length text) l)
 bytes-pass (suc n) a b [] x y h l = absurd (suc-ne-zero n (sym l))
 bytes-pass (suc n) a b (t ∷ text) x y h l =
-    ap (λ (v : Verdict). v then walk t (bytes n (a + 8) ++ page) (text ++ x ∷ y ∷ [])) (unless-true _ (Range a) (in-allowed (0 to 255 ∷ []) t (inl (zero-le, byte t (h 0)))))
+    ap (λ (v : Verdict). v then walk t (bytes n (a + 8) ++ pageRows) (text ++ x ∷ y ∷ [])) (unless-true _ (Range a) (in-allowed (0 to 255 ∷ []) t (inl (zero-le, byte t (h 0)))))
     ∙ fine-then _
     ∙ bytes-pass n (a + 8) t text x y (λ i. h (suc i)) (suc-inj l)
 

@@ -2,24 +2,24 @@
 use Prim.Native.Nat.{ℕ, _+_, _*_}
 use mathlib.Core.List.{List, [], _∷_, _++_}
 use Rattle.bits.specs.Frame.{fieldOf}
-use Rattle.rows.specs.declared.slot.SlotKind.the-variants.{Nothing as NoSlots}
+use Rattle.rows.specs.declared.slot.SlotKind.the-variants.{NoSlots}
 use Rattle.rows.specs.Layout.{Row, row, within, rising, bytes, uncorrected, Layout}
 use Rattle.rows.specs.Values.{each}
 use Rattle.nankai.specs.declared.PageNumbers.{PageNumbers}
 
 -- Is
-abbrev pub serial : Row
-serial = row 53 4 (within 1 15)
+abbrev pub serialRow : Row
+serialRow = row 53 4 (within 1 15)
 
 -- "Page total: at least the page number, at most 63"
-abbrev pub page : List Row
-page = row 201 6 (within 1 63) ∷ row 207 6 (rising 63) ∷ []
+abbrev pub pageRows : List Row
+pageRows = row 201 6 (within 1 63) ∷ row 207 6 (rising 63) ∷ []
 
 abbrev pub nankai : Layout
 nankai = record {
   code = 4;
   types = uncorrected;
-  body = serial ∷ bytes 18 57 ++ page;
+  body = serialRow ∷ bytes 18 57 ++ pageRows;
   slots = NoSlots;
   spareFirst = 213;
   spareWidth = 1;
@@ -27,7 +27,7 @@ nankai = record {
 
 -- the rows of which something is asked: "Text at 57: 18 bytes, any"
 abbrev pub numbered : List Row
-numbered = serial ∷ page
+numbered = serialRow ∷ pageRows
 
 abbrev pub numbersOf : List ℕ → PageNumbers
 numbersOf s = record { serial = fieldOf s 53 4; number = fieldOf s 201 6; total = fieldOf s 207 6 }

@@ -1,5 +1,5 @@
 pub mod Texts
-pub mod Marks
+pub mod States
 pub mod Sound
 pub mod Shapes
 pub mod Numbered

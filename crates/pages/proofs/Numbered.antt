@@ -1,4 +1,4 @@
--- A page that can be written has a number from 1 to its total, which is at most 63. Assumes nothing.
+-- A page that can be written has a number from 1 to its total, which is at most 63.
 use mathlib.Core.Path.{_≡_, sym, subst}
 use mathlib.Core.List.{List, [], _∷_, _++_}
 use mathlib.Core.Logic.{⊎-elim}
@@ -10,7 +10,7 @@ use Rattle.report.specs.declared.record.Body.the-variants.{Nankai}
 use Rattle.nankai.specs.declared.PageNumbers.{PageNumbers}
 use Rattle.report.specs.declared.record.Record.{Record}
 use Rattle.report.specs.Layout.{layout}
-use Rattle.nankai.specs.Nankai.{page}
+use Rattle.nankai.specs.Nankai.{pageRows}
 use Rattle.rows.specs.Layout.{bytes}
 use Rattle.report.specs.Records.{values, bodyValues}
 use Rattle.rows.specs.Kept.{Kept}
@@ -23,7 +23,7 @@ pub record Numbered (p : PageNumbers) : Type 0 where
   pub high : p .number ≤ p .total
   pub most : p .total ≤ 63
 
-pub past-text : (n a b : ℕ) (text : List ℕ) (p : PageNumbers) → length text ≡ n → Kept b (bytes n a ++ page) (text ++ p .number ∷ p .total ∷ []) → Numbered p
+pub past-text : (n a b : ℕ) (text : List ℕ) (p : PageNumbers) → length text ≡ n → Kept b (bytes n a ++ pageRows) (text ++ p .number ∷ p .total ∷ []) → Numbered p
 past-text zero a b [] p l h = record { low = ⊎-elim (λ z. z .0) (λ z. absurd z) (h .0); high = h .1 .0 .0; most = h .1 .0 .1 }
 past-text zero a b (t ∷ text) p l h = absurd (suc-ne-zero (length text) l)
 past-text (suc n) a b [] p l h = absurd (suc-ne-zero n (sym l))

@@ -1,4 +1,4 @@
--- What owning an array tells of its length, and of each page in it: its text is 18 bytes. Assumes nothing.
+-- What owning an array tells of its length, and of each page in it: its text is 18 bytes.
 use mathlib.Core.List.{List, [], _∷_, map}
 use Prim.Native.Nat.{ℕ, zero, suc, _<_}
 use native.Mathlib.Omega.{arith}

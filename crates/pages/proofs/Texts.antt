@@ -1,4 +1,4 @@
--- Texts compared byte by byte, and tests. Assumes nothing.
+-- Texts compared byte by byte, and tests.
 use mathlib.Core.Path.{_≡_, refl, sym, _∙_}
 use mathlib.Core.Bool.{Bool, true, false}
 use mathlib.Core.List.{List, [], _∷_}

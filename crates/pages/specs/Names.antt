@@ -17,8 +17,8 @@ abbrev pub zeroName : Name
 zeroName = record { common = record { rc = 0; month = 0; day = 0; hour = 0; minute = 0; it = 0 }; serial = 0; total = 0 }
 
 -- page 1 of the bulletin, without text: what stands in it beside the name passes
-abbrev pub firstPage : Name → Record
-firstPage n = record {
+abbrev pub firstPageOf : Name → Record
+firstPageOf n = record {
   preamble = 0;
   reserved = 0;
   common = n .common;
@@ -30,7 +30,7 @@ firstPage n = record {
 -- "Opening: 8 at the first bad value in frame order; the total is 1-63, at bit 207": what the table of category 4 says of
 -- that page, whose total is at least the page number, 1
 unfoldable pub nameVerdict : Name → Verdict
-nameVerdict n = verdict nankai (values (firstPage n) 0 0)
+nameVerdict n = verdict nankai (values (firstPageOf n) 0 0)
 
 abbrev pub isFine : Verdict → Bool
 isFine Fine = true

@@ -14,17 +14,17 @@ sameBytes [] (b ∷ m) = false
 sameBytes (a ∷ l) [] = false
 sameBytes (a ∷ l) (b ∷ m) = eqb a b && sameBytes l m
 
-abbrev pub zeros : List ℕ
-zeros = replicate 18 0
+abbrev pub noText : List ℕ
+noText = replicate 18 0
 
 abbrev pub absentPage : Page
-absentPage = record { mark = 0; text = zeros }
+absentPage = record { mark = 0; text = noText }
 
 abbrev pub heldPage : List ℕ → Page
 heldPage t = record { mark = 1; text = t }
 
 abbrev pub disputedPage : Page
-disputedPage = record { mark = 2; text = zeros }
+disputedPage = record { mark = 2; text = noText }
 
 -- what a list of pages has past its end
 abbrev pub noPage : Page
@@ -44,7 +44,7 @@ join p q =
 unfoldable pub soundPage : Page → Bool
 soundPage p =
     cond (eqb (p .mark) 1) true
-    (cond (eqb (p .mark) 0) (sameBytes (p .text) zeros) (cond (eqb (p .mark) 2) (sameBytes (p .text) zeros) false))
+    (cond (eqb (p .mark) 0) (sameBytes (p .text) noText) (cond (eqb (p .mark) 2) (sameBytes (p .text) noText) false))
 
 -- the page behind i others, in a bulletin of so many
 unfoldable pub soundAt : ℕ → ℕ → Page → Bool

@@ -1,7 +1,7 @@
 // Which bulletin a page is of: report classification, issue time, information type, kind of
 // information and page total.
 ghost use mathlib.Core.Path.{_≡_};
-ghost use Rattle.pages.specs.Names.{zeroName, firstPage, nameVerdict, nameInRange, sameCommon, sameName};
+ghost use Rattle.pages.specs.Names.{zeroName, firstPageOf, nameVerdict, nameInRange, sameCommon, sameName};
 use nankai::PageNumbers;
 use report::check::check;
 use report::record::Body;
@@ -58,7 +58,7 @@ impl Name {
 
     // Page 1 of the bulletin, without text.
     fn first_page(self) -> Record
-        ensures { λ r. ⌜ r ≡ firstPage self ⌝ }
+        ensures { λ r. ⌜ r ≡ firstPageOf self ⌝ }
     {
         let common = self.common;
         let body = Body::Nankai(PageNumbers {

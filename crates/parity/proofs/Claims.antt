@@ -1,4 +1,4 @@
--- What this crate claims of its definitions. Assumes nothing.
+-- What this crate claims of its definitions.
 use mathlib.Core.Path.{_≡_, sym, ap, _∙_}
 use mathlib.Core.Bool.{true}
 use Prim.Native.Nat.{ℕ, _/_, _^_, _<_}

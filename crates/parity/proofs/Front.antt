@@ -1,4 +1,4 @@
--- The parity rests on bits 0 to 225 alone. Assumes nothing.
+-- The parity rests on bits 0 to 225 alone.
 use mathlib.Core.Path.{_≡_, refl, ap₂}
 use Prim.Native.Nat.{ℕ, zero, suc, _+_, _-_, _/_, _%_, _^_, _<_}
 use native.Mathlib.Omega.{arith}

@@ -1,4 +1,4 @@
--- The step, and so the register, is linear over exclusive or. Assumes nothing.
+-- The step, and so the register, is linear over exclusive or.
 use mathlib.Core.Path.{_≡_, refl, sym, ap, ap₂, _∙_}
 use Prim.Native.Nat.{ℕ, zero, suc, _+_, _*_, _/_, _%_, _^_, _<_}
 use native.Mathlib.Omega.{arith}

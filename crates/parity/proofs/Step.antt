@@ -1,4 +1,4 @@
--- The one-bit step: how the code computes it, and how large the register gets. Assumes nothing.
+-- The one-bit step: how the code computes it, and how large the register gets.
 use mathlib.Core.Path.{_≡_, sym, ap, _∙_}
 use Prim.Native.Nat.{ℕ, zero, suc, _+_, _*_, _/_, _%_, _^_, _<_}
 use native.Mathlib.Omega.{arith}

@@ -1,4 +1,4 @@
--- From the bytes back to the record, so that the bytes tell records apart. Assumes nothing.
+-- From the bytes back to the record, so that the bytes tell records apart.
 use mathlib.Core.Path.{_≡_, refl, sym, ap, _∙_}
 use Prim.Native.Nat.{ℕ, suc, _+_, _*_, _^_, _<_}
 use native.Mathlib.Omega.{arith}
@@ -10,21 +10,21 @@ use lib.Seq.{drop-at}
 use Rattle.bits.specs.Frame.{number}
 use Rattle.bits.proofs.Claims.{decoded-then-encoded}
 use Rattle.report.specs.declared.record.Body.{Body}
-use Rattle.report.specs.declared.record.Body.the-variants.{Nothing, Hypocenter, Intensity, Nankai, AshFall}
+use Rattle.report.specs.declared.record.Body.the-variants.{NoCategory, Hypocenter, Intensity, Nankai, AshFall}
 use Rattle.slots.specs.declared.slot.Slot.{Slot}
 use Rattle.report.specs.declared.record.Record.{Record}
 use Rattle.report.specs.Layout.{layout}
 use Rattle.rows.specs.Runs.Verdict.{empty}
 use Rattle.rows.specs.Values.{each}
-use Rattle.record_bytes.specs.Packed.{wide, padded, headBytes, bodyBytes, slotBytes, slotsBytes, packed}
-use Rattle.record_bytes.specs.Unpacked.{fourAt, slotAt, bodyBy, bodyFrom, stray, slotsFrom, marked, textFrom, unpackedAs, unpacked}
+use Rattle.record_bytes.specs.Packed.{wide, zeroFilled, headBytes, bodyBytes, slotBytes, slotsBytes, packed}
+use Rattle.record_bytes.specs.Unpacked.{fourAt, slotAt, bodyOfCode, bodyFrom, stray, slotsFrom, slotsOrMisplaced, textFrom, unpackedAs, unpacked}
 use Rattle.record_bytes.proofs.ToBytes.Whole.{front, most, length-front, length-most}
 use Rattle.record_bytes.proofs.FromBytes.Places.{each-same, byte-behind}
 
 -- ---- the numbers that have more than one byte fit their bytes
 
 abbrev pub BodyFits : Body → Type 0
-BodyFits Nothing = Unit
+BodyFits NoCategory = Unit
 BodyFits (Hypocenter q) =
     (q .notification1 < 2 ^ 16) × ((q .notification2 < 2 ^ 16) × ((q .notification3 < 2 ^ 16) × ((q .depth < 2 ^ 16) × (q .epicenter < 2 ^ 16))))
 BodyFits (Intensity t) = Unit
@@ -49,9 +49,9 @@ four-back v h = decoded-then-encoded (8 ∷ 8 ∷ 8 ∷ 8 ∷ []) v ∙ mod-eq-o
 
 -- ---- 9 to 30
 
-body-back : (r : Record) (b : Body) (rest : List ℕ) → BodyFits b → bodyBy (headBytes r ++ padded 22 (bodyBytes b) ++ rest) (layout b .code) ≡ b
-unfolding bodyBy bodyBytes layout
-body-back r Nothing rest h = refl
+body-back : (r : Record) (b : Body) (rest : List ℕ) → BodyFits b → bodyOfCode (headBytes r ++ zeroFilled 22 (bodyBytes b) ++ rest) (layout b .code) ≡ b
+unfolding bodyOfCode bodyBytes layout
+body-back r NoCategory rest h = refl
 body-back r (Hypocenter q) rest h =
     ap Hypocenter λ i. record {
       notification1 = two-back (q .notification1) (h .0) i;
@@ -69,9 +69,9 @@ body-back r (Nankai p) rest h = refl
 body-back r (AshFall e) rest h = ap AshFall λ i. record { time = e .time; warning = e .warning; volcano = two-back (e .volcano) h i }
 
 -- behind the body's bytes there are zeros
-not-stray : (r : Record) (b : Body) (rest : List ℕ) → stray b (headBytes r ++ padded 22 (bodyBytes b) ++ rest) ≡ false
+not-stray : (r : Record) (b : Body) (rest : List ℕ) → stray b (headBytes r ++ zeroFilled 22 (bodyBytes b) ++ rest) ≡ false
 unfolding bodyBytes empty
-not-stray r Nothing rest = refl
+not-stray r NoCategory rest = refl
 not-stray r (Hypocenter q) rest = refl
 not-stray r (Intensity t) rest = refl
 not-stray r (Nankai p) rest = refl
@@ -119,7 +119,7 @@ module _ (r : Record) (f : Fits r) where
   body-part : bodyFrom (packed r) ≡ r .body
   unfolding packed
   body-part =
-      ap (λ (l : List ℕ). bodyBy l (layout (r .body) .code)) behind-front
+      ap (λ (l : List ℕ). bodyOfCode l (layout (r .body) .code)) behind-front
       ∙ body-back r (r .body) (slotsBytes (r .slots) ++ r .text) (f .body)
 
   stray-part : stray (r .body) (packed r) ≡ false
@@ -148,7 +148,7 @@ module _ (r : Record) (f : Fits r) where
     reserved = r .reserved;
     common = r .common;
     body = r .body;
-    slots = (ap (λ (b : Bool). marked b (slotsFrom (packed r))) stray-part ∙ slots-part) i;
+    slots = (ap (λ (b : Bool). slotsOrMisplaced b (slotsFrom (packed r))) stray-part ∙ slots-part) i;
     text = text-part i;
   }
 

@@ -1,4 +1,4 @@
--- A text in bytes that reach so far, and in bytes that do not. Assumes nothing.
+-- A text in bytes that reach so far, and in bytes that do not.
 use mathlib.Core.Path.{_≡_, refl, sym}
 use mathlib.Core.Bool.{Bool, true, false}
 use Prim.Native.Nat.{ℕ, _+_, _-_, _≤_}

@@ -23,7 +23,7 @@ use lib.Dec.{eqb}
 use Rattle.bits.specs.Layout.{decode}
 use Rattle.hypocenter.specs.declared.Quake.{Quake}
 use Rattle.report.specs.declared.record.Body.{Body}
-use Rattle.report.specs.declared.record.Body.the-variants.{Nothing, Hypocenter, Intensity, Nankai, AshFall}
+use Rattle.report.specs.declared.record.Body.the-variants.{NoCategory, Hypocenter, Intensity, Nankai, AshFall}
 use Rattle.slots.specs.declared.slot.Slot.{Slot}
 use Rattle.report.specs.declared.record.Record.{Record}
 use Rattle.report.specs.Layout.{layout}
@@ -35,8 +35,8 @@ abbrev pub wide : ℕ → ℕ → List ℕ
 wide n v = decode (replicate n 8) v
 
 -- l, and zeros behind it up to n bytes
-abbrev pub padded : ℕ → List ℕ → List ℕ
-padded n l = l ++ replicate (n - length l) 0
+abbrev pub zeroFilled : ℕ → List ℕ → List ℕ
+zeroFilled n l = l ++ replicate (n - length l) 0
 
 -- 0 to 8
 abbrev pub headBytes : Record → List ℕ
@@ -68,7 +68,7 @@ quakeBytes q =
     ++ angleValues (q .longitude)  -- 27
 
 unfoldable pub bodyBytes : Body → List ℕ
-bodyBytes Nothing = []
+bodyBytes NoCategory = []
 bodyBytes (Hypocenter q) = quakeBytes q
 bodyBytes (Intensity s) = timeValues (s .time)
 bodyBytes (Nankai p) = p .serial ∷ p .number ∷ p .total ∷ []
@@ -86,7 +86,7 @@ slotsBytes (s ∷ ss) = slotBytes s ++ slotsBytes ss
 -- ---- all of them
 
 unfoldable pub packed : Record → List ℕ
-packed r = headBytes r ++ padded 22 (bodyBytes (r .body)) ++ slotsBytes (r .slots) ++ r .text
+packed r = headBytes r ++ zeroFilled 22 (bodyBytes (r .body)) ++ slotsBytes (r .slots) ++ r .text
 
 -- a lent buffer of 145 bytes takes them; one of another length stays as it was
 unfoldable pub packedInto : Record → List ℕ → List ℕ

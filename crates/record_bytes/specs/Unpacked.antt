@@ -16,7 +16,7 @@ use Rattle.hypocenter.specs.declared.Quake.{Quake}
 use Rattle.nankai.specs.declared.PageNumbers.{PageNumbers}
 use Rattle.ash_fall.specs.declared.Eruption.{Eruption}
 use Rattle.report.specs.declared.record.Body.{Body}
-use Rattle.report.specs.declared.record.Body.the-variants.{Nothing, Hypocenter, Intensity, Nankai, AshFall}
+use Rattle.report.specs.declared.record.Body.the-variants.{NoCategory, Hypocenter, Intensity, Nankai, AshFall}
 use Rattle.slots.specs.declared.slot.Slot.{Slot}
 use Rattle.report.specs.declared.record.Record.{Record}
 use Rattle.rows.specs.Runs.Verdict.{empty}
@@ -70,13 +70,13 @@ abbrev pub eruptionFrom : List ℕ → Eruption
 eruptionFrom l = record { time = timeAt l 9; warning = getD l 12 0; volcano = twoAt l 13 }
 
 -- by the category's code
-unfoldable pub bodyBy : List ℕ → ℕ → Body
-bodyBy l dc =
+unfoldable pub bodyOfCode : List ℕ → ℕ → Body
+bodyOfCode l dc =
     cond (eqb dc 2) (Hypocenter (quakeFrom l))
-    (cond (eqb dc 3) (Intensity (record { time = timeAt l 9 })) (cond (eqb dc 4) (Nankai (pageFrom l)) (cond (eqb dc 9) (AshFall (eruptionFrom l)) Nothing)))
+    (cond (eqb dc 3) (Intensity (record { time = timeAt l 9 })) (cond (eqb dc 4) (Nankai (pageFrom l)) (cond (eqb dc 9) (AshFall (eruptionFrom l)) NoCategory)))
 
 abbrev pub bodyFrom : List ℕ → Body
-bodyFrom l = bodyBy l (getD l 0 0)
+bodyFrom l = bodyOfCode l (getD l 0 0)
 
 -- something stands behind what the body has
 abbrev pub stray : Body → List ℕ → Bool
@@ -91,8 +91,8 @@ slotsFrom l = each 16 (λ i. slotAt l (31 + 6 * i))
 abbrev pub misplaced : Slot
 misplaced = record { hour = 1; strength = 0; place = 0 }
 
-abbrev pub marked : Bool → List Slot → List Slot
-marked isStray ss = cond isStray (set ss 15 misplaced) ss
+abbrev pub slotsOrMisplaced : Bool → List Slot → List Slot
+slotsOrMisplaced isStray ss = cond isStray (set ss 15 misplaced) ss
 
 -- ---- 127 to 144
 
@@ -107,7 +107,7 @@ unpackedAs l b = record {
   reserved = getD l 2 0;
   common = commonFrom l;
   body = b;
-  slots = marked (stray b l) (slotsFrom l);
+  slots = slotsOrMisplaced (stray b l) (slotsFrom l);
   text = textFrom l;
 }
 

@@ -7,7 +7,7 @@ ghost use lib.ListN.{length, set, take, drop};
 ghost use Rattle.bits.specs.Frame.{number};
 ghost use Rattle.rows.specs.Runs.Verdict.{empty};
 ghost use Rattle.record_bytes.specs.Packed.{bodyBytes};
-ghost use Rattle.record_bytes.specs.Unpacked.{twoAt, fourAt, timeAt, angleAt, slotAt, commonFrom, quakeFrom, pageFrom, eruptionFrom, bodyFrom, stray, slotsFrom, misplaced, marked, recordFrom};
+ghost use Rattle.record_bytes.specs.Unpacked.{twoAt, fourAt, timeAt, angleAt, slotAt, commonFrom, quakeFrom, pageFrom, eruptionFrom, bodyFrom, stray, slotsFrom, misplaced, slotsOrMisplaced, recordFrom};
 use crate::sizes::RECORD_SIZE;
 use crate::sizes::SLOT_COUNT;
 use crate::sizes::SLOT_SIZE;
@@ -155,7 +155,7 @@ fn body_of(bytes: &[u8]) -> Body
         }),
         4 => Body::Nankai(page_of(bytes)),
         9 => Body::AshFall(eruption_of(bytes)),
-        _ => Body::Nothing,
+        _ => Body::NoCategory,
     }
 }
 
@@ -164,7 +164,7 @@ fn end_of(b: Body) -> usize
     ensures { λ r. ⌜ r ≡ 9 + length (bodyBytes b) ⌝ }
 {
     match b {
-        Body::Nothing => 9,
+        Body::NoCategory => 9,
         Body::Hypocenter(_) => 31,
         Body::Intensity(_) => 12,
         Body::Nankai(_) => 12,
@@ -224,7 +224,7 @@ fn with_misplaced(slots: [Slot; SLOT_COUNT]) -> [Slot; SLOT_COUNT]
 
 fn marked_slots_of(bytes: &[u8], body: Body) -> [Slot; SLOT_COUNT]
     requires { ⌜ length (now bytes) ≡ 145 ⌝ }
-    ensures { λ r. ⌜ r ≡ marked (stray body (now (bytes .entry))) (slotsFrom (now (bytes .entry))) ⌝ }
+    ensures { λ r. ⌜ r ≡ slotsOrMisplaced (stray body (now (bytes .entry))) (slotsFrom (now (bytes .entry))) ⌝ }
 {
     let slots = slots_of(bytes);
     if has_stray(bytes, end_of(body)) {

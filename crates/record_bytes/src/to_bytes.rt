@@ -5,7 +5,7 @@ ghost use lib.ListN.{length, replicate};
 ghost use Rattle.bits.specs.Frame.{number};
 ghost use Rattle.rows.specs.Values.{timeValues};
 ghost use Rattle.hypocenter.specs.Hypocenter.{angleValues};
-ghost use Rattle.record_bytes.specs.Packed.{wide, padded, headBytes, notificationBytes, sourceBytes, quakeBytes, bodyBytes, slotBytes, slotsBytes, packedInto};
+ghost use Rattle.record_bytes.specs.Packed.{wide, zeroFilled, headBytes, notificationBytes, sourceBytes, quakeBytes, bodyBytes, slotBytes, slotsBytes, packedInto};
 ghost use Rattle.record_bytes.specs.Writing.{Wrote};
 use crate::sizes::BODY_SIZE;
 use crate::sizes::RECORD_SIZE;
@@ -141,10 +141,10 @@ fn put_eruption(out: &mut [u8], e: Eruption)
 
 fn put_body(out: &mut [u8], b: Body)
     requires { ⌜ length (now out) ≡ 145 ⌝ }
-    ensures { λ _. ⌜ Wrote (now (out .entry)) (now (out .exit)) 9 (padded 22 (bodyBytes b)) ⌝ }
+    ensures { λ _. ⌜ Wrote (now (out .entry)) (now (out .exit)) 9 (zeroFilled 22 (bodyBytes b)) ⌝ }
 {
     match b {
-        Body::Nothing => put_zeros(out, 9, BODY_SIZE),
+        Body::NoCategory => put_zeros(out, 9, BODY_SIZE),
         Body::Hypocenter(q) => put_quake(out, q),
         Body::Intensity(s) => {
             let time = s.time;

@@ -1,5 +1,4 @@
 -- What is proved of the definitions of this crate, each claim with the sentence of document 01 that it settles.
--- Assumes nothing.
 use mathlib.Core.Path.{_≡_, ap}
 use mathlib.Core.Bool.{true, false}
 use mathlib.Core.List.{List, [], map}

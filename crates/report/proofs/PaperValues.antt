@@ -1,5 +1,4 @@
 -- "Values to prove" of document 01 in one table: sample records with one field changed, and what the paper says of each.
--- Assumes nothing.
 use mathlib.Core.Path.{_≡_, refl}
 use mathlib.Core.List.{List, [], _∷_, _++_, map}
 use Prim.Native.Nat.{ℕ}

@@ -1,7 +1,7 @@
 -- Which preambles and categories there are, and the table of each category.
 use Rattle.report.specs.declared.record.Body.{Body}
-use Rattle.report.specs.declared.record.Body.the-variants.{Nothing, Hypocenter, Intensity, Nankai, AshFall}
-use Rattle.rows.specs.Layout.{nothing, Layout, Span, _to_}
+use Rattle.report.specs.declared.record.Body.the-variants.{NoCategory, Hypocenter, Intensity, Nankai, AshFall}
+use Rattle.rows.specs.Layout.{noCategory, Layout, Span, _to_}
 use Rattle.hypocenter.specs.Hypocenter.{hypocenter}
 use Rattle.intensity.specs.Intensity.{intensity}
 use Rattle.nankai.specs.Nankai.{nankai}
@@ -17,7 +17,7 @@ abbrev pub categories : List Span
 categories = 2 to 2 ∷ 3 to 3 ∷ 4 to 4 ∷ 9 to 9 ∷ []
 
 unfoldable pub layout : Body → Layout
-layout Nothing = nothing
+layout NoCategory = noCategory
 layout (Hypocenter q) = hypocenter
 layout (Intensity t) = intensity
 layout (Nankai p) = nankai

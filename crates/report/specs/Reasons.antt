@@ -7,7 +7,7 @@ use Rattle.bits.specs.Frame.{fieldOf}
 use Rattle.parity.specs.Parity.{parityOf}
 use Rattle.rows.specs.declared.refusal.Refusal.{Refusal}
 use Rattle.rows.specs.declared.refusal.Refusal.the-variants.{Length, Padding, Preamble, Parity, Message, Version, Category, Unused}
-use Rattle.report.specs.declared.record.Body.the-variants.{Nothing}
+use Rattle.report.specs.declared.record.Body.the-variants.{NoCategory}
 use Rattle.report.specs.declared.record.Record.{Record}
 use Rattle.report.specs.Layout.{layout, preambles, categories}
 use Rattle.report.specs.Records.{bodyOf, values}
@@ -40,7 +40,7 @@ abbrev pub writeQuestions : Record → ℕ → List Question
 writeQuestions r size =
     (size ≡ 32) or Length
     ∷ In preambles (r .preamble) or Preamble
-    ∷ (r .body ≡ Nothing → ⊥) or Category
+    ∷ (r .body ≡ NoCategory → ⊥) or Category
     ∷ Tidy r or Unused
     ∷ []
 

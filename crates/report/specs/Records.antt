@@ -7,7 +7,7 @@ use lib.Dec.{eqb}
 use Rattle.bits.specs.Frame.{fieldOf}
 use Rattle.report.specs.declared.record.Common.{Common}
 use Rattle.report.specs.declared.record.Body.{Body}
-use Rattle.report.specs.declared.record.Body.the-variants.{Nothing, Hypocenter, Intensity, Nankai, AshFall}
+use Rattle.report.specs.declared.record.Body.the-variants.{NoCategory, Hypocenter, Intensity, Nankai, AshFall}
 use Rattle.report.specs.declared.record.Record.{Record}
 use Rattle.rows.specs.Layout.{common, slotCount}
 use Rattle.report.specs.Layout.{layout}
@@ -34,14 +34,14 @@ commonOf s = record {
 unfoldable pub bodyBy : List ℕ → ℕ → Body
 bodyBy s dc =
     cond (eqb dc 2) (Hypocenter (quakeOf s))
-    (cond (eqb dc 3) (Intensity (shakingOf s)) (cond (eqb dc 4) (Nankai (numbersOf s)) (cond (eqb dc 9) (AshFall (eruptionOf s)) Nothing)))
+    (cond (eqb dc 3) (Intensity (shakingOf s)) (cond (eqb dc 4) (Nankai (numbersOf s)) (cond (eqb dc 9) (AshFall (eruptionOf s)) NoCategory)))
 
 abbrev pub bodyOf : List ℕ → Body
 bodyOf s = bodyBy s (fieldOf s 17 4)
 
 unfoldable pub textOf : List ℕ → Body → List ℕ
 textOf s (Nankai p) = pageText s
-textOf s Nothing = replicate 18 0
+textOf s NoCategory = replicate 18 0
 textOf s (Hypocenter q) = replicate 18 0
 textOf s (Intensity t) = replicate 18 0
 textOf s (AshFall e) = replicate 18 0
@@ -65,7 +65,7 @@ zeros = record {
   preamble = 0;
   reserved = 0;
   common = record { rc = 0; month = 0; day = 0; hour = 0; minute = 0; it = 0 };
-  body = Nothing;
+  body = NoCategory;
   slots = replicate 16 noSlot;
   text = replicate 18 0;
 }
@@ -79,7 +79,7 @@ headValues c dc spare =
     43 ∷ c .rc ∷ dc ∷ c .month ∷ c .day ∷ c .hour ∷ c .minute ∷ c .it ∷ spare ∷ []
 
 unfoldable pub bodyValues : Body → List ℕ → List ℕ
-bodyValues Nothing text = []
+bodyValues NoCategory text = []
 bodyValues (Hypocenter q) text = quakeValues q
 bodyValues (Intensity t) text = shakingValues t
 bodyValues (Nankai p) text = pageValues p text

@@ -4,8 +4,8 @@ use mathlib.Core.Path.{_≡_}
 use mathlib.Core.List.{List}
 use lib.ListN.{getD}
 use Rattle.report.specs.declared.record.Body.{Body}
-use Rattle.report.specs.declared.record.Body.the-variants.{Nothing, Hypocenter, Intensity, Nankai, AshFall}
-use Rattle.rows.specs.declared.slot.SlotKind.the-variants.{Nothing as NoSlots}
+use Rattle.report.specs.declared.record.Body.the-variants.{NoCategory, Hypocenter, Intensity, Nankai, AshFall}
+use Rattle.rows.specs.declared.slot.SlotKind.the-variants.{NoSlots}
 use Rattle.report.specs.declared.record.Record.{Record}
 use Rattle.rows.specs.Layout.{slotCount}
 use Rattle.report.specs.Layout.{layout, preambles}
@@ -16,7 +16,7 @@ use Rattle.rows.specs.Kept.{In, Empty, Holds}
 -- text stands in category 4 alone
 abbrev pub TextUnused : Body → List ℕ → Type 0
 TextUnused (Nankai p) text = Unit
-TextUnused Nothing text = Empty text
+TextUnused NoCategory text = Empty text
 TextUnused (Hypocenter q) text = Empty text
 TextUnused (Intensity t) text = Empty text
 TextUnused (AshFall e) text = Empty text
@@ -29,7 +29,7 @@ pub record Tidy (r : Record) : Type 0 where
 
 pub record KeepsRules (r : Record) : Type 0 where
   pub preamble : In preambles (r .preamble)
-  pub category : r .body ≡ Nothing → ⊥
+  pub category : r .body ≡ NoCategory → ⊥
   pub slots : (i : ℕ) → i < slotCount (layout (r .body) .slots) → Empty (unused (layout (r .body) .slots) (getD (r .slots) i noSlot))
   pub others : (i : ℕ) → slotCount (layout (r .body) .slots) ≤ i → Empty (unused NoSlots (getD (r .slots) i noSlot))
   pub text : TextUnused (r .body) (r .text)

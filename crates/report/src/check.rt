@@ -22,7 +22,7 @@ fn body(found: Verdict, b: Body) -> Verdict
     ensures { λ r. ⌜ r ≡ found then bodyVerdict b ⌝ }
 {
     match b {
-        Body::Nothing => found,
+        Body::NoCategory => found,
         Body::Hypocenter(q) => q.check(found),
         Body::Intensity(s) => s.check(found),
         Body::Nankai(p) => p.check(found),

@@ -33,7 +33,7 @@ fn body_of(f: [u8; 32]) -> Body
         3 => Body::Intensity(Shaking::of(f)),
         4 => Body::Nankai(PageNumbers::of(f)),
         9 => Body::AshFall(Eruption::of(f)),
-        _ => Body::Nothing,
+        _ => Body::NoCategory,
     }
 }
 
@@ -41,7 +41,7 @@ fn text_of(f: [u8; 32], body: Body) -> [u8; 18]
     ensures { λ r. ⌜ r ≡ textOf f body ⌝ }
 {
     match body {
-        Body::Nothing => [0u8; 18],
+        Body::NoCategory => [0u8; 18],
         Body::Hypocenter(_) => [0u8; 18],
         Body::Intensity(_) => [0u8; 18],
         Body::Nankai(_) => nankai::page_text(f),

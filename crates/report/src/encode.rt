@@ -33,7 +33,7 @@ fn lay_body(f: [u8; 32], b: Body, text: [u8; 18]) -> [u8; 32]
     ensures { λ r. ⌜ r ≡ laid f 53 (widths (layout b .body)) (bodyValues b text) ⌝ }
 {
     match b {
-        Body::Nothing => f,
+        Body::NoCategory => f,
         Body::Hypocenter(q) => q.lay(f),
         Body::Intensity(s) => s.lay(f),
         Body::Nankai(p) => p.lay(f, text),

@@ -25,10 +25,10 @@ pub struct Common {
     pub it: u8,
 }
 
-// What the category of a record has beside slots and text. `Nothing` is no category: the record of
+// What the category of a record has beside slots and text. `NoCategory` is none: the record of
 // zeros has it.
 pub enum Body {
-    Nothing,
+    NoCategory,
     Hypocenter(Quake),
     Intensity(Shaking),
     Nankai(PageNumbers),
@@ -51,10 +51,10 @@ impl Body {
         ensures { λ r. ⌜ r ≡ layout self .slots ⌝ }
     {
         match self {
-            Body::Nothing => SlotKind::Nothing,
-            Body::Hypocenter(_) => SlotKind::Nothing,
+            Body::NoCategory => SlotKind::NoSlots,
+            Body::Hypocenter(_) => SlotKind::NoSlots,
             Body::Intensity(_) => SlotKind::Prefectures,
-            Body::Nankai(_) => SlotKind::Nothing,
+            Body::Nankai(_) => SlotKind::NoSlots,
             Body::AshFall(_) => SlotKind::Places,
         }
     }
@@ -64,7 +64,7 @@ impl Body {
         ensures { λ r. ⌜ r ≡ layout self .code ⌝ }
     {
         match self {
-            Body::Nothing => 0,
+            Body::NoCategory => 0,
             Body::Hypocenter(_) => 2,
             Body::Intensity(_) => 3,
             Body::Nankai(_) => 4,
@@ -77,7 +77,7 @@ impl Body {
         ensures { λ r. ⌜ r ≡ known self ⌝ }
     {
         match self {
-            Body::Nothing => false,
+            Body::NoCategory => false,
             Body::Hypocenter(_) => true,
             Body::Intensity(_) => true,
             Body::Nankai(_) => true,
@@ -90,7 +90,7 @@ impl Body {
         ensures { λ r. ⌜ r ≡ allowed (layout self .types) v ⌝ }
     {
         match self {
-            Body::Nothing => is_uncorrected(v),
+            Body::NoCategory => is_uncorrected(v),
             Body::Hypocenter(_) => is_uncorrected(v),
             Body::Intensity(_) => is_uncorrected(v),
             Body::Nankai(_) => is_uncorrected(v),
@@ -103,7 +103,7 @@ impl Body {
         ensures { λ r. ⌜ r ≡ layout self .spareFirst ⌝ }
     {
         match self {
-            Body::Nothing => 53,
+            Body::NoCategory => 53,
             Body::Hypocenter(_) => 163,
             Body::Intensity(_) => 213,
             Body::Nankai(_) => 213,
@@ -134,7 +134,7 @@ impl Record {
             preamble: 0,
             reserved: 0,
             common: common,
-            body: Body::Nothing,
+            body: Body::NoCategory,
             slots: [none; 16],
             text: [0u8; 18],
         }

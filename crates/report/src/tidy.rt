@@ -23,7 +23,7 @@ fn has_tidy_text(b: Body, text: [u8; 18]) -> bool
     ensures { λ r. ⌜ r ≡ tidyText b text ⌝ }
 {
     match b {
-        Body::Nothing => is_blank(text),
+        Body::NoCategory => is_blank(text),
         Body::Hypocenter(_) => is_blank(text),
         Body::Intensity(_) => is_blank(text),
         Body::Nankai(_) => true,

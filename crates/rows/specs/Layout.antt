@@ -5,7 +5,7 @@ use mathlib.Core.Bool.{Bool, true, _&&_}
 use mathlib.Core.List.{List, [], _∷_, _++_}
 use lib.Dec.{eqb, ltb}
 use Rattle.rows.specs.declared.slot.SlotKind.{SlotKind}
-use Rattle.rows.specs.declared.slot.SlotKind.the-variants.{Nothing as NoSlots, Prefectures, Places}
+use Rattle.rows.specs.declared.slot.SlotKind.the-variants.{NoSlots, Prefectures, Places}
 
 -- from one number to another, both included
 infixl 70 _to_
@@ -90,8 +90,8 @@ bytes (suc n) a = row a 8 (within 0 255) ∷ bytes n (a + 8)
 
 -- ---- no category: all spare
 
-abbrev pub nothing : Layout
-nothing = record { code = 0; types = uncorrected; body = []; slots = NoSlots; spareFirst = 53; spareWidth = 161 }
+abbrev pub noCategory : Layout
+noCategory = record { code = 0; types = uncorrected; body = []; slots = NoSlots; spareFirst = 53; spareWidth = 161 }
 
 -- ---- slots: "Sixteen slots from 69, 9 bits each"; "Four slots from 83, 29 bits each"
 

@@ -4,23 +4,23 @@ ghost use mathlib.Core.Path.{_≡_};
 ghost use Rattle.rows.specs.Runs.Questions.{_then_};
 
 pub enum Refusal {
-    Length,
-    Padding,
-    Preamble,
-    Parity,
-    Message,
-    Version,
-    Category,
-    Range(u8),
-    Spare(u8),
-    Gap(u8),
-    Unused,
-    NoPage,
-    OtherBulletin,
-    Unsound,
-    NotHeld { page: u8, mark: u8 },
-    Short,
-    Line,
+    Length, // 1
+    Padding, // 2
+    Preamble, // 3
+    Parity, // 4
+    Message, // 5
+    Version, // 6
+    Category, // 7
+    Range(u8), // 8
+    Spare(u8), // 9
+    Gap(u8), // 10
+    Unused, // 11
+    NoPage, // 12
+    OtherBulletin, // 13
+    Unsound, // 14
+    NotHeld { page: u8, mark: u8 }, // 15
+    Short, // 16
+    Line, // 17
 }
 
 // What has been found so far: nothing to refuse, or the first thing.

@@ -5,7 +5,7 @@ ghost use lib.Dec.{ltb};
 ghost use Rattle.rows.specs.Layout.{slotCount, slotFirst, slotBits};
 
 pub enum SlotKind {
-    Nothing,
+    NoSlots,
     Prefectures,
     Places,
 }
@@ -16,7 +16,7 @@ impl SlotKind {
         ensures { λ r. ⌜ r ≡ slotCount self ⌝ }
     {
         match self {
-            SlotKind::Nothing => 0,
+            SlotKind::NoSlots => 0,
             SlotKind::Prefectures => 16,
             SlotKind::Places => 4,
         }
@@ -27,7 +27,7 @@ impl SlotKind {
         ensures { λ r. ⌜ r ≡ slotFirst self ⌝ }
     {
         match self {
-            SlotKind::Nothing => 0,
+            SlotKind::NoSlots => 0,
             SlotKind::Prefectures => 69,
             SlotKind::Places => 83,
         }
@@ -38,7 +38,7 @@ impl SlotKind {
         ensures { λ r. ⌜ r ≡ slotBits self ⌝ }
     {
         match self {
-            SlotKind::Nothing => 0,
+            SlotKind::NoSlots => 0,
             SlotKind::Prefectures => 9,
             SlotKind::Places => 29,
         }
@@ -46,11 +46,11 @@ impl SlotKind {
 
     // What slot i lists: past the category's slots, nothing.
     pub fn of_slot(self, i: usize) -> SlotKind
-        ensures { λ r. ⌜ r ≡ cond (ltb i (slotCount self)) self SlotKind.Nothing ⌝ }
+        ensures { λ r. ⌜ r ≡ cond (ltb i (slotCount self)) self SlotKind.NoSlots ⌝ }
     {
         if i < self.count() {
             return self;
         }
-        SlotKind::Nothing
+        SlotKind::NoSlots
     }
 }

@@ -1,4 +1,4 @@
--- Every public function of `ash_fall` is settled (specs/Settled.antt). Assumes nothing.
+-- Every public function of `ash_fall` is settled (specs/Settled.antt).
 use Rattle.ash_fall.proofs as ash_fall
 use Rattle.settled.specs.Settled.{Settled}
 use Rattle.settled.proofs.Law.{answer}

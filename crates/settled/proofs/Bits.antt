@@ -1,4 +1,4 @@
--- Every public function of `bits` is settled (specs/Settled.antt). Assumes nothing.
+-- Every public function of `bits` is settled (specs/Settled.antt).
 use Rattle.bits.proofs as bits
 use Rattle.settled.specs.Settled.{Settled}
 use Rattle.settled.proofs.Law.{answer, buffer, beside, second}

@@ -1,4 +1,4 @@
--- Every public function of `bulletin` is settled (specs/Settled.antt). Assumes nothing.
+-- Every public function of `bulletin` is settled (specs/Settled.antt).
 use mathlib.Core.Path.{refl}
 use base.Logic.{emp}
 use contract.Lifetimes.{Lfts}
@@ -27,8 +27,8 @@ Store-take-is-settled κs a x y = answer
 pub Store-merge-is-settled : Settled bulletin.store.Store.merge.ended bulletin.store.Store.merge.Reads.Post
 Store-merge-is-settled κs a x y = answer
 
-pub Store-report-is-settled : Settled bulletin.store.Store.report.ended bulletin.store.Store.report.Reads.Post
-Store-report-is-settled κs a x y = answer
+pub Store-count-is-settled : Settled bulletin.store.Store.count.ended bulletin.store.Store.count.Reads.Post
+Store-count-is-settled κs a x y = answer
 
 pub Store-text-is-settled : Settled bulletin.store.Store.text.ended bulletin.store.Store.text.Reads.Post
 Store-text-is-settled κs a x y = both second

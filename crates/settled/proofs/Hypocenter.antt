@@ -1,4 +1,4 @@
--- Every public function of `hypocenter` is settled (specs/Settled.antt). Assumes nothing.
+-- Every public function of `hypocenter` is settled (specs/Settled.antt).
 use Rattle.hypocenter.proofs as hypocenter
 use Rattle.settled.specs.Settled.{Settled}
 use Rattle.settled.proofs.Law.{answer}

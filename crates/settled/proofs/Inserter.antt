@@ -1,14 +1,14 @@
--- Every public function of `inserter` is settled (specs/Settled.antt). Assumes nothing.
+-- Every public function of `inserter` is settled (specs/Settled.antt).
 use Prim.Native.Nat.{ℕ}
 use mathlib.Core.Path.{_≡_}
 use mathlib.Core.List.{List}
-use Rattle.inserter.specs.Answers.{Left, left}
+use Rattle.inserter.specs.Answers.{CallResult, callResult}
 use Rattle.inserter.proofs as inserter
 use Rattle.settled.specs.Settled.{Settled}
 use Rattle.settled.proofs.Law.{answer, read-off, first, second}
 
 -- the contracts speak of the answer and the lent buffer as one value
-parts : {U : Type 0} (at : List ℕ → U) {x y : ℕ} {b c : List ℕ} {z : Left} → left x b ≡ z → left y c ≡ z → _≡_ {A = ℕ × U} (x, at b) (y, at c)
+parts : {U : Type 0} (at : List ℕ → U) {x y : ℕ} {b c : List ℕ} {z : CallResult} → callResult x b ≡ z → callResult y c ≡ z → _≡_ {A = ℕ × U} (x, at b) (y, at c)
 parts at = read-off (λ l. (l .answer, at (l .buffer)))
 
 pub lz-parity-is-settled : Settled inserter.frames.lz_parity.ended inserter.frames.lz_parity.Reads.Post
@@ -35,8 +35,8 @@ lz-take-is-settled κs a x y = parts first
 pub lz-merge-is-settled : Settled inserter.stores.lz_merge.ended inserter.stores.lz_merge.Reads.Post
 lz-merge-is-settled κs a x y = parts first
 
-pub lz-report-is-settled : Settled inserter.stores.lz_report.ended inserter.stores.lz_report.Reads.Post
-lz-report-is-settled κs a x y = parts second
+pub lz-count-is-settled : Settled inserter.stores.lz_count.ended inserter.stores.lz_count.Reads.Post
+lz-count-is-settled κs a x y = parts second
 
 pub lz-text-is-settled : Settled inserter.stores.lz_text.ended inserter.stores.lz_text.Reads.Post
 lz-text-is-settled κs a x y = parts second

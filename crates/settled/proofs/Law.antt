@@ -1,4 +1,4 @@
--- An equation allows one outcome. There is a law for each form that the contracts have, so that a theorem is one line. Assumes nothing.
+-- An equation allows one outcome. There is a law for each form that the contracts have, so that a theorem is one line.
 use mathlib.Core.Path.{_≡_, ap, sym, _∙_}
 
 -- ---- the one law: two values that equal a third have the same outcome

@@ -1,10 +1,10 @@
--- Every public function of `listing` is settled (specs/Settled.antt). Assumes nothing.
+-- Every public function of `listing` is settled (specs/Settled.antt).
 use Prim.Native.Nat.{ℕ}
 use mathlib.Core.Path.{_≡_}
 use mathlib.Core.List.{List}
 use Rattle.listing.specs.declared.scan.Step.{Step}
 use Rattle.listing.specs.Rows.{Filled, filled}
-use Rattle.listing.specs.Scanning.{Left, left}
+use Rattle.listing.specs.Scanning.{AfterScan, afterScan}
 use Rattle.listing.proofs as listing
 use Rattle.settled.specs.Settled.{Settled}
 use Rattle.settled.proofs.Law.{answer, read-off, beside, only, second, third}
@@ -13,7 +13,7 @@ use Rattle.settled.proofs.Law.{answer, read-off, beside, only, second, 
 length-and-buffer : {U : Type 0} (at : List ℕ → U) {x y : ℕ} {b c : List ℕ} {z : Filled} → filled x b ≡ z → filled y c ≡ z → _≡_ {A = ℕ × U} (x, at b) (y, at c)
 length-and-buffer at = read-off (λ l. (l .written, at (l .buffer)))
 
-step-and-buffer : {U : Type 0} (at : List ℕ → U) {x y : Step} {b c : List ℕ} {z : Left} → left x b ≡ z → left y c ≡ z → _≡_ {A = Step × U} (x, at b) (y, at c)
+step-and-buffer : {U : Type 0} (at : List ℕ → U) {x y : Step} {b c : List ℕ} {z : AfterScan} → afterScan x b ≡ z → afterScan y c ≡ z → _≡_ {A = Step × U} (x, at b) (y, at c)
 step-and-buffer at = read-off (λ l. (l .step, at (l .buffer)))
 
 pub Row-of-is-settled : Settled listing.row.Row.of.ended listing.row.Row.of.Reads.Post

@@ -1,4 +1,4 @@
--- Every public function of `pages` is settled (specs/Settled.antt). Assumes nothing.
+-- Every public function of `pages` is settled (specs/Settled.antt).
 use Rattle.pages.proofs as pages
 use Rattle.settled.specs.Settled.{Settled}
 use Rattle.settled.proofs.Law.{answer}

@@ -1,4 +1,4 @@
--- Every public function of `record_bytes` is settled (specs/Settled.antt). Assumes nothing.
+-- Every public function of `record_bytes` is settled (specs/Settled.antt).
 use Rattle.record_bytes.proofs as «record_bytes»
 use Rattle.settled.specs.Settled.{Settled}
 use Rattle.settled.proofs.Law.{answer, buffer, second}

@@ -1,4 +1,4 @@
--- Every public function of `report` is settled (specs/Settled.antt). Assumes nothing.
+-- Every public function of `report` is settled (specs/Settled.antt).
 use Rattle.report.proofs as report
 use Rattle.settled.specs.Settled.{Settled}
 use Rattle.settled.proofs.Law.{answer, both, second}

@@ -1,4 +1,4 @@
--- Every public function of `rows` is settled (specs/Settled.antt). Assumes nothing.
+-- Every public function of `rows` is settled (specs/Settled.antt).
 use Rattle.rows.proofs as rows
 use Rattle.settled.specs.Settled.{Settled}
 use Rattle.settled.proofs.Law.{answer}

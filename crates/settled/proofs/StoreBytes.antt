@@ -1,4 +1,4 @@
--- Every public function of `store_bytes` is settled (specs/Settled.antt). Assumes nothing.
+-- Every public function of `store_bytes` is settled (specs/Settled.antt).
 use Rattle.store_bytes.proofs as store_bytes
 use Rattle.settled.specs.Settled.{Settled}
 use Rattle.settled.proofs.Law.{answer, buffer, second}

@@ -11,7 +11,7 @@ use Rattle.bits.specs.Frame.{laid}
 use Rattle.bits.proofs.Laid.{laid-append}
 use Rattle.slots.specs.declared.slot.Slot.{Slot}
 use Rattle.rows.specs.declared.slot.SlotKind.{SlotKind}
-use Rattle.rows.specs.declared.slot.SlotKind.the-variants.{Nothing as NoSlots, Prefectures, Places}
+use Rattle.rows.specs.declared.slot.SlotKind.the-variants.{NoSlots, Prefectures, Places}
 use Rattle.rows.specs.Layout.{slotBits, slotRows, slotsRows}
 use Rattle.slots.specs.Slots.{noSlot, slotValues}
 use Rattle.rows.specs.Values.{widths, joined}

@@ -6,7 +6,7 @@ use lib.ListN.{length, take, length-map}
 use lib.Seq.{length-take-le}
 use Rattle.slots.specs.declared.slot.Slot.{Slot}
 use Rattle.rows.specs.declared.slot.SlotKind.{SlotKind}
-use Rattle.rows.specs.declared.slot.SlotKind.the-variants.{Nothing as NoSlots, Prefectures, Places}
+use Rattle.rows.specs.declared.slot.SlotKind.the-variants.{NoSlots, Prefectures, Places}
 use Rattle.rows.specs.Layout.{slotCount, slotBits, slotRows}
 use Rattle.slots.specs.Slots.{slotValues, slotsOf}
 use Rattle.slots.proofs.SlotLoop.{at-most-sixteen}

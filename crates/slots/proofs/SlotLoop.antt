@@ -10,7 +10,7 @@ use lib.Seq.{drop-cons, getD-take}
 use Rattle.rows.specs.declared.refusal.Verdict.{Verdict}
 use Rattle.slots.specs.declared.slot.Slot.{Slot}
 use Rattle.rows.specs.declared.slot.SlotKind.{SlotKind}
-use Rattle.rows.specs.declared.slot.SlotKind.the-variants.{Nothing, Prefectures, Places}
+use Rattle.rows.specs.declared.slot.SlotKind.the-variants.{NoSlots, Prefectures, Places}
 use Rattle.slots.specs.declared.check.Run.{Run}
 use Rattle.rows.specs.Runs.Questions.{_then_}
 use Rattle.rows.specs.Layout.{slotCount, slotFirst, slotBits, slotRows}
@@ -22,32 +22,32 @@ use Rattle.rows.proofs.Rules.Outcomes.{then-assoc, then-fine}
 -- ---- where a slot stands
 
 pub at-most-sixteen : (k : SlotKind) → slotCount k ≤ 16
-at-most-sixteen Nothing = omega arith
+at-most-sixteen NoSlots = omega arith
 at-most-sixteen Prefectures = omega arith
 at-most-sixteen Places = omega arith
 
 pub slot-place : (k : SlotKind) (i : ℕ) → i < slotCount k → slotFirst k + slotBits k * i ≤ 204
-slot-place Nothing i h = omega arith
+slot-place NoSlots i h = omega arith
 slot-place Prefectures i h = omega arith
 slot-place Places i h = omega arith
 
 pub first-place : (k : SlotKind) → slotFirst k ≤ 204
-first-place Nothing = omega arith
+first-place NoSlots = omega arith
 first-place Prefectures = omega arith
 first-place Places = omega arith
 
 pub start-place : (k : SlotKind) (at : ℕ) → at ≡ slotFirst k → at ≡ slotFirst k + slotBits k * 0
-start-place Nothing at e = omega arith
+start-place NoSlots at e = omega arith
 start-place Prefectures at e = omega arith
 start-place Places at e = omega arith
 
 pub next-place : (k : SlotKind) (i at : ℕ) → 1 ≤ i → at ≡ slotFirst k + slotBits k * (i - 1) → at + slotBits k ≡ slotFirst k + slotBits k * i
-next-place Nothing i at h e = omega arith
+next-place NoSlots i at h e = omega arith
 next-place Prefectures i at h e = omega arith
 next-place Places i at h e = omega arith
 
 pub more-place : (k : SlotKind) (i at : ℕ) → at ≡ slotFirst k + slotBits k * i → at + slotBits k ≡ slotFirst k + slotBits k * (i + 1)
-more-place Nothing i at e = omega arith
+more-place NoSlots i at e = omega arith
 more-place Prefectures i at e = omega arith
 more-place Places i at e = omega arith
 

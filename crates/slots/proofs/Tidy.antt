@@ -8,7 +8,7 @@ use mathlib.Core.List.{List, [], _∷_}
 use lib.ListN.{getD}
 use Rattle.slots.specs.declared.slot.Slot.{Slot}
 use Rattle.rows.specs.declared.slot.SlotKind.{SlotKind}
-use Rattle.rows.specs.declared.slot.SlotKind.the-variants.{Nothing as NoSlots, Prefectures, Places}
+use Rattle.rows.specs.declared.slot.SlotKind.the-variants.{NoSlots, Prefectures, Places}
 use Rattle.rows.specs.Layout.{slotCount}
 use Rattle.rows.specs.Runs.Verdict.{empty}
 use Rattle.slots.specs.Slots.{noSlot, slotsOf, unused, tidySlots}

@@ -11,7 +11,7 @@ use lib.ListN.{length, getD, take, drop, length-map, drop-of-length-le}
 use Rattle.slots.specs.declared.slot.Slot.{Slot}
 use borrow.Author.Tests.{ne-eqb}
 use Rattle.rows.specs.declared.slot.SlotKind.{SlotKind}
-use Rattle.rows.specs.declared.slot.SlotKind.the-variants.{Nothing, Prefectures, Places}
+use Rattle.rows.specs.declared.slot.SlotKind.the-variants.{NoSlots, Prefectures, Places}
 use Rattle.rows.specs.Layout.{_to_, slotCount, slotFirst, slotBits, slotRows}
 use Rattle.rows.specs.Runs.Verdict.{empty}
 use Rattle.rows.specs.Values.{each, cut}
@@ -104,7 +104,7 @@ slotsIn s k = each (slotCount k) (λ i. map (cut s) (slotRows k (slotFirst k + s
 
 pub behind-used : (s : List ℕ) (k : SlotKind) → SlotsKept k (slotsIn s k) → (i : ℕ) → usedAmong (slotsIn s k) ≤ i → i < slotCount k
     → empty (getD (slotsIn s k) i []) ≡ true
-behind-used s Nothing h i u l = absurd (not-suc-le-zero l)
+behind-used s NoSlots h i u l = absurd (not-suc-le-zero l)
 behind-used s Prefectures h zero u l = absurd (not-suc-le-zero (rw (first-counted _ _ (starts _ _ (lowest 1 7 _ (h .0 .0)))) at u))
 behind-used s Prefectures h (suc i) u l =
     later-empty Prefectures 78 _ (h .1) i (le-of-suc-le-suc (rw (first-counted _ _ (starts _ _ (lowest 1 7 _ (h .0 .0)))) at u)) (le-of-suc-le-suc l)

@@ -6,7 +6,7 @@ use lib.ListN.{replicate}
 use Rattle.bits.specs.Frame.{fieldOf}
 use Rattle.slots.specs.declared.slot.Slot.{Slot}
 use Rattle.rows.specs.declared.slot.SlotKind.{SlotKind}
-use Rattle.rows.specs.declared.slot.SlotKind.the-variants.{Nothing as NoSlots, Prefectures, Places}
+use Rattle.rows.specs.declared.slot.SlotKind.the-variants.{NoSlots, Prefectures, Places}
 use Rattle.rows.specs.Layout.{slotCount, slotFirst, slotBits}
 use Rattle.rows.specs.Runs.Verdict.{empty}
 use Rattle.rows.specs.Values.{each}

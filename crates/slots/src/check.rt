@@ -19,7 +19,7 @@ fn check_slot(found: Verdict, kind: SlotKind, at: u8, s: Slot) -> Verdict
     ensures { λ r. ⌜ r ≡ found then walk 0 (slotRows kind at) (slotValues kind s) ⌝ }
 {
     match kind {
-        SlotKind::Nothing => found,
+        SlotKind::NoSlots => found,
         SlotKind::Prefectures => found
             .within(at, s.strength as u32, 1, 7)
             .within(at + 3, s.place, 1, 47),

@@ -10,7 +10,7 @@ fn slot_at(f: [u8; 32], kind: SlotKind, at: usize) -> Slot
     ensures { λ r. ⌜ r ≡ slotOf kind f at ⌝ }
 {
     match kind {
-        SlotKind::Nothing => Slot {
+        SlotKind::NoSlots => Slot {
             hour: 0,
             strength: 0,
             place: 0,

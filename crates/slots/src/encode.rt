@@ -15,7 +15,7 @@ fn lay_slot(f: [u8; 32], kind: SlotKind, at: usize, s: Slot) -> [u8; 32]
     ensures { λ r. ⌜ r ≡ laid f at (widths (slotRows kind at)) (slotValues kind s) ⌝ }
 {
     match kind {
-        SlotKind::Nothing => f,
+        SlotKind::NoSlots => f,
         SlotKind::Prefectures => {
             let strength = bits::put(f, at, 3, s.strength as u64);
             bits::put(strength, at + 3, 6, s.place as u64)

@@ -18,7 +18,7 @@ impl Slot {
         ensures { λ r. ⌜ r ≡ empty (slotValues kind self) ⌝ }
     {
         match kind {
-            SlotKind::Nothing => true,
+            SlotKind::NoSlots => true,
             SlotKind::Prefectures => self.strength == 0 && self.place == 0,
             SlotKind::Places => {
                 if self.hour != 0 {
@@ -34,7 +34,7 @@ impl Slot {
         ensures { λ r. ⌜ r ≡ empty (unused kind self) ⌝ }
     {
         match kind {
-            SlotKind::Nothing => self.empty(SlotKind::Places),
+            SlotKind::NoSlots => self.empty(SlotKind::Places),
             SlotKind::Prefectures => self.hour == 0,
             SlotKind::Places => true,
         }

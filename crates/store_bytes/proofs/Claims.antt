@@ -1,11 +1,11 @@
--- What this crate claims of its definitions. Each is proved in the file that its last line names. Assumes nothing.
+-- What this crate claims of its definitions. Each is proved in the file that its last line names.
 use mathlib.Core.Path.{_≡_}
 use Prim.Native.Nat.{ℕ}
 use mathlib.Core.List.{List}
 use lib.ListN.{length}
 use Rattle.store_bytes.specs.Stores.{storeBytes, storeFrom}
 use Rattle.bulletin.specs.declared.store.Store.{Store}
-use Rattle.bulletin.proofs.Telling.Flat.{Eighteen}
+use Rattle.bulletin.proofs.Telling.PageBytes.{Eighteen}
 use Rattle.store_bytes.proofs.Pages as Pages
 use Rattle.store_bytes.proofs.RoundTrip as RoundTrip
 

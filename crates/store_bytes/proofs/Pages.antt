@@ -1,4 +1,4 @@
--- Pages one behind the other. Assumes nothing.
+-- Pages one behind the other.
 use mathlib.Core.Path.{_≡_, refl, sym, ap, _∙_}
 use Prim.Native.Nat.{ℕ, zero, suc, _+_, _*_, _<_, _≤_}
 use native.Mathlib.Omega.{arith}
@@ -10,7 +10,7 @@ use borrow.Author.Tests.{eq-eqb, ne-eqb}
 use Rattle.pages.specs.declared.page.Page.{Page}
 use Rattle.bulletin.specs.declared.store.Store.{Store}
 use Rattle.pages.specs.Pages.{noPage}
-use Rattle.bulletin.proofs.Telling.Flat.{Eighteen}
+use Rattle.bulletin.proofs.Telling.PageBytes.{Eighteen}
 use Rattle.store_bytes.specs.Stores.{nameBytes, pageBytes, pagesBytes, storeBytes, storeInto}
 use Rattle.record_bytes.specs.Writing.{Wrote}
 use Rattle.record_bytes.proofs.ToBytes.Chains.{behind, _then_, whole}

@@ -1,4 +1,4 @@
--- A store and its bytes, there and back. Assumes nothing.
+-- A store and its bytes, there and back.
 use mathlib.Core.Path.{_≡_, refl, sym, ap, _∙_}
 use Prim.Native.Nat.{ℕ, zero, suc, _+_, _*_, _≤_}
 use native.Mathlib.Omega.{arith}
@@ -10,7 +10,7 @@ use Rattle.pages.specs.declared.page.Page.{Page}
 use Rattle.bulletin.specs.declared.store.Store.{Store}
 use Rattle.store_bytes.specs.Stores.{nameBytes, pageBytes, pagesBytes, storeBytes, nameFrom, pageAt, pagesFrom, storeFrom}
 use Rattle.record_bytes.proofs.FromBytes.Places.{each-same, byte-behind}
-use Rattle.bulletin.proofs.Telling.Flat.{Eighteen}
+use Rattle.bulletin.proofs.Telling.PageBytes.{Eighteen}
 
 -- a page behind n bytes
 page-behind : (n : ℕ) (l : List ℕ) (j k : ℕ) → j ≡ n + k → pageAt l j ≡ pageAt (drop n l) k

@@ -68,8 +68,8 @@ abbrev pub storeFrom : List ℕ → Store
 storeFrom l = record { name = nameFrom l; pages = pagesFrom l }
 
 -- bytes of another length are a store of zeros, and a name of zeros
-unfoldable pub storeOf : List ℕ → Store
-storeOf l = cond (eqb (length l) 1205) (storeFrom l) zeroStore
+unfoldable pub storeOrZeros : List ℕ → Store
+storeOrZeros l = cond (eqb (length l) 1205) (storeFrom l) zeroStore
 
-unfoldable pub nameOf : List ℕ → Name
-nameOf l = cond (eqb (length l) 8) (nameFrom l) zeroName
+unfoldable pub nameOrZeros : List ℕ → Name
+nameOrZeros l = cond (eqb (length l) 8) (nameFrom l) zeroName

@@ -2,7 +2,7 @@
 ghost use mathlib.Core.Path.{_≡_};
 ghost use Prim.Native.Nat.{_+_, _≤_};
 ghost use lib.ListN.{length};
-ghost use Rattle.store_bytes.specs.Stores.{nameFrom, pageAt, pagesFrom, nameOf, storeOf};
+ghost use Rattle.store_bytes.specs.Stores.{nameFrom, pageAt, pagesFrom, nameOrZeros, storeOrZeros};
 use crate::sizes::NAME_SIZE;
 use crate::sizes::PAGE_SIZE;
 use crate::sizes::PAGES_AT;
@@ -60,7 +60,7 @@ fn name_of(bytes: &[u8]) -> Name
 // The store that 1205 lent bytes are, whatever they are. Bytes of another length are a store of zeros,
 // which is not sound.
 pub fn unpack_store(bytes: &[u8]) -> Store
-    ensures { λ r. ⌜ r ≡ storeOf (now (bytes .entry)) ⌝ }
+    ensures { λ r. ⌜ r ≡ storeOrZeros (now (bytes .entry)) ⌝ }
 {
     if bytes.len() != STORE_SIZE {
         return Store::of_zeros();
@@ -74,7 +74,7 @@ pub fn unpack_store(bytes: &[u8]) -> Store
 
 // The name that 8 lent bytes are. Bytes of another length are a name of zeros, which is out of range.
 pub fn unpack_name(bytes: &[u8]) -> Name
-    ensures { λ r. ⌜ r ≡ nameOf (now (bytes .entry)) ⌝ }
+    ensures { λ r. ⌜ r ≡ nameOrZeros (now (bytes .entry)) ⌝ }
 {
     if bytes.len() != NAME_SIZE {
         return Name::of_zeros();

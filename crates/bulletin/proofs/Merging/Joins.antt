@@ -1,4 +1,4 @@
--- Lists of pages joined page by page. Assumes nothing.
+-- Lists of pages joined page by page.
 use mathlib.Core.Path.{_≡_, refl, ap, sym, _∙_}
 use mathlib.Core.List.{List, [], _∷_}
 use Prim.Native.Nat.{ℕ, suc, zero, _+_, _<_, _≤_}

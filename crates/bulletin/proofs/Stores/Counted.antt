@@ -1,4 +1,4 @@
--- One turn of the loops that count and search the pages of a store, as laws of lists. Assumes nothing.
+-- One turn of the loops that count and search the pages of a store, as laws of lists.
 use mathlib.Core.Path.{_≡_, refl}
 use mathlib.Core.Bool.{Bool, true, false, cond}
 use mathlib.Core.List.{List, [], _∷_}
@@ -11,47 +11,47 @@ use lib.Seq.{drop-cons}
 use Rattle.pages.specs.declared.page.Page.{Page}
 use borrow.Author.Tests.{eq-eqb, ne-eqb, lt-ltb, le-ltb}
 use Rattle.pages.specs.Pages.{noPage}
-use Rattle.bulletin.specs.Counts.{marked, lowest}
+use Rattle.bulletin.specs.Counts.{countMarked, lowestNotHeld}
 
 -- ---- counts
 
-pub marked-here : (k : ℕ) (l : List Page) (i : ℕ) → i < length l → getD l i noPage .mark ≡ k → marked k (drop i l) ≡ suc (marked k (drop (i + 1) l))
-unfolding marked
+pub marked-here : (k : ℕ) (l : List Page) (i : ℕ) → i < length l → getD l i noPage .mark ≡ k → countMarked k (drop i l) ≡ suc (countMarked k (drop (i + 1) l))
+unfolding countMarked
 marked-here k l i h e = rw (add-one, drop-cons l i noPage, eq-eqb _ _ e)
 
-pub marked-not : (k : ℕ) (l : List Page) (i : ℕ) → i < length l → (getD l i noPage .mark ≡ k → ⊥) → marked k (drop i l) ≡ marked k (drop (i + 1) l)
-unfolding marked
+pub marked-not : (k : ℕ) (l : List Page) (i : ℕ) → i < length l → (getD l i noPage .mark ≡ k → ⊥) → countMarked k (drop i l) ≡ countMarked k (drop (i + 1) l)
+unfolding countMarked
 marked-not k l i h e = rw (add-one, drop-cons l i noPage, ne-eqb _ _ e)
 
-pub marked-end : (k : ℕ) (l : List Page) (i : ℕ) → length l ≤ i → marked k (drop i l) ≡ 0
-unfolding marked
+pub marked-end : (k : ℕ) (l : List Page) (i : ℕ) → length l ≤ i → countMarked k (drop i l) ≡ 0
+unfolding countMarked
 marked-end k l i h = rw (drop-of-length-le l h)
 
 -- ---- the lowest page that is not held
 
-pub lowest-past : (t : ℕ) (l : List Page) (i : ℕ) → t ≤ i → lowest t i l ≡ 0
-unfolding lowest
+pub lowest-past : (t : ℕ) (l : List Page) (i : ℕ) → t ≤ i → lowestNotHeld t i l ≡ 0
+unfolding lowestNotHeld
 lowest-past t [] i h = refl
 lowest-past t (p ∷ l) i h = rw (le-ltb i t h)
 
-pub lowest-more : (t : ℕ) (l : List Page) (i : ℕ) → i < t → i < length l → getD l i noPage .mark ≡ 1 → lowest t i (drop i l) ≡ lowest t (i + 1) (drop (i + 1) l)
-unfolding lowest
+pub lowest-more : (t : ℕ) (l : List Page) (i : ℕ) → i < t → i < length l → getD l i noPage .mark ≡ 1 → lowestNotHeld t i (drop i l) ≡ lowestNotHeld t (i + 1) (drop (i + 1) l)
+unfolding lowestNotHeld
 lowest-more t l i h k e = rw (add-one, drop-cons l i noPage, lt-ltb i t h, eq-eqb _ _ e)
 
-pub lowest-here : (t : ℕ) (l : List Page) (i : ℕ) → i < t → i < length l → (getD l i noPage .mark ≡ 1 → ⊥) → lowest t i (drop i l) ≡ i + 1
-unfolding lowest
+pub lowest-here : (t : ℕ) (l : List Page) (i : ℕ) → i < t → i < length l → (getD l i noPage .mark ≡ 1 → ⊥) → lowestNotHeld t i (drop i l) ≡ i + 1
+unfolding lowestNotHeld
 lowest-here t l i h k e = rw (add-one, drop-cons l i noPage, lt-ltb i t h, ne-eqb _ _ e)
 
-pub lowest-end : (t : ℕ) (l : List Page) (i : ℕ) → length l ≤ i → lowest t i (drop i l) ≡ 0
-unfolding lowest
+pub lowest-end : (t : ℕ) (l : List Page) (i : ℕ) → length l ≤ i → lowestNotHeld t i (drop i l) ≡ 0
+unfolding lowestNotHeld
 lowest-end t l i h = rw (drop-of-length-le l h)
 
-pub lowest-most : (t : ℕ) (l : List Page) (i : ℕ) → lowest t i l ≤ i + length l
-unfolding lowest
+pub lowest-most : (t : ℕ) (l : List Page) (i : ℕ) → lowestNotHeld t i l ≤ i + length l
+unfolding lowestNotHeld
 lowest-most t [] i = omega arith
 lowest-most t (p ∷ l) i = by (ltb i t) (eqb (p .mark) 1) (lowest-most t l (suc i))
   where
-    by : (a b : Bool) → lowest t (suc i) l ≤ suc i + length l → cond a (cond b (lowest t (suc i) l) (suc i)) 0 ≤ i + suc (length l)
+    by : (a b : Bool) → lowestNotHeld t (suc i) l ≤ suc i + length l → cond a (cond b (lowestNotHeld t (suc i) l) (suc i)) 0 ≤ i + suc (length l)
     by true true h = omega arith
     by true false h = omega arith
     by false b h = omega arith

@@ -1,4 +1,4 @@
--- One turn of the loop that tests the pages of a store, as laws of lists; and what passing the test tells. Assumes nothing.
+-- One turn of the loop that tests the pages of a store, as laws of lists; and what passing the test tells.
 use mathlib.Core.Path.{_≡_, refl}
 use mathlib.Core.Bool.{Bool, true, false, cond}
 use mathlib.Core.List.{List}

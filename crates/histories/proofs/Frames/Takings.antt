@@ -1,4 +1,4 @@
--- What a store stands for after takings: the marks of the texts that came. Assumes nothing.
+-- What a store stands for after takings: the marks of the texts that came.
 use mathlib.Core.Path.{_≡_, refl, ap, sym, _∙_, subst}
 use mathlib.Core.Bool.{Bool, true, false, cond}
 use mathlib.Core.List.{List, [], _∷_}
@@ -16,17 +16,17 @@ use Rattle.bulletin.specs.declared.store.Store.{Store}
 use Rattle.bulletin.specs.declared.store.Opening.{Opening}
 use Rattle.bulletin.specs.declared.take.Taking.{Taking}
 use Rattle.pages.specs.Pages.{noPage, join, heldPage}
-use Rattle.bulletin.specs.Stores.{noPages, openOf, at}
+use Rattle.bulletin.specs.Stores.{noPages, openOf, pageBehind}
 use Rattle.bulletin.specs.Takings.{putPage, takeOf}
-use Rattle.bulletin.proofs.Taking.Decided.{taken-or-refused}
+use Rattle.bulletin.proofs.Taking.TakenOrRefused.{taken-or-refused}
 use Rattle.bulletin.proofs.Claims.{every-name-in-range-is-opened}
-use Rattle.pages.proofs.Marks.{Text, Mark, absent, held, toPage, joinM, join-to, joinM-none, joinM-assoc, markOf, markOf-append}
+use Rattle.pages.proofs.States.{Text, Mark, absent, held, toPage, joinM, join-to, joinM-none, joinM-assoc, markOf, markOf-append}
 use Rattle.histories.specs.Soundness.{InRange}
-use Rattle.histories.specs.Frames.{Frame, takes, after, Brings}
+use Rattle.histories.specs.Frames.{Frame, takes, storeAfter, Brings}
 use Rattle.histories.proofs.Soundness.NameRanges.{in-range-fine}
 use Rattle.histories.proofs.Soundness.Tested.{sound-tested}
-use Rattle.histories.proofs.Frames.Standing.{Stands, stands-for, stands-sound, opened-stands}
-use Rattle.histories.proofs.Frames.Brought.{Page?, page?, broughtBy, brought, texts, admits-brings, brings-taken, brings-page}
+use Rattle.histories.proofs.Frames.StoreStates.{Stands, stands-for, stands-sound, opened-stands}
+use Rattle.histories.proofs.Frames.TextsBrought.{Page?, page?, broughtBy, brought, texts, admits-brings, brings-taken, brings-page}
 
 -- ---- one page is put
 
@@ -41,13 +41,13 @@ put-stands s n m k t p low high most = record {
 }
   where
     after-put : List Page
-    after-put = set (s .pages) (k - 1) (join (at s (k - 1)) (heldPage t))
+    after-put = set (s .pages) (k - 1) (join (pageBehind s (k - 1)) (heldPage t))
 
     by : (i : ℕ) → i < 63 → (b : Bool) → eqb k (suc i) ≡ b → getD after-put i noPage ≡ toPage (joinM (m i) (markOf (cond b (t ∷ []) [])))
     by i h true e =
         let same : k - 1 ≡ i = omega (arith, eqb-true k (suc i) e) in
-        ap (λ (j : ℕ). getD (set (s .pages) j (join (at s j) (heldPage t))) i noPage) same
-        ∙ getD-set-same (s .pages) i (join (at s i) (heldPage t)) noPage (omega (arith, p .long))
+        ap (λ (j : ℕ). getD (set (s .pages) j (join (pageBehind s j) (heldPage t))) i noPage) same
+        ∙ getD-set-same (s .pages) i (join (pageBehind s i) (heldPage t)) noPage (omega (arith, p .long))
         ∙ ap (λ (q : Page). join q (heldPage t)) (p .page i h)
         ∙ join-to (m i) (held t)
     by i h false e =
@@ -92,7 +92,7 @@ module _ (n : Name) (range : InRange n) where
   opened-empty = ap (λ (o : Opening). o .store) (every-name-in-range-is-opened n (in-range-fine n range))
 
   -- the page behind i others stands for the texts that the frames brought for it
-  pub after-stands : (fs : List Frame) → Stands (after n fs) n (λ i. markOf (texts n range (suc i) fs))
+  pub after-stands : (fs : List Frame) → Stands (storeAfter n fs) n (λ i. markOf (texts n range (suc i) fs))
   after-stands fs =
       subst (λ (s : Store). Stands (takes s fs) n (λ i. markOf (texts n range (suc i) fs))) (sym opened-empty)
       (takes-stands (noPages n) (λ i. absent) fs (opened-stands n))

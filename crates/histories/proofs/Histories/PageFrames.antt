@@ -1,4 +1,4 @@
--- For each page and each text there is a frame that brings it; and what a frame brings is 18 bytes. Assumes nothing.
+-- For each page and each text there is a frame that brings it; and what a frame brings is 18 bytes.
 use mathlib.Core.Path.{_≡_, refl, ap, sym, subst}
 use mathlib.Core.List.{List, [], _∷_, _++_}
 use mathlib.Core.Logic.{inl, ⊎-elim}
@@ -7,19 +7,19 @@ use native.Mathlib.Omega.{arith}
 use native.Mathlib.Nat.{suc-ne-zero, suc-inj}
 use lib.ListN.{length, getD, replicate, getD-replicate, List·getD-eq-default}
 use Rattle.report.specs.declared.record.Body.{Body}
-use Rattle.report.specs.declared.record.Body.the-variants.{Nothing}
+use Rattle.report.specs.declared.record.Body.the-variants.{NoCategory}
 use Rattle.slots.specs.declared.slot.Slot.{Slot}
 use Rattle.report.specs.declared.record.Record.{Record}
 use Rattle.rows.specs.Layout.{Row, bytes}
 use Rattle.report.specs.Layout.{layout}
-use Rattle.nankai.specs.Nankai.{page}
+use Rattle.nankai.specs.Nankai.{pageRows}
 use Rattle.slots.specs.Slots.{noSlot}
 use Rattle.report.specs.Records.{values, bodyValues}
 use Rattle.rows.specs.Kept.{Kept}
 use Rattle.report.specs.Rules.{KeepsRules}
 use Rattle.report.proofs.Claims.{valid-keeps-rules, keeping-rules-is-valid}
 use Rattle.pages.specs.declared.name.Name.{Name}
-use Rattle.pages.proofs.Marks.{Text}
+use Rattle.pages.proofs.States.{Text}
 use Rattle.pages.proofs.Texts.{below?}
 use Rattle.histories.specs.Soundness.{InRange}
 use Rattle.histories.specs.Frames.{Frame, Brings}
@@ -45,7 +45,7 @@ module _ (n : Name) (range : InRange n) (p : ℕ) (t : Text) (low : 1 ≤ p) (hi
     rows = page-holds 0x53 n p (replicate 16 noSlot) t range low high is;
   }
     where
-      no-nankai : recordOf n p t .body ≡ Nothing → ⊥
+      no-nankai : recordOf n p t .body ≡ NoCategory → ⊥
       no-nankai e = let z : _≡_ {A = ℕ} 0 1 = cc in apart z
         where
           apart : _≡_ {A = ℕ} 0 1 → ⊥
@@ -79,4 +79,4 @@ unfolding values bodyValues layout
 brings-bytes n f p t b =
     let r = f .came in
     let kept = subst (λ (x : Body). Kept 0 (layout x .body) (bodyValues x (r .text))) (b .body) (valid-keeps-rules r (record { slots = f .slots; text = f .text }) (b .valid) .rows .body) in
-    subst Bytes18 (b .text) (record { long = f .text; bytes = kept-bytes 18 57 (n .serial) (r .text) page (p ∷ n .total ∷ []) (f .text) (kept .1) })
+    subst Bytes18 (b .text) (record { long = f .text; bytes = kept-bytes 18 57 (n .serial) (r .text) pageRows (p ∷ n .total ∷ []) (f .text) (kept .1) })

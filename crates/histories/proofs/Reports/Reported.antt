@@ -1,4 +1,4 @@
--- What a store reports is told by the frames that it took. Assumes nothing.
+-- What a store reports is told by the frames that it took.
 use mathlib.Core.Path.{_≡_, refl, ap, sym, _∙_}
 use mathlib.Core.Bool.{Bool, true, cond}
 use mathlib.Core.List.{List}
@@ -11,24 +11,24 @@ use Rattle.pages.specs.declared.page.Page.{Page}
 use Rattle.pages.specs.declared.name.Name.{Name}
 use Rattle.bulletin.specs.declared.store.Store.{Store}
 use Rattle.bulletin.specs.declared.count.Count.{Count}
-use Rattle.bulletin.specs.Stores.{soundStore, at}
-use Rattle.bulletin.specs.Counts.{marked, lowest, reportOf}
-use Rattle.pages.proofs.Marks.{Mark, absent, held, disputed, toPage}
+use Rattle.bulletin.specs.Stores.{soundStore, pageBehind}
+use Rattle.bulletin.specs.Counts.{countMarked, lowestNotHeld, countOf}
+use Rattle.pages.proofs.States.{Mark, absent, held, disputed, toPage}
 use Rattle.histories.specs.Soundness.{InRange}
-use Rattle.histories.specs.Frames.{Frame, after, Disputed}
+use Rattle.histories.specs.Frames.{Frame, storeAfter, Disputed}
 use Rattle.histories.specs.Reports.{IsHeld, Reports}
 use Rattle.histories.proofs.Soundness.Tested.{sound-tested}
 use Rattle.histories.proofs.Frames.Takings.{after-stands}
 use Rattle.histories.proofs.Histories.Merges.{after-sound, after-name}
-use Rattle.histories.proofs.Frames.Told.{Tells, markFor, tells, tells-one}
+use Rattle.histories.proofs.Frames.PageStates.{Tells, markFor, tells, tells-one}
 use Rattle.histories.proofs.Reports.Counts.{Marks, counted, lowest-found, counted-once, found-once}
 
-abbrev countOf : Store → Count
-countOf s = record { answer = Fine; held = marked 1 (s .pages); disputed = marked 2 (s .pages); lowest = lowest (s .name .total) 0 (s .pages) }
+abbrev soundCount : Store → Count
+soundCount s = record { answer = Fine; held = countMarked 1 (s .pages); disputed = countMarked 2 (s .pages); lowest = lowestNotHeld (s .name .total) 0 (s .pages) }
 
-reports : (s : Store) → soundStore s ≡ true → reportOf s ≡ countOf s
-unfolding reportOf
-reports s h = ap (λ (b : Bool). cond b (countOf s) (record { answer = Refused Unsound; held = 0; disputed = 0; lowest = 0 })) h
+reports : (s : Store) → soundStore s ≡ true → countOf s ≡ soundCount s
+unfolding countOf
+reports s h = ap (λ (b : Bool). cond b (soundCount s) (record { answer = Refused Unsound; held = 0; disputed = 0; lowest = 0 })) h
 
 -- marks tell apart
 zero-not-one : _≡_ {A = ℕ} 0 1 → ⊥
@@ -41,14 +41,14 @@ one-not-two : _≡_ {A = ℕ} 1 2 → ⊥
 one-not-two e = omega arith
 
 module _ (n : Name) (range : InRange n) (fs : List Frame) where
-  pub page-at : (i : ℕ) → i < 63 → at (after n fs) i ≡ toPage (markFor n range fs (suc i))
+  pub page-at : (i : ℕ) → i < 63 → pageBehind (storeAfter n fs) i ≡ toPage (markFor n range fs (suc i))
   unfolding markFor
   page-at i h = after-stands n range fs .page i h
 
-  mark-at : (i : ℕ) → i < 63 → (k : ℕ) → at (after n fs) i .mark ≡ k → toPage (markFor n range fs (suc i)) .mark ≡ k
+  mark-at : (i : ℕ) → i < 63 → (k : ℕ) → pageBehind (storeAfter n fs) i .mark ≡ k → toPage (markFor n range fs (suc i)) .mark ≡ k
   mark-at i h k e = ap (λ (p : Page). p .mark) (sym (page-at i h)) ∙ e
 
-  told-mark : (i : ℕ) → i < 63 → (m : Mark) → Tells n range fs (suc i) m → at (after n fs) i .mark ≡ toPage m .mark
+  told-mark : (i : ℕ) → i < 63 → (m : Mark) → Tells n range fs (suc i) m → pageBehind (storeAfter n fs) i .mark ≡ toPage m .mark
   told-mark i h m t = ap (λ (p : Page). p .mark) (page-at i h ∙ ap toPage (tells-one n range fs (suc i) m t))
 
   -- held, and disputed
@@ -62,33 +62,33 @@ module _ (n : Name) (range : InRange n) (fs : List Frame) where
   is-disputed p (held t) h e = absurd (one-not-two e)
   is-disputed p disputed h e = h
 
-  pub held-marks : Marks (IsHeld n fs) 1 (after n fs .pages) (n .total)
+  pub held-marks : Marks (IsHeld n fs) 1 (storeAfter n fs .pages) (n .total)
   held-marks = record {
     has = λ i b e. is-held (suc i) (markFor n range fs (suc i)) (tells n range fs (suc i)) (mark-at i (omega (arith, range .total .1)) 1 e);
     is = λ i b h. told-mark i (omega (arith, range .total .1)) (held (h .0)) (h .1);
   }
 
-  disputed-marks : Marks (Disputed n fs) 2 (after n fs .pages) (n .total)
+  disputed-marks : Marks (Disputed n fs) 2 (storeAfter n fs .pages) (n .total)
   disputed-marks = record {
     has = λ i b e. is-disputed (suc i) (markFor n range fs (suc i)) (tells n range fs (suc i)) (mark-at i (omega (arith, range .total .1)) 2 e);
     is = λ i b h. told-mark i (omega (arith, range .total .1)) disputed h;
   }
 
-  pub enough : n .total ≤ length (after n fs .pages)
+  pub enough : n .total ≤ length (storeAfter n fs .pages)
   enough = omega (arith, range .total .1, after-stands n range fs .long)
 
-  past : (k : ℕ) → (0 ≡ k → ⊥) → (i : ℕ) → n .total ≤ i → i < length (after n fs .pages) → at (after n fs) i .mark ≡ k → ⊥
+  past : (k : ℕ) → (0 ≡ k → ⊥) → (i : ℕ) → n .total ≤ i → i < length (storeAfter n fs .pages) → pageBehind (storeAfter n fs) i .mark ≡ k → ⊥
   past k differ i l h e =
       let s = after-stands n range fs in
       differ (sym (ap (λ (p : Page). p .mark) (s .page i (omega (arith, s .long)) ∙ ap toPage (s .past i l))) ∙ e)
 
-  pub total-same : after n fs .name .total ≡ n .total
+  pub total-same : storeAfter n fs .name .total ≡ n .total
   total-same = ap (λ (x : Name). x .total) (after-name n range fs)
 
-  pub reported : Reports n fs (reportOf (after n fs))
+  pub reported : Reports n fs (countOf (storeAfter n fs))
   reported =
-      let e = reports (after n fs) (sound-tested (after n fs) (after-sound n range fs)) in
-      let pages = after n fs .pages in
+      let e = reports (storeAfter n fs) (sound-tested (storeAfter n fs) (after-sound n range fs)) in
+      let pages = storeAfter n fs .pages in
       rw e (record {
         answer = refl;
         held = counted (IsHeld n fs) 1 pages (n .total) enough held-marks (past 1 zero-not-one);

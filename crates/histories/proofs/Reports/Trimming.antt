@@ -1,4 +1,4 @@
--- The bytes of pages in order, less all zero bytes at their end. Assumes nothing.
+-- The bytes of pages in order, less all zero bytes at their end.
 use mathlib.Core.Path.{_≡_, refl, ap, sym, _∙_}
 use mathlib.Core.Bool.{Bool, true, false, cond}
 use mathlib.Core.List.{List, [], _∷_, _++_, append-assoc, append-nil}
@@ -11,7 +11,7 @@ use lib.Dec.{eqb}
 use borrow.Author.Tests.{eqb-true, eqb-false}
 use Rattle.pages.specs.declared.page.Page.{Page}
 use Rattle.pages.specs.Pages.{noPage}
-use Rattle.bulletin.specs.Text.{flat, textLength}
+use Rattle.bulletin.specs.Text.{bytesInOrder, textLength}
 use Rattle.pages.proofs.Texts.{below?}
 use Rattle.histories.specs.Reports.{inOrder, Trimmed}
 
@@ -75,20 +75,20 @@ trimmed-length whole text t = omega (arith, ap length (t .is), length-append tex
 
 -- ---- pages in order
 
-flat-append : (a b : List Page) → flat (a ++ b) ≡ flat a ++ flat b
-unfolding flat
+flat-append : (a b : List Page) → bytesInOrder (a ++ b) ≡ bytesInOrder a ++ bytesInOrder b
+unfolding bytesInOrder
 flat-append [] b = refl
-flat-append (p ∷ a) b = ap (λ (l : List ℕ). p .text ++ l) (flat-append a b) ∙ sym (append-assoc (p .text) (flat a) (flat b))
+flat-append (p ∷ a) b = ap (λ (l : List ℕ). p .text ++ l) (flat-append a b) ∙ sym (append-assoc (p .text) (bytesInOrder a) (bytesInOrder b))
 
-flat-one : (p : Page) → flat (p ∷ []) ≡ p .text
-unfolding flat
+flat-one : (p : Page) → bytesInOrder (p ∷ []) ≡ p .text
+unfolding bytesInOrder
 flat-one p = append-nil (p .text)
 
-flat-order : (t : ℕ → List ℕ) (l : List Page) (n : ℕ) → n ≤ length l → ((i : ℕ) → i < n → getD l i noPage .text ≡ t (suc i)) → flat (take n l) ≡ inOrder t n
-unfolding flat
+flat-order : (t : ℕ → List ℕ) (l : List Page) (n : ℕ) → n ≤ length l → ((i : ℕ) → i < n → getD l i noPage .text ≡ t (suc i)) → bytesInOrder (take n l) ≡ inOrder t n
+unfolding bytesInOrder
 flat-order t l zero h e = refl
 flat-order t l (suc n) h e =
-    ap flat (take-suc l n noPage (omega arith))
+    ap bytesInOrder (take-suc l n noPage (omega arith))
     ∙ flat-append (take n l) (getD l n noPage ∷ [])
     ∙ (λ j. flat-order t l n (omega arith) (λ i b. e i (omega arith)) j ++ (flat-one (getD l n noPage) ∙ e n (omega arith)) j)
 
@@ -101,9 +101,9 @@ length-order t (suc n) h =
 
 -- the first n pages, of 18 bytes each, are the first 18 n bytes
 pub front-bytes : (t : ℕ → List ℕ) (l : List Page) (n : ℕ) → n ≤ length l → ((i : ℕ) → i < n → getD l i noPage .text ≡ t (suc i))
-    → ((i : ℕ) → i < n → length (t (suc i)) ≡ 18) → (take (18 * n) (flat l) ≡ inOrder t n) × (18 * n ≤ length (flat l))
+    → ((i : ℕ) → i < n → length (t (suc i)) ≡ 18) → (take (18 * n) (bytesInOrder l) ≡ inOrder t n) × (18 * n ≤ length (bytesInOrder l))
 front-bytes t l n h e long =
     let front = flat-order t l n h e in
-    let whole : flat l ≡ inOrder t n ++ flat (drop n l) = ap flat (sym (take-append-drop n l)) ∙ flat-append (take n l) (drop n l) ∙ ap (λ (x : List ℕ). x ++ flat (drop n l)) front in
+    let whole : bytesInOrder l ≡ inOrder t n ++ bytesInOrder (drop n l) = ap bytesInOrder (sym (take-append-drop n l)) ∙ flat-append (take n l) (drop n l) ∙ ap (λ (x : List ℕ). x ++ bytesInOrder (drop n l)) front in
     let so-long = length-order t n long in
-    (ap (take (18 * n)) whole ∙ take-at (inOrder t n) (flat (drop n l)) (18 * n) so-long, omega (arith, ap length whole, length-append (inOrder t n) (flat (drop n l)), so-long))
+    (ap (take (18 * n)) whole ∙ take-at (inOrder t n) (bytesInOrder (drop n l)) (18 * n) so-long, omega (arith, ap length whole, length-append (inOrder t n) (bytesInOrder (drop n l)), so-long))

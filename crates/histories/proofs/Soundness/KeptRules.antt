@@ -1,4 +1,4 @@
--- A page of a bulletin whose name is in range keeps the rules of category 4. Assumes nothing.
+-- A page of a bulletin whose name is in range keeps the rules of category 4.
 use mathlib.Core.Path.{_≡_, refl, sym}
 use mathlib.Core.List.{List, [], _∷_, _++_}
 use mathlib.Core.Logic.{_⊎_, inl, inr, ⊎-elim}
@@ -11,11 +11,11 @@ use Rattle.report.specs.declared.record.Record.{Record}
 use Rattle.slots.specs.declared.slot.Slot.{Slot}
 use Rattle.rows.specs.Layout.{_to_, bytes}
 use Rattle.report.specs.Layout.{layout}
-use Rattle.nankai.specs.Nankai.{nankai, page}
+use Rattle.nankai.specs.Nankai.{nankai, pageRows}
 use Rattle.report.specs.Records.{values, bodyValues}
 use Rattle.rows.specs.Kept.{In, Kept, Holds}
 use Rattle.pages.specs.declared.name.Name.{Name}
-use Rattle.pages.proofs.Marks.{Text}
+use Rattle.pages.proofs.States.{Text}
 use Rattle.histories.specs.Soundness.{InRange}
 
 -- "18 bytes, any"
@@ -47,7 +47,7 @@ only v = inl (omega arith, omega arith)
 
 -- any bytes, and behind them the page number and the total
 kept-page : (k a before : ℕ) (t : Text) (p total : ℕ) → length t ≡ k → ((j : ℕ) → getD t j 0 < 256) → 1 ≤ p → p ≤ total → total ≤ 63
-    → Kept before (bytes k a ++ page) (t ++ p ∷ total ∷ [])
+    → Kept before (bytes k a ++ pageRows) (t ++ p ∷ total ∷ [])
 kept-page zero a before [] p total l b low high most = (inl (low, omega arith), ((high, most), tt))
 kept-page zero a before (x ∷ t) p total l b low high most = absurd (suc-ne-zero (length t) l)
 kept-page (suc k) a before [] p total l b low high most = absurd (suc-ne-zero k (sym l))

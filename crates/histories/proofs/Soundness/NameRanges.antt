@@ -1,4 +1,4 @@
--- A name is opened exactly where each of its values is in its range. Assumes nothing.
+-- A name is opened exactly where each of its values is in its range.
 use mathlib.Core.Path.{_≡_, refl}
 use native.Mathlib.Omega.{arith}
 use lib.ListN.{replicate}
@@ -7,7 +7,7 @@ use Rattle.report.specs.Layout.{layout}
 use Rattle.slots.specs.Slots.{noSlot}
 use Rattle.report.specs.Records.{values, bodyValues}
 use Rattle.pages.specs.declared.name.Name.{Name}
-use Rattle.pages.specs.Names.{firstPage, nameVerdict}
+use Rattle.pages.specs.Names.{firstPageOf, nameVerdict}
 use Rattle.pages.proofs.Numbered.{past-text}
 use Rattle.pages.proofs.Ranges.{fine-holds, holds-fine}
 use Rattle.histories.specs.Soundness.{InRange}
@@ -21,7 +21,7 @@ fine-in-range n e =
     let from-rc = holds .head .1 in
     let from-month = from-rc .1 .1 in
     let from-hour = from-month .1 .1 in
-    let numbers = past-text 18 57 (n .serial) (firstPage n .text) (record { serial = n .serial; number = 1; total = n .total }) refl (holds .body .1) in
+    let numbers = past-text 18 57 (n .serial) (firstPageOf n .text) (record { serial = n .serial; number = 1; total = n .total }) refl (holds .body .1) in
     record {
       rc = two-codes 2 7 (c .rc) (from-rc .0);
       month = one-span 1 12 (c .month) (from-month .0);

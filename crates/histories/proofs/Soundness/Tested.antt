@@ -1,4 +1,4 @@
--- The test of a store passes exactly where the store is sound. Assumes nothing.
+-- The test of a store passes exactly where the store is sound.
 use mathlib.Core.Path.{_≡_, refl, sym, _∙_}
 use mathlib.Core.Bool.{Bool, true, false, cond}
 use mathlib.Core.List.{List, [], _∷_}
@@ -11,8 +11,8 @@ use borrow.Author.Tests.{eqb-true, eq-eqb, ne-eqb, ltb-true, ltb-false}
 use Rattle.rows.proofs.Rules.Outcomes.{false-not-true}
 use Rattle.pages.specs.declared.page.Page.{Page}
 use Rattle.bulletin.specs.declared.store.Store.{Store}
-use Rattle.pages.specs.Pages.{noPage, zeros, sameBytes, soundPage, soundAt}
-use Rattle.bulletin.specs.Stores.{soundFrom, at, soundStore}
+use Rattle.pages.specs.Pages.{noPage, noText, sameBytes, soundPage, soundAt}
+use Rattle.bulletin.specs.Stores.{soundFrom, pageBehind, soundStore}
 use Rattle.pages.proofs.Texts.{same-eq, eq-same}
 use Rattle.bulletin.proofs.Stores.Sound.{sound-parts}
 use Rattle.histories.specs.Soundness.{OneOfThree, Sound}
@@ -22,7 +22,7 @@ use Rattle.histories.proofs.Soundness.NameRanges.{fine-in-range, in-ran
 
 pub record SoundPage (total i : ℕ) (p : Page) : Type 0 where
   pub state : OneOfThree (p .mark)
-  pub empty : (p .mark ≡ 0) ⊎ (p .mark ≡ 2) → p .text ≡ zeros
+  pub empty : (p .mark ≡ 0) ⊎ (p .mark ≡ 2) → p .text ≡ noText
   pub past : total ≤ i → p .mark ≡ 0
 
 tested-page : (total i : ℕ) (p : Page) → soundAt total i p ≡ true → SoundPage total i p
@@ -30,7 +30,7 @@ unfolding soundAt soundPage
 tested-page total i p h = go (eqb (p .mark) 1) refl (eqb (p .mark) 0) refl (eqb (p .mark) 2) refl (ltb i total) refl h
   where
     Test : Bool → Bool → Bool → Bool → Type 0
-    Test a b c d = cond (cond a true (cond b (sameBytes (p .text) zeros) (cond c (sameBytes (p .text) zeros) false))) (cond d true b) false ≡ true
+    Test a b c d = cond (cond a true (cond b (sameBytes (p .text) noText) (cond c (sameBytes (p .text) noText) false))) (cond d true b) false ≡ true
 
     both : (x y : Bool) → cond x y false ≡ true → (x ≡ true) × (y ≡ true)
     both true y e = (refl, e)
@@ -49,21 +49,21 @@ tested-page total i p h = go (eqb (p .mark) 1) refl (eqb (p .mark) 0) refl (eqb 
         not-one : p .mark ≡ 1 → (k : ℕ) → p .mark ≡ k → (k ≡ 1 → ⊥) → ⊥
         not-one one k e differ = differ (sym e ∙ one)
     go false ea true eb c ec d ed h =
-        let parts = both (sameBytes (p .text) zeros) (cond d true true) h in
-        record { state = inl (eqb-true _ _ eb); empty = λ z. same-eq (p .text) zeros (parts .0); past = inside d true ed eb (parts .1) }
+        let parts = both (sameBytes (p .text) noText) (cond d true true) h in
+        record { state = inl (eqb-true _ _ eb); empty = λ z. same-eq (p .text) noText (parts .0); past = inside d true ed eb (parts .1) }
     go false ea false eb true ec d ed h =
-        let parts = both (sameBytes (p .text) zeros) (cond d true false) h in
-        record { state = inr (inr (eqb-true _ _ ec)); empty = λ z. same-eq (p .text) zeros (parts .0); past = inside d false ed eb (parts .1) }
+        let parts = both (sameBytes (p .text) noText) (cond d true false) h in
+        record { state = inr (inr (eqb-true _ _ ec)); empty = λ z. same-eq (p .text) noText (parts .0); past = inside d false ed eb (parts .1) }
     go false ea false eb false ec d ed h = absurd (false-not-true h)
 
 page-tested : (total i : ℕ) (p : Page) → SoundPage total i p → soundAt total i p ≡ true
 unfolding soundAt soundPage
 page-tested total i p h =
     ⊎-elim
-    (λ z. rw (marked 1 0 z (λ q. omega arith), eq-eqb (p .mark) 0 z, eq-same (p .text) zeros (h .empty (inl z))) (inside (ltb i total)))
+    (λ z. rw (marked 1 0 z (λ q. omega arith), eq-eqb (p .mark) 0 z, eq-same (p .text) noText (h .empty (inl z))) (inside (ltb i total)))
     (⊎-elim
     (λ z. rw (eq-eqb (p .mark) 1 z, marked 0 1 z (λ q. omega arith)) (beyond (ltb i total) refl (λ q. omega arith)))
-    (λ z. rw (marked 1 2 z (λ q. omega arith), marked 0 2 z (λ q. omega arith), eq-eqb (p .mark) 2 z, eq-same (p .text) zeros (h .empty (inr z))) (beyond (ltb i total) refl (λ q. omega arith))))
+    (λ z. rw (marked 1 2 z (λ q. omega arith), marked 0 2 z (λ q. omega arith), eq-eqb (p .mark) 2 z, eq-same (p .text) noText (h .empty (inr z))) (beyond (ltb i total) refl (λ q. omega arith))))
     (h .state)
   where
     marked : (k m : ℕ) → p .mark ≡ m → (m ≡ k → ⊥) → eqb (p .mark) k ≡ false
@@ -104,7 +104,7 @@ from-tested total i (p ∷ l) h =
 pub tested-sound : (s : Store) → soundStore s ≡ true → Sound s
 tested-sound s h =
     let parts = sound-parts s h in
-    let page : (i : ℕ) → i < length (s .pages) → SoundPage (s .name .total) i (at s i) = λ i k. let e : 0 + i ≡ i = omega arith in rw e at (tested-from (s .name .total) 0 (s .pages) (parts .1) i k) in
+    let page : (i : ℕ) → i < length (s .pages) → SoundPage (s .name .total) i (pageBehind s i) = λ i k. let e : 0 + i ≡ i = omega arith in rw e at (tested-from (s .name .total) 0 (s .pages) (parts .1) i k) in
     record { name = fine-in-range (s .name) (parts .0); state = λ i k. page i k .state; empty = λ i k. page i k .empty; past = λ i k. page i k .past }
 
 pub sound-tested : (s : Store) → Sound s → soundStore s ≡ true

@@ -1,4 +1,4 @@
--- `known_parity::check_value` is safe and ends. Assumes nothing.
+-- `known_parity::check_value` is safe and ends.
 use Prim.Native.Nat.{_-_, _≤_}
 use native.Mathlib.Omega.{arith}
 use borrow.Author.Needs.{needs}

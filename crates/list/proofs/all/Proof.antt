@@ -1,4 +1,4 @@
--- `list::all` is safe and ends. Assumes nothing.
+-- `list::all` is safe and ends.
 use mathlib.Core.Path.{_≡_, refl}
 use lib.ListN.{length}
 use borrow.Author.Needs.{needs}

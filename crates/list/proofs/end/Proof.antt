@@ -1,4 +1,4 @@
--- `list::end` is safe. Assumes nothing.
+-- `list::end` is safe.
 use mathlib.Core.Path.{sym}
 use lib.Seq.{length-take-le}
 use borrow.Author.Needs.{needs}

@@ -1,4 +1,4 @@
--- `list::main` is safe. Assumes nothing.
+-- `list::main` is safe.
 use mathlib.Core.Path.{sym}
 use lib.Seq.{length-take-le}
 use borrow.Author.Needs.{needs}

@@ -1,4 +1,4 @@
--- `list::pass` is safe. Assumes nothing.
+-- `list::pass` is safe.
 use mathlib.Core.Path.{sym}
 use native.Mathlib.Omega.{arith}
 use lib.Seq.{length-take-le}

@@ -1,4 +1,4 @@
--- Laws of a listing byte by byte. Assumes nothing.
+-- Laws of a listing byte by byte.
 use mathlib.Core.Path.{_≡_, refl, sym, ap, _∙_}
 use mathlib.Core.Bool.{Bool, true, false}
 use mathlib.Core.List.{List, [], _∷_, _++_, append-assoc, append-nil}

@@ -1,4 +1,4 @@
--- The ways through a whole chunk, and the end of the input. Assumes nothing.
+-- The ways through a whole chunk, and the end of the input.
 use mathlib.Core.Path.{_≡_, refl, sym, ap, subst, _∙_}
 use mathlib.Core.Bool.{Bool, true, false, cond}
 use mathlib.Core.List.{List, [], _∷_, _++_, append-nil}
@@ -12,9 +12,9 @@ use lib.ListN.{length, take, drop, length-take}
 use lib.Seq.{take-all, length-take-le}
 use Rattle.listing.specs.declared.progress.Progress.{Progress}
 use Rattle.listing.specs.declared.scan.Step.{Step}
-use Rattle.listing.specs.Rows.{cutText, longest, filled, laid}
+use Rattle.listing.specs.Rows.{cutText, longest, filled, filledBy}
 use Rattle.listing.specs.Listing.{lineRow, limit}
-use Rattle.listing.specs.Scanning.{Reach, say, reach, lastRow, progressOf, begunIn, taken, left, leftBy, scanned}
+use Rattle.listing.specs.Scanning.{Reach, say, reach, lastRow, progressOf, begunIn, bytesTaken, afterScan, afterReach, scanned}
 use Rattle.listing.specs.Pieces.{Wrote, Found, Scanned}
 use Rattle.listing.proofs.Texts.Written.{_then_, wrote-over}
 use Rattle.listing.proofs.Texts.KeptBytes.{length-padded, begun-back}
@@ -100,22 +100,22 @@ idle n begun (b ∷ r) h f = over-reach (b ∷ r) begun n (more-than (ltb limit 
 
 -- ---- as much of a chunk as has room
 
-pub taken-fits : (chunk out : List ℕ) → taken chunk out ≤ length chunk
-unfolding taken
+pub taken-fits : (chunk out : List ℕ) → bytesTaken chunk out ≤ length chunk
+unfolding bytesTaken
 taken-fits chunk out = min-le-left (length chunk) (length out / 27)
 
-pub taken-room : (chunk out : List ℕ) → 27 * taken chunk out ≤ length out
-unfolding taken
+pub taken-room : (chunk out : List ℕ) → 27 * bytesTaken chunk out ≤ length out
+unfolding bytesTaken
 taken-room chunk out = omega (arith, min-le-right (length chunk) (length out / 27), mul-div-le (length out) 27)
 
-pub scan-left : (p : Progress) (chunk out after : List ℕ) (k : ℕ) (r : Step) → k ≡ taken chunk out → Scanned (p .lines) (begunIn p) (take k chunk) out after 0 r
-    → (left r after ≡ scanned p chunk out) × (r .written ≤ length out)
+pub scan-left : (p : Progress) (chunk out after : List ℕ) (k : ℕ) (r : Step) → k ≡ bytesTaken chunk out → Scanned (p .lines) (begunIn p) (take k chunk) out after 0 r
+    → (afterScan r after ≡ scanned p chunk out) × (r .written ≤ length out)
 unfolding scanned
 scan-left p chunk out after k r e x =
     let w : Reach = reach (p .lines) (begunIn p) (take k chunk) in
     let fits : k ≤ length chunk = omega (arith, taken-fits chunk out) in (
-      (λ i. left (record { progress = x .progress i; written = (x .written .place ∙ zero-add (length (w .text))) i; used = (x .used ∙ length-take-le k chunk fits) i }) (wrote-over (x .written) (x .room) i))
-          ∙ ap (λ (j : ℕ). leftBy (reach (p .lines) (begunIn p) (take j chunk)) j out) e,
+      (λ i. afterScan (record { progress = x .progress i; written = (x .written .place ∙ zero-add (length (w .text))) i; used = (x .used ∙ length-take-le k chunk fits) i }) (wrote-over (x .written) (x .room) i))
+          ∙ ap (λ (j : ℕ). afterReach (reach (p .lines) (begunIn p) (take j chunk)) j out) e,
       x .room,
     )
 
@@ -137,9 +137,9 @@ last-over n [] h = refl
 last-over n (b ∷ l) h = simp (le-ltb n limit h)
 
 -- no text leaves any buffer as it is
-pub nothing-laid : (t o : List ℕ) → [] ≡ t → (filled 0 o ≡ laid t o) × (0 ≤ length o)
-unfolding laid
-nothing-laid t o e = (short-or-not (ltb (length o) longest) ∙ ap (λ (x : List ℕ). laid x o) e, omega arith)
+pub nothing-laid : (t o : List ℕ) → [] ≡ t → (filled 0 o ≡ filledBy t o) × (0 ≤ length o)
+unfolding filledBy
+nothing-laid t o e = (short-or-not (ltb (length o) longest) ∙ ap (λ (x : List ℕ). filledBy x o) e, omega arith)
   where
     short-or-not : (s : Bool) → filled 0 o ≡ cond s (filled 0 o) (filled 0 o)
     short-or-not true = refl

@@ -1,4 +1,4 @@
--- A chunk and the next are one chunk. Assumes nothing.
+-- A chunk and the next are one chunk.
 use mathlib.Core.Path.{_≡_, refl, sym, ap, _∙_}
 use mathlib.Core.Bool.{Bool, true, false, cond}
 use mathlib.Core.List.{List, [], _∷_, _++_, append-assoc, append-nil}

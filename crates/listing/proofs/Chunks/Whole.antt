@@ -1,4 +1,4 @@
--- Byte by byte, and then the last line: that is the listing of the whole input. Assumes nothing.
+-- Byte by byte, and then the last line: that is the listing of the whole input.
 use mathlib.Core.Path.{_≡_, refl, sym, ap, _∙_}
 use mathlib.Core.Bool.{Bool, true, false, cond}
 use mathlib.Core.List.{List, [], _∷_, _++_, append-assoc, append-nil}

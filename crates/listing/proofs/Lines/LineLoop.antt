@@ -1,4 +1,4 @@
--- One turn of the loop over the lines of a chunk, and its ends. Assumes nothing.
+-- One turn of the loop over the lines of a chunk, and its ends.
 use mathlib.Core.Path.{_≡_, refl, sym, ap, subst, _∙_}
 use mathlib.Core.List.{List, [], _∷_, _++_, append-nil}
 use Prim.Native.Nat.{ℕ, suc, _+_, _-_, _≤_, _<_}

@@ -1,4 +1,4 @@
--- A record has at most sixteen used slots. Assumes nothing.
+-- A record has at most sixteen used slots.
 use Prim.Native.Nat.{ℕ, suc, _≤_}
 use mathlib.Core.Bool.{Bool, true, false, cond}
 use mathlib.Core.List.{List, [], _∷_}

@@ -1,4 +1,4 @@
--- Lines that are no frame, for their length or for a byte, and what is kept of a line. Assumes nothing.
+-- Lines that are no frame, for their length or for a byte, and what is kept of a line.
 use mathlib.Core.Path.{_≡_, refl, sym, ap, _∙_}
 use mathlib.Core.Bool.{Bool, true, false, _&&_}
 use mathlib.Core.List.{List, [], _∷_, _++_}

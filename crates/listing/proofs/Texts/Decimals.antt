@@ -1,4 +1,4 @@
--- Laws of numbers as text. Assumes nothing.
+-- Laws of numbers as text.
 use mathlib.Core.Path.{_≡_, refl}
 use mathlib.Core.Bool.{Bool, true, false}
 use mathlib.Core.List.{[], _∷_, _++_}

@@ -1,4 +1,4 @@
--- Laws of the first bytes of a line, as they are kept. Assumes nothing.
+-- Laws of the first bytes of a line, as they are kept.
 use mathlib.Core.Path.{_≡_, refl, sym, ap, _∙_}
 use mathlib.Core.Bool.{Bool, true, false}
 use mathlib.Core.List.{List, [], _∷_, _++_, map}
@@ -10,7 +10,7 @@ use lib.Dec.{eqb}
 use lib.ListN.{length, take, getD, set, length-append, length-take, length-map, List·getD-append, List·getD-eq-default}
 use lib.Seq.{getD-append-add, getD-take, getD-set-same, getD-set-other, length-take-le, ext-getD}
 use Rattle.listing.specs.declared.progress.Progress.{Progress}
-use Rattle.listing.specs.Scanning.{padded, progressOf, begunIn}
+use Rattle.listing.specs.Scanning.{sizedTo, progressOf, begunIn}
 
 -- ---- a byte of what is kept with more behind it
 
@@ -35,27 +35,27 @@ take-kept zero a b = refl
 take-kept (suc k) [] b = refl
 take-kept (suc k) (x ∷ a) b = ap (λ (l : List ℕ). x ∷ l) (take-kept k a b)
 
-pub length-padded : (k : ℕ) (l : List ℕ) → length (padded k l) ≡ k
-unfolding padded
+pub length-padded : (k : ℕ) (l : List ℕ) → length (sizedTo k l) ≡ k
+unfolding sizedTo
 length-padded zero l = refl
 length-padded (suc k) [] = ap suc (length-padded k [])
 length-padded (suc k) (x ∷ l) = ap suc (length-padded k l)
 
-getD-padded : (k : ℕ) (l : List ℕ) (i : ℕ) → i < k → getD (padded k l) i 0 ≡ getD l i 0
-unfolding padded
+getD-padded : (k : ℕ) (l : List ℕ) (i : ℕ) → i < k → getD (sizedTo k l) i 0 ≡ getD l i 0
+unfolding sizedTo
 getD-padded (suc k) [] zero h = refl
 getD-padded (suc k) [] (suc i) h = getD-padded k [] i (omega arith)
 getD-padded (suc k) (x ∷ l) zero h = refl
 getD-padded (suc k) (x ∷ l) (suc i) h = getD-padded k l i (omega arith)
 
-padded-take : (k : ℕ) (l : List ℕ) → padded k (take k l) ≡ padded k l
-unfolding padded
+padded-take : (k : ℕ) (l : List ℕ) → sizedTo k (take k l) ≡ sizedTo k l
+unfolding sizedTo
 padded-take zero l = refl
 padded-take (suc k) [] = refl
 padded-take (suc k) (x ∷ l) = ap (λ (r : List ℕ). x ∷ r) (padded-take k l)
 
-take-padded : (k : ℕ) (l : List ℕ) → length l ≤ k → take (length l) (padded k l) ≡ l
-unfolding padded
+take-padded : (k : ℕ) (l : List ℕ) → length l ≤ k → take (length l) (sizedTo k l) ≡ l
+unfolding sizedTo
 take-padded zero [] h = refl
 take-padded (suc k) [] h = refl
 take-padded (suc k) (x ∷ l) h = ap (λ (r : List ℕ). x ∷ r) (take-padded k l (omega arith))
@@ -77,8 +77,8 @@ fill-next kept l i v h f e k m = at-or-before (eqb k i) refl
     at-or-before true b = rw (eqb-true k i b) (getD-set-same kept i v 0 h ∙ e)
     at-or-before false b = getD-set-other kept i k v 0 (eqb-false k i b) ∙ f k (omega (arith, eqb-false k i b))
 
-filled-up : (kept l : List ℕ) → length kept ≡ 64 → ((k : ℕ) → k < 64 → getD kept k 0 ≡ getD l k 0) → kept ≡ padded 64 (take 64 l)
-filled-up kept l h f = ext-getD 0 kept (padded 64 l) (h ∙ sym (length-padded 64 l)) (λ i m. f i (omega arith) ∙ sym (getD-padded 64 l i (omega arith))) ∙ sym (padded-take 64 l)
+filled-up : (kept l : List ℕ) → length kept ≡ 64 → ((k : ℕ) → k < 64 → getD kept k 0 ≡ getD l k 0) → kept ≡ sizedTo 64 (take 64 l)
+filled-up kept l h f = ext-getD 0 kept (sizedTo 64 l) (h ∙ sym (length-padded 64 l)) (λ i m. f i (omega arith) ∙ sym (getD-padded 64 l i (omega arith))) ∙ sym (padded-take 64 l)
 
 pub kept-all : (n length′ : ℕ) (kept l : List ℕ) → length kept ≡ 64 → ((k : ℕ) → k < 64 → getD kept k 0 ≡ getD l k 0) → length′ ≡ length (take 64 l) → _≡_ {A = Progress} (record { lines = n; length = length′; begun = kept }) (progressOf n (take 64 l))
 unfolding progressOf

@@ -1,4 +1,4 @@
--- Laws of text that is written piece by piece. Assumes nothing.
+-- Laws of text that is written piece by piece.
 use mathlib.Core.Path.{_≡_, refl, sym, ap, subst, _∙_}
 use mathlib.Core.List.{List, [], _∷_, _++_}
 use Prim.Native.Nat.{ℕ, suc, _+_, _≤_, _<_}
@@ -8,7 +8,7 @@ use native.Mathlib.Omega.{arith}
 use borrow.Author.Tests.{lt-ltb, le-ltb}
 use lib.ListN.{length, set, take, drop, getD, length-append}
 use lib.Seq.{sets, length-sets, sets-eq, take-suc, length-take-le}
-use Rattle.listing.specs.Rows.{filled, over, laid, longest}
+use Rattle.listing.specs.Rows.{filled, over, filledBy, longest}
 use Rattle.listing.specs.Pieces.{Wrote}
 
 pub sets-sets : (a b l : List ℕ) (i : ℕ) → sets (sets l i a) (i + length a) b ≡ sets l i (a ++ b)
@@ -48,10 +48,10 @@ byte-more o o₀ t at i h e =
 pub wrote-over : {o after t : List ℕ} {n : ℕ} → Wrote o after 0 n t → n ≤ length o → after ≡ over t o
 wrote-over {o} {after} {t} {n} w h = w .bytes ∙ sets-eq t o 0 (omega (arith, w .place)) ∙ ap (λ (k : ℕ). t ++ drop k o) (zero-add (length t))
 
-pub wrote-laid : {o after t : List ℕ} {n : ℕ} → Wrote o after 0 n t → n ≤ length o → longest ≤ length o → (filled n after ≡ laid t o) × (n ≤ length o)
-unfolding laid
+pub wrote-laid : {o after t : List ℕ} {n : ℕ} → Wrote o after 0 n t → n ≤ length o → longest ≤ length o → (filled n after ≡ filledBy t o) × (n ≤ length o)
+unfolding filledBy
 wrote-laid {o} {after} {t} {n} w h r = (simp (le-ltb (length o) longest r) (λ i. filled ((w .place ∙ zero-add (length t)) i) (wrote-over w h i)), h)
 
-pub too-short : (t o : List ℕ) → length o < longest → (filled 0 o ≡ laid t o) × (0 ≤ length o)
-unfolding laid
+pub too-short : (t o : List ℕ) → length o < longest → (filled 0 o ≡ filledBy t o) × (0 ≤ length o)
+unfolding filledBy
 too-short t o h = (simp (lt-ltb (length o) longest h), omega arith)

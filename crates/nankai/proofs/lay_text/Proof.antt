@@ -1,4 +1,4 @@
--- `nankai::lay_text` meets its contract: the bytes passed are laid. Assumes nothing.
+-- `nankai::lay_text` meets its contract: the bytes passed are laid.
 use Prim.Native.Nat.{ℕ, _+_, _-_, _*_, _≤_}
 use Rattle.bits.proofs.Arrays.{each-bytes}
 use Rattle.bits.proofs.Inside.{placed-in}

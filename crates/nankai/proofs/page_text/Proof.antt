@@ -1,4 +1,4 @@
--- `nankai::page_text` meets its contract: the bytes passed are the text's. Assumes nothing.
+-- `nankai::page_text` meets its contract: the bytes passed are the text's.
 use Prim.Native.Nat.{ℕ, _+_, _-_, _*_, _≤_}
 use borrow.Author.Needs.{needs}
 use Rattle.bits.specs.Frame.{fieldOf}

@@ -1,4 +1,4 @@
--- `parity::parity` meets its contract: the register is that of the bits passed. Assumes nothing.
+-- `parity::parity` meets its contract: the register is that of the bits passed.
 use mathlib.Core.Path.{_≡_, refl, sym, ap, ap₂, _∙_}
 use Prim.Native.Nat.{_-_, _≤_, _<_, _^_}
 use native.Mathlib.Omega.{arith}

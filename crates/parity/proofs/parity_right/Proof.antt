@@ -1,4 +1,4 @@
--- `parity::parity_right` meets its contract. Assumes nothing.
+-- `parity::parity_right` meets its contract.
 use mathlib.Core.Path.{ap₂}
 use lib.Dec.{eqb}
 use borrow.Author.Needs.{needs}

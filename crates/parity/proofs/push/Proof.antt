@@ -1,4 +1,4 @@
--- `parity::push` meets its contract. Assumes nothing.
+-- `parity::push` meets its contract.
 use mathlib.Core.Path.{_≡_, subst, sym}
 use Prim.Native.Nat.{ℕ, _<_, _^_}
 use Rattle.parity.specs.Parity.{step}

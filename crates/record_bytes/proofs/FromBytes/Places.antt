@@ -1,4 +1,4 @@
--- A byte behind others is a byte of what stands behind them. Assumes nothing.
+-- A byte behind others is a byte of what stands behind them.
 use mathlib.Core.Path.{_≡_, refl, sym, ap, _∙_}
 use Prim.Native.Nat.{ℕ, zero, suc, _+_}
 use mathlib.Core.List.{List, _∷_}

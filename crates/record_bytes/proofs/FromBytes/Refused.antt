@@ -1,4 +1,4 @@
--- Something behind what the category has is refused, in its turn. Assumes nothing.
+-- Something behind what the category has is refused, in its turn.
 use mathlib.Core.Path.{_≡_, refl, ap, _∙_}
 use mathlib.Core.Bool.{Bool, true, false, _&&_}
 use Prim.Native.Nat.{ℕ, zero, suc, _+_, _*_, _≤_}
@@ -10,7 +10,7 @@ use Rattle.rows.specs.declared.refusal.Refusal.the-variants.{Unused}
 use Rattle.report.specs.declared.record.Body.{Body}
 use Rattle.slots.specs.declared.slot.Slot.{Slot}
 use Rattle.rows.specs.declared.slot.SlotKind.{SlotKind}
-use Rattle.rows.specs.declared.slot.SlotKind.the-variants.{Nothing, Prefectures, Places}
+use Rattle.rows.specs.declared.slot.SlotKind.the-variants.{NoSlots, Prefectures, Places}
 use Rattle.rows.specs.Runs.Questions.{_then_, unless}
 use Rattle.report.specs.Layout.{layout, preambles}
 use Rattle.rows.specs.Layout.{slotCount}
@@ -18,7 +18,7 @@ use Rattle.rows.specs.Runs.Verdict.{allowed, empty}
 use Rattle.rows.specs.Values.{each}
 use Rattle.report.specs.Runs.Writing.{known, tidyText, tidy, writeAnswer}
 use Rattle.slots.specs.Slots.{unused, tidySlots}
-use Rattle.record_bytes.specs.Unpacked.{slotAt, bodyFrom, stray, slotsFrom, misplaced, marked, textFrom, unpackedAs, unpacked}
+use Rattle.record_bytes.specs.Unpacked.{slotAt, bodyFrom, stray, slotsFrom, misplaced, slotsOrMisplaced, textFrom, unpackedAs, unpacked}
 
 and-false : (a b : Bool) → b ≡ false → a && b ≡ false
 and-false true b e = e
@@ -29,7 +29,7 @@ behind-slots : (k : SlotKind) (n : ℕ) (ss : List Slot) → n ≤ length ss →
 unfolding tidySlots empty
 behind-slots k zero [] h = refl
 behind-slots k (suc n) [] h = absurd (omega arith)
-behind-slots k zero (s ∷ ss) h = and-false (empty (unused Nothing s)) (tidySlots k zero (ss ++ misplaced ∷ [])) (behind-slots k zero ss (omega arith))
+behind-slots k zero (s ∷ ss) h = and-false (empty (unused NoSlots s)) (tidySlots k zero (ss ++ misplaced ∷ [])) (behind-slots k zero ss (omega arith))
 behind-slots k (suc n) (s ∷ ss) h = and-false (empty (unused k s)) (tidySlots k n (ss ++ misplaced ∷ [])) (behind-slots k n ss (omega arith))
 
 -- prefectures have no hours
@@ -37,11 +37,11 @@ among-prefectures : (n : ℕ) (ss : List Slot) → tidySlots Prefectures n (ss +
 unfolding tidySlots empty
 among-prefectures zero [] = refl
 among-prefectures (suc n) [] = refl
-among-prefectures zero (s ∷ ss) = and-false (empty (unused Nothing s)) (tidySlots Prefectures zero (ss ++ misplaced ∷ [])) (among-prefectures zero ss)
+among-prefectures zero (s ∷ ss) = and-false (empty (unused NoSlots s)) (tidySlots Prefectures zero (ss ++ misplaced ∷ [])) (among-prefectures zero ss)
 among-prefectures (suc n) (s ∷ ss) = and-false (empty (unused Prefectures s)) (tidySlots Prefectures n (ss ++ misplaced ∷ [])) (among-prefectures n ss)
 
 by-kind : (k : SlotKind) (ss : List Slot) → length ss ≡ 15 → tidySlots k (slotCount k) (ss ++ misplaced ∷ []) ≡ false
-by-kind Nothing ss h = behind-slots Nothing 0 ss (omega arith)
+by-kind NoSlots ss h = behind-slots NoSlots 0 ss (omega arith)
 by-kind Prefectures ss h = among-prefectures 16 ss
 by-kind Places ss h = behind-slots Places 4 ss (omega (arith, h))
 
@@ -50,7 +50,7 @@ unfolding unpackedAs
 untidy l b e =
     let k : SlotKind = layout b .slots in
     let ss : List Slot = each 15 (λ i. slotAt l (31 + 6 * i)) in
-    let last : marked (stray b l) (slotsFrom l) ≡ ss ++ misplaced ∷ [] = ap (λ (x : Bool). marked x (slotsFrom l)) e in
+    let last : slotsOrMisplaced (stray b l) (slotsFrom l) ≡ ss ++ misplaced ∷ [] = ap (λ (x : Bool). slotsOrMisplaced x (slotsFrom l)) e in
     ap (λ (x : List Slot). tidySlots k (slotCount k) x && tidyText b (textFrom l)) last
     ∙ ap (λ (x : Bool). x && tidyText b (textFrom l)) (by-kind k ss refl)
 

@@ -1,4 +1,4 @@
--- Looking for something in the bytes before the slots. Assumes nothing.
+-- Looking for something in the bytes before the slots.
 use mathlib.Core.Path.{_≡_, sym, ap, _∙_}
 use mathlib.Core.Bool.{Bool, true, false, not}
 use Prim.Native.Nat.{ℕ, _+_, _≤_, _<_}
@@ -11,7 +11,7 @@ use Rattle.slots.specs.declared.slot.Slot.{Slot}
 use Rattle.rows.specs.Runs.Verdict.{empty}
 use Rattle.report.proofs.Writing.Blank.{blank-so-far, not-blank, all-blank}
 use Rattle.record_bytes.specs.Packed.{bodyBytes}
-use Rattle.record_bytes.specs.Unpacked.{stray, marked}
+use Rattle.record_bytes.specs.Unpacked.{stray, slotsOrMisplaced}
 
 module _ (l : List ℕ) (long : length l ≡ 145) where
   size : length (take 31 l) ≡ 31
@@ -28,6 +28,6 @@ module _ (l : List ℕ) (long : length l ≡ 145) where
 
 -- what was found marks the slots
 pub marked-by : (b : Body) (l : List ℕ) (ss : List Slot) (end : ℕ) (found answer : Bool) → found ≡ not (empty (drop end (take 31 l)))
-    → end ≡ 9 + length (bodyBytes b) → found ≡ answer → marked answer ss ≡ marked (stray b l) ss
+    → end ≡ 9 + length (bodyBytes b) → found ≡ answer → slotsOrMisplaced answer ss ≡ slotsOrMisplaced (stray b l) ss
 marked-by b l ss end found answer is at e =
-    ap (λ (x : Bool). marked x ss) (sym e ∙ is ∙ ap (λ (n : ℕ). not (empty (drop n (take 31 l)))) at)
+    ap (λ (x : Bool). slotsOrMisplaced x ss) (sym e ∙ is ∙ ap (λ (n : ℕ). not (empty (drop n (take 31 l)))) at)

@@ -1,4 +1,4 @@
--- Bytes written one behind the other. Assumes nothing.
+-- Bytes written one behind the other.
 use mathlib.Core.Path.{_≡_, refl, sym, ap, _∙_}
 use Prim.Native.Nat.{ℕ, suc, _+_, _≤_, _<_}
 use native.Mathlib.Omega.{arith}

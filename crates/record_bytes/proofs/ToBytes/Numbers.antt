@@ -1,4 +1,4 @@
--- A number in n bytes. Assumes nothing.
+-- A number in n bytes.
 use mathlib.Core.Path.{_≡_, refl, ap, _∙_}
 use Prim.Native.Nat.{ℕ, zero, suc, _-_, _*_, _/_, _%_, _^_, _<_}
 use native.Mathlib.Omega.{arith}

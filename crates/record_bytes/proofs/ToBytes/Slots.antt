@@ -1,4 +1,4 @@
--- Slots one behind the other. Assumes nothing.
+-- Slots one behind the other.
 use mathlib.Core.Path.{_≡_, refl, ap, _∙_}
 use Prim.Native.Nat.{ℕ, _+_, _*_, _<_}
 use native.Mathlib.Omega.{arith}

@@ -1,4 +1,4 @@
--- The values of the record of a frame are the values of the frame. Assumes nothing.
+-- The values of the record of a frame are the values of the frame.
 use mathlib.Core.Path.{_≡_, refl, ap, ap₂, _∙_, subst}
 use mathlib.Core.Logic.{⊎-elim}
 use Prim.Native.Nat.{ℕ, _+_, _≤_}

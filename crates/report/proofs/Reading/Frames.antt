@@ -1,4 +1,4 @@
--- What reading a frame answers, and what the frame is. Assumes nothing.
+-- What reading a frame answers, and what the frame is.
 use mathlib.Core.Path.{_≡_, refl, _∙_}
 use Prim.Native.Nat.{ℕ, _≤_}
 use native.Mathlib.Omega.{arith}

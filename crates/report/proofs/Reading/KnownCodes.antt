@@ -1,4 +1,4 @@
--- A category is let through exactly where it says something. Assumes nothing.
+-- A category is let through exactly where it says something.
 use mathlib.Core.Path.{_≡_, refl}
 use mathlib.Core.Bool.{true}
 use Prim.Native.Nat.{ℕ, zero, suc, _≤_, _<_}

@@ -1,4 +1,4 @@
--- The numbers of refusals, and those that reading answers. Assumes nothing.
+-- The numbers of refusals, and those that reading answers.
 use mathlib.Core.Path.{_≡_, refl}
 use Prim.Native.Nat.{ℕ, _≤_}
 use mathlib.Core.List.{List}

@@ -1,4 +1,4 @@
--- Counting the used slots: the loop, and what the number says. Assumes nothing.
+-- Counting the used slots: the loop, and what the number says.
 use mathlib.Core.Path.{_≡_, ap, _∙_, subst}
 use mathlib.Core.Bool.{true}
 use Prim.Native.Nat.{ℕ, _≤_, _<_}

@@ -1,4 +1,4 @@
--- Frames and records are one to one. Assumes nothing.
+-- Frames and records are one to one.
 use mathlib.Core.Path.{_≡_, sym, ap, _∙_}
 use Prim.Native.Nat.{ℕ}
 use mathlib.Core.List.{List}

@@ -1,4 +1,4 @@
--- The parts of a record from its values: the body, the slots, the text. Assumes nothing.
+-- The parts of a record from its values: the body, the slots, the text.
 use mathlib.Core.Path.{_≡_, refl, sym, ap, ap₂, _∙_}
 use mathlib.Core.Bool.{true}
 use Prim.Native.Nat.{ℕ, zero, suc, _+_}
@@ -13,7 +13,7 @@ use Rattle.hypocenter.specs.declared.Quake.{Quake}
 use Rattle.nankai.specs.declared.PageNumbers.{PageNumbers}
 use Rattle.ash_fall.specs.declared.Eruption.{Eruption}
 use Rattle.report.specs.declared.record.Body.{Body}
-use Rattle.report.specs.declared.record.Body.the-variants.{Nothing, Hypocenter, Intensity, Nankai, AshFall}
+use Rattle.report.specs.declared.record.Body.the-variants.{NoCategory, Hypocenter, Intensity, Nankai, AshFall}
 use Rattle.report.specs.Layout.{layout}
 use Rattle.rows.specs.Values.{cut}
 use Rattle.report.specs.Records.{bodyBy, textOf, bodyValues}
@@ -50,7 +50,7 @@ eruptionFrom vs = record { time = timeFrom vs 0; warning = getD vs 3 0; volcano 
 
 -- a body of the category of b
 abbrev bodyFrom : Body → List ℕ → Body
-bodyFrom Nothing vs = Nothing
+bodyFrom NoCategory vs = NoCategory
 bodyFrom (Hypocenter q) vs = Hypocenter (quakeFrom vs)
 bodyFrom (Intensity t) vs = Intensity (record { time = timeFrom vs 0 })
 bodyFrom (Nankai p) vs = Nankai (pageFrom vs)
@@ -63,7 +63,7 @@ page-again p text n = ap (λ (vs : List ℕ). record { serial = p .serial; numbe
 
 body-again : (b : Body) (text : List ℕ) → length text ≡ 18 → bodyFrom b (bodyValues b text) ≡ b
 unfolding bodyValues
-body-again Nothing text n = refl
+body-again NoCategory text n = refl
 body-again (Hypocenter q) text n = refl
 body-again (Intensity t) text n = refl
 body-again (Nankai p) text n = ap Nankai (page-again p text n)
@@ -71,7 +71,7 @@ body-again (AshFall e) text n = refl
 
 body-cut : (s : List ℕ) (b : Body) → bodyFrom b (map (cut s) (layout b .body)) ≡ bodyBy s (layout b .code)
 unfolding layout bodyBy
-body-cut s Nothing = refl
+body-cut s NoCategory = refl
 body-cut s (Hypocenter q) = refl
 body-cut s (Intensity t) = refl
 body-cut s (Nankai p) = refl
@@ -93,7 +93,7 @@ all-zero (v ∷ vs) (suc n) l h = ap₂ (λ (a : ℕ) (b : List ℕ). a ∷ b) (
 pub same-text : (s : List ℕ) (b : Body) (text : List ℕ) → length text ≡ 18 → tidyText b text ≡ true
     → map (cut s) (layout b .body) ≡ bodyValues b text → textOf s b ≡ text
 unfolding layout bodyValues textOf tidyText
-same-text s Nothing text n t e = all-zero text 18 n (empty-is text t)
+same-text s NoCategory text n t e = all-zero text 18 n (empty-is text t)
 same-text s (Hypocenter q) text n t e = all-zero text 18 n (empty-is text t)
 same-text s (Intensity q) text n t e = all-zero text 18 n (empty-is text t)
 same-text s (Nankai p) text n t e = ap (λ (vs : List ℕ). take 18 (drop 1 vs)) e ∙ take-at text (p .number ∷ p .total ∷ []) 18 n

@@ -1,4 +1,4 @@
--- What is read and then written is the frame. Assumes nothing.
+-- What is read and then written is the frame.
 use mathlib.Core.Path.{_≡_, refl, sym, ap, _∙_, subst}
 use Prim.Native.Nat.{ℕ, _+_, _*_, _/_, _%_, _^_, _≤_, _<_}
 use native.Mathlib.Nat.{mod-eq-of-lt}
@@ -16,7 +16,7 @@ use Rattle.parity.proofs.Front.{parity-of-front}
 use Rattle.rows.specs.declared.refusal.Verdict.{Verdict}
 use Rattle.rows.specs.declared.refusal.Verdict.the-variants.{Fine, Refused}
 use Rattle.report.specs.declared.record.Body.{Body}
-use Rattle.report.specs.declared.record.Body.the-variants.{Nothing}
+use Rattle.report.specs.declared.record.Body.the-variants.{NoCategory}
 use Rattle.report.specs.declared.record.Record.{Record}
 use Rattle.report.specs.Layout.{layout}
 use Rattle.report.specs.Records.{bodyOf, recordAs, recordOf, values}
@@ -51,7 +51,7 @@ same-values s c =
 
 -- ---- so it is valid
 
-not-nothing : (b : Body) → layout b .spareWidth ≤ 57 → b ≡ Nothing → ⊥
+not-nothing : (b : Body) → layout b .spareWidth ≤ 57 → b ≡ NoCategory → ⊥
 unfolding layout
 not-nothing b h e = wide (subst (λ (b : Body). layout b .spareWidth ≤ 57) e h)
   where

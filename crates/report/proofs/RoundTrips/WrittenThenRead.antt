@@ -1,4 +1,4 @@
--- What is written and then read is the record. Assumes nothing.
+-- What is written and then read is the record.
 use mathlib.Core.Path.{_≡_, refl, sym, ap, ap₂, _∙_, subst}
 use Prim.Native.Nat.{ℕ, _+_, _*_, _/_, _%_, _^_, _<_}
 use native.Mathlib.Nat.{mod-eq-of-lt}
@@ -14,7 +14,7 @@ use Rattle.parity.specs.Parity.{parityOf, parityOfFront}
 use Rattle.parity.proofs.Front.{parity-of-front}
 use Rattle.rows.specs.declared.refusal.Verdict.the-variants.{Fine}
 use Rattle.report.specs.declared.record.Body.{Body}
-use Rattle.report.specs.declared.record.Body.the-variants.{Nothing, Hypocenter, Intensity, Nankai, AshFall}
+use Rattle.report.specs.declared.record.Body.the-variants.{NoCategory, Hypocenter, Intensity, Nankai, AshFall}
 use Rattle.report.specs.declared.record.Record.{Record}
 use Rattle.report.specs.Layout.{layout, preambles, categories}
 use Rattle.rows.specs.Layout.{allRows, slotCount}
@@ -135,9 +135,9 @@ seen r s h keeps w =
 
 -- ---- so it conforms
 
-known-category : (b : Body) → (b ≡ Nothing → ⊥) → In categories (layout b .code)
+known-category : (b : Body) → (b ≡ NoCategory → ⊥) → In categories (layout b .code)
 unfolding layout
-known-category Nothing h = absurd (h refl)
+known-category NoCategory h = absurd (h refl)
 known-category (Hypocenter q) h = inl (omega arith, omega arith)
 known-category (Intensity t) h = inr (inl (omega arith, omega arith))
 known-category (Nankai p) h = inr (inr (inl (omega arith, omega arith)))

@@ -1,10 +1,10 @@
--- Each row of a table has its value. Assumes nothing.
+-- Each row of a table has its value.
 use mathlib.Core.Path.{_≡_, refl, ap, _∙_}
 use Prim.Native.Nat.{ℕ, suc, _+_}
 use mathlib.Core.List.{List, [], _∷_}
 use lib.ListN.{length, take, length-append}
 use Rattle.report.specs.declared.record.Body.{Body}
-use Rattle.report.specs.declared.record.Body.the-variants.{Nothing, Hypocenter, Intensity, Nankai, AshFall}
+use Rattle.report.specs.declared.record.Body.the-variants.{NoCategory, Hypocenter, Intensity, Nankai, AshFall}
 use Rattle.report.specs.declared.record.Record.{Record}
 use Rattle.rows.specs.Layout.{slotCount, slotFirst}
 use Rattle.report.specs.Layout.{layout}
@@ -18,7 +18,7 @@ use Rattle.slots.proofs.Lengths.{map-filled, slots-counted}
 
 body-filled : (b : Body) (text : List ℕ) → length text ≡ 18 → length (bodyValues b text) ≡ length (layout b .body)
 unfolding layout bodyValues
-body-filled Nothing text n = refl
+body-filled NoCategory text n = refl
 body-filled (Hypocenter q) text n = refl
 body-filled (Intensity t) text n = refl
 body-filled (Nankai p) text n = ap suc (length-append text (p .number ∷ p .total ∷ []) ∙ ap (λ (i : ℕ). i + 2) n)

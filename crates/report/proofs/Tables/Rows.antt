@@ -1,5 +1,4 @@
--- Rows that tile are a layout: their fields are what `decode` finds, and the values of a frame are their fields. Assumes
--- nothing.
+-- Rows that tile are a layout: their fields are what `decode` finds, and the values of a frame are their fields.
 use mathlib.Core.Path.{_≡_}
 use mathlib.Core.Bool.{Bool, true}
 use Prim.Native.Nat.{ℕ, _/_, _^_}
@@ -7,8 +6,8 @@ use mathlib.Core.List.{List, _∷_, map}
 use Rattle.bits.specs.Layout.{total, decode}
 use Rattle.bits.specs.Frame.{number, fieldOf}
 use Rattle.report.specs.declared.record.Body.{Body}
-use Rattle.report.specs.declared.record.Body.the-variants.{Nothing, Hypocenter, Intensity, Nankai, AshFall}
-use Rattle.rows.specs.Layout.{Layout, spare, row, nothing, allRows, tiles, allFit}
+use Rattle.report.specs.declared.record.Body.the-variants.{NoCategory, Hypocenter, Intensity, Nankai, AshFall}
+use Rattle.rows.specs.Layout.{Layout, spare, row, noCategory, allRows, tiles, allFit}
 use Rattle.report.specs.Layout.{layout}
 use Rattle.intensity.specs.Intensity.{intensity}
 use Rattle.nankai.specs.Nankai.{nankai}
@@ -30,10 +29,10 @@ listed test e b =
     let three = and-both (test intensity) _ (two .1) in
     let four = and-both (test nankai) _ (three .1) in
     let nine = and-both (test ashFall) _ (four .1) in
-    by b (two .0) (three .0) (four .0) (nine .0) (and-both (test nothing) _ (nine .1) .0)
+    by b (two .0) (three .0) (four .0) (nine .0) (and-both (test noCategory) _ (nine .1) .0)
   where
-    by : (b : Body) → test hypocenter ≡ true → test intensity ≡ true → test nankai ≡ true → test ashFall ≡ true → test nothing ≡ true → test (layout b) ≡ true
-    by Nothing two three four nine none = none
+    by : (b : Body) → test hypocenter ≡ true → test intensity ≡ true → test nankai ≡ true → test ashFall ≡ true → test noCategory ≡ true → test (layout b) ≡ true
+    by NoCategory two three four nine none = none
     by (Hypocenter q) two three four nine none = two
     by (Intensity t) two three four nine none = three
     by (Nankai p) two three four nine none = four

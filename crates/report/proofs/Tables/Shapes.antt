@@ -1,10 +1,10 @@
--- Records as lists have a shape: sixteen slots, 18 text bytes. Assumes nothing.
+-- Records as lists have a shape: sixteen slots, 18 text bytes.
 use mathlib.Core.Path.{_≡_, refl}
 use Prim.Native.Nat.{ℕ}
 use mathlib.Core.List.{List}
 use lib.ListN.{length}
 use Rattle.report.specs.declared.record.Body.{Body}
-use Rattle.report.specs.declared.record.Body.the-variants.{Nothing, Hypocenter, Intensity, Nankai, AshFall}
+use Rattle.report.specs.declared.record.Body.the-variants.{NoCategory, Hypocenter, Intensity, Nankai, AshFall}
 use Rattle.report.specs.declared.record.Record.{Record}
 use Rattle.report.specs.Layout.{layout}
 use Rattle.report.specs.Records.{textOf, recordAs}
@@ -19,7 +19,7 @@ pub record Shaped (r : Record) : Type 0 where
 
 text-eighteen : (s : List ℕ) (b : Body) → length (textOf s b) ≡ 18
 unfolding textOf
-text-eighteen s Nothing = refl
+text-eighteen s NoCategory = refl
 text-eighteen s (Hypocenter q) = refl
 text-eighteen s (Intensity t) = refl
 text-eighteen s (Nankai p) = refl

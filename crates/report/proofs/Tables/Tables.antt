@@ -1,15 +1,15 @@
--- What is computed over all tables. Assumes nothing.
+-- What is computed over all tables.
 use mathlib.Core.Path.{_≡_, refl}
 use mathlib.Core.Bool.{Bool, true, _&&_}
 use mathlib.Core.List.{List, [], _∷_}
-use Rattle.rows.specs.Layout.{Layout, nothing, allRows, tiles, allFit}
+use Rattle.rows.specs.Layout.{Layout, noCategory, allRows, tiles, allFit}
 use Rattle.hypocenter.specs.Hypocenter.{hypocenter}
 use Rattle.intensity.specs.Intensity.{intensity}
 use Rattle.nankai.specs.Nankai.{nankai}
 use Rattle.ash_fall.specs.AshFall.{ashFall}
 
 abbrev pub layouts : List Layout
-layouts = hypocenter ∷ intensity ∷ nankai ∷ ashFall ∷ nothing ∷ []
+layouts = hypocenter ∷ intensity ∷ nankai ∷ ashFall ∷ noCategory ∷ []
 
 abbrev pub all : (Layout → Bool) → List Layout → Bool
 all test [] = true

@@ -1,4 +1,4 @@
--- Walks over the fields of a category, cut into the pieces that the code asks. Assumes nothing.
+-- Walks over the fields of a category, cut into the pieces that the code asks.
 use mathlib.Core.Path.{_≡_, refl}
 use mathlib.Core.Bool.{_&&_}
 use Prim.Native.Nat.{ℕ}
@@ -8,7 +8,7 @@ use lib.Dec.{leb, eqb}
 use Rattle.bits.specs.Frame.{Bytes}
 use Rattle.rows.specs.declared.refusal.Refusal.the-variants.{Range, Spare}
 use Rattle.report.specs.declared.record.Common.{Common}
-use Rattle.report.specs.declared.record.Body.the-variants.{Nothing, Hypocenter, Intensity, Nankai, AshFall}
+use Rattle.report.specs.declared.record.Body.the-variants.{NoCategory, Hypocenter, Intensity, Nankai, AshFall}
 use Rattle.report.specs.declared.record.Body.{Body}
 use Rattle.rows.specs.Runs.Questions.{_then_, unless}
 use Rattle.rows.specs.Layout.{_to_, Layout, common}
@@ -36,7 +36,7 @@ common-walk l c x = simp (unless-true _ (Range 8) (only-yes 43), unless-true _ (
 -- any text passes, so the fields of a category are judged without it
 pub body-walk : (b : Body) (text : List ℕ) → Bytes text → length text ≡ 18 → walk 0 (layout b .body) (bodyValues b text) ≡ bodyVerdict b
 unfolding layout bodyValues bodyVerdict walk
-body-walk Nothing text h l = refl
+body-walk NoCategory text h l = refl
 body-walk (Hypocenter q) text h l = refl
 body-walk (Intensity s) text h l = refl
 body-walk (Nankai p) text h l = any-text-passes p text h l

@@ -1,4 +1,4 @@
--- The loops that look for something where nothing may be. Assumes nothing.
+-- The loops that look for something where nothing may be.
 use mathlib.Core.Path.{_≡_, ap, _∙_}
 use mathlib.Core.Bool.{Bool, true, false, _&&_}
 use Prim.Native.Nat.{ℕ, _+_, _≤_, _<_}

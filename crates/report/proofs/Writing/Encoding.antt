@@ -1,5 +1,4 @@
 -- The pieces that are laid, one behind the other, are the front of the frame; with the parity behind them they are the frame.
--- Assumes nothing.
 use mathlib.Core.Path.{_≡_, refl, sym, ap, ap₂, _∙_, subst}
 use Prim.Native.Nat.{ℕ, _+_, _-_, _*_, _/_, _%_, _^_, _≤_, _<_}
 use native.Mathlib.Nat.{zero-add, mul-mod-left}
@@ -17,7 +16,7 @@ use Rattle.parity.specs.Parity.{parityOf, parityOfFront}
 use Rattle.parity.proofs.Claims.{parity-fits-its-field}
 use Rattle.parity.proofs.Front.{parity-of-front}
 use Rattle.report.specs.declared.record.Body.{Body}
-use Rattle.report.specs.declared.record.Body.the-variants.{Nothing, Hypocenter, Intensity, Nankai, AshFall}
+use Rattle.report.specs.declared.record.Body.the-variants.{NoCategory, Hypocenter, Intensity, Nankai, AshFall}
 use Rattle.report.specs.declared.record.Record.{Record}
 use Rattle.rows.specs.Layout.{Row, Layout, common, ending, slotsRows, slotCount, slotFirst}
 use Rattle.report.specs.Layout.{layout}
@@ -42,7 +41,7 @@ slotsWidths l = widths (slotsRows (l .slots) (slotCount (l .slots)) (slotFirst (
 -- the slots start where the fields end, if there are any
 slots-start : (b : Body) (f vs : List ℕ) → laid f (53 + total (widths (layout b .body))) (slotsWidths (layout b)) vs ≡ laid f (slotFirst (layout b .slots)) (slotsWidths (layout b)) vs
 unfolding layout
-slots-start Nothing f vs = refl
+slots-start NoCategory f vs = refl
 slots-start (Hypocenter q) f vs = refl
 slots-start (Intensity t) f vs = refl
 slots-start (Nankai p) f vs = refl
@@ -50,7 +49,7 @@ slots-start (AshFall e) f vs = refl
 
 spare-starts : (b : Body) → 53 + total (widths (layout b .body)) + total (slotsWidths (layout b)) ≡ layout b .spareFirst
 unfolding layout
-spare-starts Nothing = refl
+spare-starts NoCategory = refl
 spare-starts (Hypocenter q) = refl
 spare-starts (Intensity t) = refl
 spare-starts (Nankai p) = refl

@@ -1,4 +1,4 @@
--- The last 30 bits of a frame: 24 of parity, 6 of padding. Assumes nothing.
+-- The last 30 bits of a frame: 24 of parity, 6 of padding.
 use mathlib.Core.Path.{_≡_, sym, ap, ap₂, _∙_, subst}
 use Prim.Native.Nat.{ℕ, _+_, _-_, _*_, _/_, _%_, _^_, _<_}
 use native.Mathlib.Nat.{div-one, add-zero}

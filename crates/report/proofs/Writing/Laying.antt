@@ -1,4 +1,4 @@
--- Fields laid on a frame: the turns of the loops, and the spare. Assumes nothing.
+-- Fields laid on a frame: the turns of the loops, and the spare.
 use mathlib.Core.Path.{_≡_, refl, sym, ap}
 use mathlib.Core.Bool.{true}
 use Prim.Native.Nat.{ℕ, _+_, _≤_}
@@ -6,7 +6,7 @@ use native.Mathlib.Omega.{arith}
 use mathlib.Core.List.{List, [], _∷_}
 use Rattle.bits.specs.Frame.{placed, laid}
 use Rattle.report.specs.declared.record.Body.{Body}
-use Rattle.report.specs.declared.record.Body.the-variants.{Nothing, Hypocenter, Intensity, Nankai, AshFall}
+use Rattle.report.specs.declared.record.Body.the-variants.{NoCategory, Hypocenter, Intensity, Nankai, AshFall}
 use Rattle.report.specs.Layout.{layout}
 use Rattle.report.specs.Runs.Writing.{known}
 use Rattle.rows.proofs.Rules.Outcomes.{false-not-true}
@@ -23,7 +23,7 @@ pub record Spare (b : Body) : Type 0 where
 
 pub spare-of : (b : Body) → known b ≡ true → Spare b
 unfolding layout
-spare-of Nothing e = absurd (false-not-true e)
+spare-of NoCategory e = absurd (false-not-true e)
 spare-of (Hypocenter q) e = record { ends = refl; narrow = omega arith }
 spare-of (Intensity t) e = record { ends = refl; narrow = omega arith }
 spare-of (Nankai p) e = record { ends = refl; narrow = omega arith }

@@ -1,10 +1,10 @@
--- Number 11: what the test finds, and what must be zero. Assumes nothing.
+-- Number 11: what the test finds, and what must be zero.
 use mathlib.Core.Path.{_≡_, refl}
 use mathlib.Core.Bool.{true}
 use Prim.Native.Nat.{ℕ}
 use mathlib.Core.List.{List}
 use Rattle.report.specs.declared.record.Body.{Body}
-use Rattle.report.specs.declared.record.Body.the-variants.{Nothing, Hypocenter, Intensity, Nankai, AshFall}
+use Rattle.report.specs.declared.record.Body.the-variants.{NoCategory, Hypocenter, Intensity, Nankai, AshFall}
 use Rattle.report.specs.declared.record.Record.{Record}
 use Rattle.report.specs.Layout.{layout}
 use Rattle.rows.specs.Layout.{slotCount}
@@ -23,7 +23,7 @@ use Rattle.slots.proofs.Tidy.{others-tidy, frame-slots-tidy, slots-tidy, first-
 
 text-unused : (b : Body) (text : List ℕ) → tidyText b text ≡ true → TextUnused b text
 unfolding tidyText
-text-unused Nothing text e = empty-is text e
+text-unused NoCategory text e = empty-is text e
 text-unused (Hypocenter q) text e = empty-is text e
 text-unused (Intensity t) text e = empty-is text e
 text-unused (Nankai p) text e = tt
@@ -31,7 +31,7 @@ text-unused (AshFall v) text e = empty-is text e
 
 unused-text : (b : Body) (text : List ℕ) → TextUnused b text → tidyText b text ≡ true
 unfolding tidyText
-unused-text Nothing text h = is-empty text h
+unused-text NoCategory text h = is-empty text h
 unused-text (Hypocenter q) text h = is-empty text h
 unused-text (Intensity t) text h = is-empty text h
 unused-text (Nankai p) text h = refl
@@ -55,7 +55,7 @@ tidy-is r h =
 
 frame-text-tidy : (s : List ℕ) (b : Body) → tidyText b (textOf s b) ≡ true
 unfolding textOf tidyText empty
-frame-text-tidy s Nothing = refl
+frame-text-tidy s NoCategory = refl
 frame-text-tidy s (Hypocenter q) = refl
 frame-text-tidy s (Intensity t) = refl
 frame-text-tidy s (Nankai p) = refl

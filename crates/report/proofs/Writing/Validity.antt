@@ -1,4 +1,4 @@
--- What writing a record answers, and what the record is. Assumes nothing.
+-- What writing a record answers, and what the record is.
 use mathlib.Core.Path.{_≡_, refl, sym, ap, _∙_}
 use mathlib.Core.Bool.{true}
 use Prim.Native.Nat.{ℕ}
@@ -10,7 +10,7 @@ use Rattle.rows.specs.declared.refusal.Verdict.the-variants.{Refused}
 use Rattle.rows.specs.declared.refusal.Refusal.{Refusal}
 use Rattle.rows.specs.declared.refusal.Refusal.the-variants.{Length, Preamble, Category, Unused}
 use Rattle.report.specs.declared.record.Body.{Body}
-use Rattle.report.specs.declared.record.Body.the-variants.{Nothing, Hypocenter, Intensity, Nankai, AshFall}
+use Rattle.report.specs.declared.record.Body.the-variants.{NoCategory, Hypocenter, Intensity, Nankai, AshFall}
 use Rattle.report.specs.declared.record.Record.{Record}
 use Rattle.rows.specs.Layout.{Layout, slotCount}
 use Rattle.report.specs.Layout.{layout, preambles}
@@ -53,11 +53,11 @@ judged-record r n =
 
 -- ---- 1, 3, 7, 11
 
-is-known : (b : Body) → known b ≡ true → b ≡ Nothing → ⊥
+is-known : (b : Body) → known b ≡ true → b ≡ NoCategory → ⊥
 is-known b e n = false-not-true (sym (ap known n) ∙ e)
 
-known-is : (b : Body) → (b ≡ Nothing → ⊥) → known b ≡ true
-known-is Nothing h = absurd (h refl)
+known-is : (b : Body) → (b ≡ NoCategory → ⊥) → known b ≡ true
+known-is NoCategory h = absurd (h refl)
 known-is (Hypocenter q) h = refl
 known-is (Intensity t) h = refl
 known-is (Nankai p) h = refl
@@ -68,7 +68,7 @@ unfolding writeAnswer
 answered r size =
     question (eqb size 32) (size ≡ 32) Length (eqb-true size 32) (eq-eqb size 32)
     (question (allowed preambles (r .preamble)) (In preambles (r .preamble)) Preamble (allowed-in preambles (r .preamble)) (in-allowed preambles (r .preamble))
-    (question (known (r .body)) (r .body ≡ Nothing → ⊥) Category (is-known (r .body)) (known-is (r .body))
+    (question (known (r .body)) (r .body ≡ NoCategory → ⊥) Category (is-known (r .body)) (known-is (r .body))
     (question (tidy r) (Tidy r) Unused (is-tidy r) (tidy-is r) (unquestioned (innerWrite r)))))
 
 -- ---- both ways

@@ -1,4 +1,4 @@
--- The numbers that writing answers. Assumes nothing.
+-- The numbers that writing answers.
 use mathlib.Core.Path.{_≡_, refl}
 use mathlib.Core.Bool.{Bool, true, false, not, cond, _&&_}
 use mathlib.Core.Logic.{inl, inr}
@@ -12,9 +12,9 @@ use Rattle.rows.specs.declared.refusal.Verdict.the-variants.{Fine, Refused}
 use Rattle.rows.specs.declared.refusal.Refusal.{Refusal}
 use Rattle.rows.specs.declared.refusal.Refusal.the-variants.{Length, Preamble, Category, Range, Spare, Gap, Unused}
 use Rattle.report.specs.declared.record.Body.{Body}
-use Rattle.report.specs.declared.record.Body.the-variants.{Nothing, Hypocenter, Intensity, Nankai, AshFall}
+use Rattle.report.specs.declared.record.Body.the-variants.{NoCategory, Hypocenter, Intensity, Nankai, AshFall}
 use Rattle.rows.specs.declared.slot.SlotKind.{SlotKind}
-use Rattle.rows.specs.declared.slot.SlotKind.the-variants.{Nothing as NoSlots, Prefectures, Places}
+use Rattle.rows.specs.declared.slot.SlotKind.the-variants.{NoSlots, Prefectures, Places}
 use Rattle.report.specs.declared.record.Record.{Record}
 use Rattle.rows.specs.Refusals.{says, answers}
 use Rattle.rows.specs.Runs.Questions.{_then_, unless}
@@ -95,7 +95,7 @@ all-spared (r ∷ rs) (v ∷ vs) e =
 
 body-ruled : (b : Body) → allRuled (layout b .body) ≡ true
 unfolding layout
-body-ruled Nothing = refl
+body-ruled NoCategory = refl
 body-ruled (Hypocenter q) = refl
 body-ruled (Intensity t) = refl
 body-ruled (Nankai p) = refl

@@ -1,4 +1,4 @@
--- More of why writing refuses: the gap before a slot's fields, and Reserved. Assumes nothing.
+-- More of why writing refuses: the gap before a slot's fields, and Reserved.
 use mathlib.Core.Path.{_≡_, refl, sym, ap, _∙_}
 use mathlib.Core.Bool.{Bool, true, not, _&&_}
 use mathlib.Core.Logic.{⊎-elim}

@@ -13,7 +13,7 @@ use Rattle.rows.specs.declared.refusal.Verdict.{Verdict}
 use Rattle.rows.specs.declared.refusal.Verdict.the-variants.{Fine, Refused}
 use Rattle.rows.specs.declared.refusal.Refusal.the-variants.{Length, Preamble, Category, Unused}
 use Rattle.report.specs.declared.record.Body.{Body}
-use Rattle.report.specs.declared.record.Body.the-variants.{Nothing, Hypocenter, Intensity, Nankai, AshFall}
+use Rattle.report.specs.declared.record.Body.the-variants.{NoCategory, Hypocenter, Intensity, Nankai, AshFall}
 use Rattle.report.specs.declared.record.Record.{Record}
 use Rattle.rows.specs.Runs.Questions.{_then_, unless}
 use Rattle.rows.specs.Layout.{Layout, allRows, slotCount}
@@ -27,7 +27,7 @@ use Rattle.rows.specs.Values.{flat, widths}
 
 -- 7
 abbrev pub known : Body → Bool
-known Nothing = false
+known NoCategory = false
 known (Hypocenter q) = true
 known (Intensity t) = true
 known (Nankai p) = true
@@ -36,7 +36,7 @@ known (AshFall e) = true
 -- text stands in category 4 alone
 unfoldable pub tidyText : Body → List ℕ → Bool
 tidyText (Nankai p) text = true
-tidyText Nothing text = empty text
+tidyText NoCategory text = empty text
 tidyText (Hypocenter q) text = empty text
 tidyText (Intensity t) text = empty text
 tidyText (AshFall e) text = empty text

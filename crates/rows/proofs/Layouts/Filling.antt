@@ -1,4 +1,4 @@
--- A loop that fills an array from the front. Assumes nothing.
+-- A loop that fills an array from the front.
 use mathlib.Core.Path.{_≡_, ap, _∙_}
 use Prim.Native.Nat.{ℕ, zero, suc, _+_, _-_, _<_}
 use native.Mathlib.Omega.{arith}

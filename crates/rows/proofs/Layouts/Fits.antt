@@ -1,4 +1,4 @@
--- Values that keep their rules fit their widths. Assumes nothing.
+-- Values that keep their rules fit their widths.
 use mathlib.Core.Path.{_≡_, refl, sym, subst}
 use mathlib.Core.Bool.{true}
 use mathlib.Core.Logic.{⊎-elim}

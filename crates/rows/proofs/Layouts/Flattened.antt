@@ -1,4 +1,4 @@
--- Values that fill one layout and are the same one behind the other are the same. Assumes nothing.
+-- Values that fill one layout and are the same one behind the other are the same.
 use mathlib.Core.Path.{_≡_, refl, sym, ap, ap₂, _∙_}
 use Prim.Native.Nat.{ℕ, _+_}
 use native.Mathlib.Nat.{suc-ne-zero, suc-inj}

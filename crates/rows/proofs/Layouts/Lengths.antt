@@ -1,4 +1,4 @@
--- What reading a frame answers, and what the frame is. Assumes nothing.
+-- What reading a frame answers, and what the frame is.
 use mathlib.Core.Path.{_≡_, refl, ap, _∙_}
 use Prim.Native.Nat.{ℕ, zero, suc, _+_}
 use mathlib.Core.List.{List, [], _∷_}
@@ -6,7 +6,7 @@ use lib.ListN.{length, length-map}
 use Rattle.rows.specs.Layout.{Layout, slotCount, common, ending, slotFirst, slotBits, slotRows}
 use Rattle.rows.specs.Values.{Values, each, valuesOf, cut}
 use Rattle.rows.specs.declared.slot.SlotKind.{SlotKind}
-use Rattle.rows.specs.declared.slot.SlotKind.the-variants.{Nothing as NoSlots, Prefectures, Places}
+use Rattle.rows.specs.declared.slot.SlotKind.the-variants.{NoSlots, Prefectures, Places}
 
 pub length-each : {A : Type 0} (n : ℕ) (f : ℕ → A) → length (each n f) ≡ n
 length-each zero f = refl

@@ -1,4 +1,4 @@
--- Rows that tile are a layout: their fields are what `decode` finds. Assumes nothing.
+-- Rows that tile are a layout: their fields are what `decode` finds.
 use mathlib.Core.Path.{_≡_, refl}
 use mathlib.Core.Bool.{true}
 use Prim.Native.Nat.{ℕ, _+_, _-_, _*_, _/_, _^_}
@@ -10,7 +10,7 @@ use borrow.Author.Tests.{eqb-true}
 use Rattle.bits.specs.Layout.{total, decode}
 use Rattle.bits.specs.Frame.{number}
 use Rattle.rows.specs.declared.slot.SlotKind.{SlotKind}
-use Rattle.rows.specs.declared.slot.SlotKind.the-variants.{Nothing as NoSlots, Prefectures, Places}
+use Rattle.rows.specs.declared.slot.SlotKind.the-variants.{NoSlots, Prefectures, Places}
 use Rattle.rows.specs.Layout.{Row, Layout, slotCount, slotFirst, slotBits, slotRows, slotsRows, allRows, tiles}
 use Rattle.rows.specs.Values.{each, cut, valuesOf, joined, flat, widths}
 use Rattle.rows.proofs.Rules.Outcomes.{and-both}

@@ -1,4 +1,4 @@
--- A stretch of a frame: its verdict, what must hold there, and the faults that may stand there. Assumes nothing.
+-- A stretch of a frame: its verdict, what must hold there, and the faults that may stand there.
 use mathlib.Core.Path.{_≡_, refl}
 use mathlib.Core.Bool.{Bool, true, false, cond}
 use mathlib.Core.Logic.{_⊎_, inl, inr, ⊎-elim}

@@ -1,4 +1,4 @@
--- All fields of a frame: the common ones, the category's, the slots, the ending. Assumes nothing.
+-- All fields of a frame: the common ones, the category's, the slots, the ending.
 use mathlib.Core.Path.{_≡_, refl}
 use mathlib.Core.Bool.{true}
 use Prim.Native.Nat.{ℕ}
@@ -7,7 +7,7 @@ use native.Mathlib.Omega.{arith}
 use mathlib.Core.List.{List, [], _∷_}
 use lib.ListN.{length}
 use Rattle.rows.specs.declared.slot.SlotKind.{SlotKind}
-use Rattle.rows.specs.declared.slot.SlotKind.the-variants.{Nothing as NoSlots}
+use Rattle.rows.specs.declared.slot.SlotKind.the-variants.{NoSlots}
 use Rattle.rows.specs.Layout.{Layout, common, ending, slotCount, slotFirst}
 use Rattle.rows.specs.Values.{Values}
 use Rattle.rows.specs.Runs.Verdict.{verdict, slotsVerdict}

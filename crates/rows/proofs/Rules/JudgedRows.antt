@@ -1,4 +1,4 @@
--- One field, and fields one behind the other, as stretches of a frame. Assumes nothing.
+-- One field, and fields one behind the other, as stretches of a frame.
 use mathlib.Core.Path.{_≡_}
 use mathlib.Core.Bool.{Bool, true, _&&_}
 use Prim.Native.Nat.{ℕ, suc, _≤_, _<_}

@@ -1,4 +1,4 @@
--- The slots as a stretch of a frame. Assumes nothing.
+-- The slots as a stretch of a frame.
 use mathlib.Core.Path.{_≡_, refl, sym, ap, _∙_}
 use mathlib.Core.Bool.{Bool, true, false, not}
 use mathlib.Core.Logic.{_⊎_, inl, inr, ⊎-elim}
@@ -10,7 +10,7 @@ use lib.Dec.{eqb}
 use borrow.Author.Tests.{eqb-true, eq-eqb, not-true}
 use Rattle.rows.specs.declared.refusal.Refusal.the-variants.{Gap}
 use Rattle.rows.specs.declared.slot.SlotKind.{SlotKind}
-use Rattle.rows.specs.declared.slot.SlotKind.the-variants.{Nothing as NoSlots, Prefectures, Places}
+use Rattle.rows.specs.declared.slot.SlotKind.the-variants.{NoSlots, Prefectures, Places}
 use Rattle.rows.specs.Runs.Questions.{unless}
 use Rattle.rows.specs.Layout.{slotFirst, slotBits, slotRows}
 use Rattle.rows.specs.Runs.Verdict.{empty, later, slotsVerdict}

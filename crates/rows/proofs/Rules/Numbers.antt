@@ -1,4 +1,4 @@
--- The numbers of refusals, and those that a walk over rows answers. Assumes nothing.
+-- The numbers of refusals, and those that a walk over rows answers.
 use mathlib.Core.Path.{_≡_, refl, sym, ap, _∙_}
 use mathlib.Core.Bool.{Bool, true, false, not, cond}
 use Prim.Native.Nat.{ℕ, _+_, _-_, _≤_}

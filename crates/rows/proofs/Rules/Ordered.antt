@@ -1,4 +1,4 @@
--- Questions that are asked in an order (1 to 7), before the rest. Assumes nothing.
+-- Questions that are asked in an order (1 to 7), before the rest.
 use mathlib.Core.Path.{_≡_, refl, sym, ap, _∙_}
 use mathlib.Core.Bool.{Bool, true, _&&_}
 use mathlib.Core.Logic.{inl, inr, ⊎-elim}

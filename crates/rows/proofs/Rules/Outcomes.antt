@@ -1,4 +1,4 @@
--- What an answer tells of its parts, and what a test tells. Assumes nothing.
+-- What an answer tells of its parts, and what a test tells.
 use mathlib.Core.Path.{_≡_, refl, sym}
 use mathlib.Core.Bool.{Bool, true, false, _&&_, _||_}
 use mathlib.Core.Logic.{_⊎_, inl, inr}

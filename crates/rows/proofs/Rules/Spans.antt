@@ -1,4 +1,4 @@
--- A value is let through exactly where it lies in one of the spans. Assumes nothing.
+-- A value is let through exactly where it lies in one of the spans.
 use mathlib.Core.Path.{_≡_, refl}
 use mathlib.Core.Bool.{Bool, true, false, _&&_, _||_}
 use mathlib.Core.Logic.{inl, inr, ⊎-elim}

@@ -1,4 +1,4 @@
--- A chain of questions, each put behind those before it. Assumes nothing.
+-- A chain of questions, each put behind those before it.
 use mathlib.Core.Path.{_≡_, ap, _∙_}
 use mathlib.Core.Bool.{Bool}
 use Rattle.rows.specs.declared.refusal.Verdict.{Verdict}

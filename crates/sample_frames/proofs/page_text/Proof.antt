@@ -1,4 +1,4 @@
--- `sample_frames::page_text` is safe and ends. Assumes nothing.
+-- `sample_frames::page_text` is safe and ends.
 use Prim.Native.Nat.{_-_, _≤_}
 use borrow.Author.Needs.{needs}
 use lib.ListN.{length}

@@ -1,4 +1,4 @@
--- `sample_frames::show_pages` is safe and ends. Assumes nothing.
+-- `sample_frames::show_pages` is safe and ends.
 use Prim.Native.Nat.{_-_, _≤_}
 use borrow.Author.Needs.{needs}
 use Rattle.sample_frames.proofs.show_pages.Statement.{statement}

@@ -1,4 +1,4 @@
--- `ash_fall::Eruption::lay` meets its contract. Assumes nothing.
+-- `ash_fall::Eruption::lay` meets its contract.
 use borrow.Author.Needs.{needs}
 use Rattle.ash_fall.proofs.Eruption.lay.Statement.{statement}
 use Rattle.ash_fall.proofs.Eruption.lay.Tie as tie

@@ -1,4 +1,4 @@
--- `ash_fall::Eruption::of` meets its contract. Assumes nothing.
+-- `ash_fall::Eruption::of` meets its contract.
 use borrow.Author.Needs.{needs}
 use Rattle.ash_fall.proofs.Eruption.of.Statement.{statement}
 use Rattle.ash_fall.proofs.Eruption.of.Tie as tie

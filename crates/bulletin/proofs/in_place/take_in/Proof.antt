@@ -1,6 +1,5 @@
 -- `bulletin::in_place::take_in` meets its contract: a walk of its code, by hand. The borrow is opened, the store behind it is
 -- copied out, `Store::take` is called by its contract alone, and the borrow is closed at the store of the result.
--- Assumes nothing.
 use mathlib.Core.Path.{_≡_, refl, ap}
 use Prim.Native.Nat.{ℕ}
 use mathlib.Core.List.{[], _∷_, List}

@@ -1,6 +1,6 @@
--- `bulletin::take::admit` meets its contract. Assumes nothing.
+-- `bulletin::take::admit` meets its contract.
 use mathlib.Core.Path.{sym, _∙_}
-use Rattle.bulletin.proofs.Taking.Admitted.{no-page, of-bulletin, of-another}
+use Rattle.bulletin.proofs.Taking.TakingOutcomes.{no-page, of-bulletin, of-another}
 use borrow.Author.Needs.{needs}
 use Rattle.bulletin.proofs.take.admit.Statement.{statement}
 use Rattle.bulletin.proofs.take.admit.Tie as tie

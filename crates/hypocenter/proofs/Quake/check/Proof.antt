@@ -1,4 +1,4 @@
--- `hypocenter::Quake::check` meets its contract. Assumes nothing.
+-- `hypocenter::Quake::check` meets its contract.
 use mathlib.Core.Path.{sym, ap, _∙_}
 use Rattle.rows.specs.declared.refusal.Verdict.{Verdict}
 use Rattle.rows.specs.Runs.Questions.{_then_}

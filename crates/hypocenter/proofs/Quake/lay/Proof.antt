@@ -1,4 +1,4 @@
--- `hypocenter::Quake::lay` meets its contract. Assumes nothing.
+-- `hypocenter::Quake::lay` meets its contract.
 use borrow.Author.Needs.{needs}
 use Rattle.hypocenter.proofs.Quake.lay.Statement.{statement}
 use Rattle.hypocenter.proofs.Quake.lay.Tie as tie

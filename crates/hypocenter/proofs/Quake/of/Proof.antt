@@ -1,4 +1,4 @@
--- `hypocenter::Quake::of` meets its contract. Assumes nothing.
+-- `hypocenter::Quake::of` meets its contract.
 use borrow.Author.Needs.{needs}
 use Rattle.hypocenter.proofs.Quake.of.Statement.{statement}
 use Rattle.hypocenter.proofs.Quake.of.Tie as tie

@@ -1,4 +1,4 @@
--- `hypocenter::codes::is_magnitude` meets its contract. Assumes nothing.
+-- `hypocenter::codes::is_magnitude` meets its contract.
 use Rattle.hypocenter.proofs.KnownCodes.{saysMagnitude, magnitude-known}
 use borrow.Author.Needs.{needs}
 use mathlib.Core.Path.{sym, ap, _∙_}

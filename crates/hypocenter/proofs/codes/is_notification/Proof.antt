@@ -1,4 +1,4 @@
--- `hypocenter::codes::is_notification` meets its contract. Assumes nothing.
+-- `hypocenter::codes::is_notification` meets its contract.
 use Rattle.rows.proofs.Rules.Spans.{in-allowed, not-allowed}
 use Rattle.rows.specs.Layout.{_to_}
 use mathlib.Core.List.{[], _∷_}

@@ -1,6 +1,6 @@
--- `inserter::frames::hand_over` meets its contract. Assumes nothing.
+-- `inserter::frames::hand_over` meets its contract.
 use borrow.Author.Tests.{ne-eqb}
-use Rattle.inserter.specs.Answers.{handed}
+use Rattle.inserter.specs.Answers.{readingInto}
 use Rattle.inserter.proofs.Reading.{read-whole, refused}
 use borrow.Author.Needs.{needs}
 use Rattle.inserter.proofs.frames.hand_over.Statement.{statement}
@@ -10,7 +10,7 @@ wrong-call-requires : tie.Need-wrong-call-requires
 wrong-call-requires c κs = search needs
 
 returns : tie.Need-returns
-unfolding handed
+unfolding readingInto
 returns c = simp (ne-eqb _ 145 (c .before .if1 .taken), c .wrong-call .ensures)
 
 enum-told : tie.Need-enum-told

@@ -1,4 +1,4 @@
--- `inserter::frames::lz_parity` meets its contract. Assumes nothing.
+-- `inserter::frames::lz_parity` meets its contract.
 use borrow.Author.Needs.{needs}
 use borrow.Author.Tests.{eq-eqb, ne-eqb}
 use Rattle.inserter.specs.Answers.{parityAnswer}

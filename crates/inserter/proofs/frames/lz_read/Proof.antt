@@ -1,7 +1,7 @@
--- `inserter::frames::lz_read` meets its contract. Assumes nothing.
+-- `inserter::frames::lz_read` meets its contract.
 use Rattle.report.specs.declared.read.Reading.{Reading}
 use mathlib.Core.Path.{_∙_, ap}
-use Rattle.inserter.specs.Answers.{handed}
+use Rattle.inserter.specs.Answers.{readingInto}
 use borrow.Author.Needs.{needs}
 use Rattle.inserter.proofs.frames.lz_read.Statement.{statement}
 use Rattle.inserter.proofs.frames.lz_read.Tie as tie
@@ -19,7 +19,7 @@ returns : tie.Need-returns
 returns c =
     let hand = c .before .before in
     let buffer = hand .before .before .before .before .before .args .record-bytes .now in
-    hand .hand-over .ensures ∙ ap (λ (r : Reading). handed r buffer) (hand .before .before .read .ensures)
+    hand .hand-over .ensures ∙ ap (λ (r : Reading). readingInto r buffer) (hand .before .before .read .ensures)
 
 pub lz-read-spec : {M : Type 1} → statement M
 lz-read-spec = tie.close (tie.spec read-requires hand-over-requires same-length returns)

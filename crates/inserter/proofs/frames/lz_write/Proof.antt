@@ -1,6 +1,6 @@
--- `inserter::frames::lz_write` meets its contract. Assumes nothing.
+-- `inserter::frames::lz_write` meets its contract.
 use borrow.Author.Tests.{ne-eqb}
-use Rattle.inserter.specs.Answers.{writeFrom}
+use Rattle.inserter.specs.Answers.{writeInto}
 use Rattle.inserter.proofs.Writing.{written}
 use borrow.Author.Needs.{needs}
 use Rattle.inserter.proofs.frames.lz_write.Statement.{statement}
@@ -10,7 +10,7 @@ wrong-call-requires : tie.Need-wrong-call-requires
 wrong-call-requires c κs = search needs
 
 returns : tie.Need-returns
-unfolding writeFrom
+unfolding writeInto
 returns c = simp (ne-eqb _ 145 (c .before .if1 .taken), c .wrong-call .ensures)
 
 unpack-requires : tie.Need-unpack-requires

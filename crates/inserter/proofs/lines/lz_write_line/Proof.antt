@@ -1,8 +1,8 @@
--- `inserter::lines::lz_write_line` meets its contract. Assumes nothing.
+-- `inserter::lines::lz_write_line` meets its contract.
 use Rattle.rows.specs.declared.refusal.Verdict.{Verdict}
 use Rattle.rows.specs.Refusals.{answers}
 use mathlib.Core.Path.{_∙_, ap}
-use Rattle.inserter.specs.Answers.{left, word}
+use Rattle.inserter.specs.Answers.{callResult, answerWord}
 use borrow.Author.Needs.{needs}
 use Rattle.inserter.proofs.lines.lz_write_line.Statement.{statement}
 use Rattle.inserter.proofs.lines.lz_write_line.Tie as tie
@@ -19,7 +19,7 @@ same-length c = search needs
 returns : tie.Need-returns
 returns c =
     let wrote = c .before .before .before .write-line .ensures in
-    λ i. left ((c .verdict-word .ensures ∙ ap (λ (v : Verdict). word (answers v)) (wrote .0)) i) (wrote .1 i)
+    λ i. callResult ((c .verdict-word .ensures ∙ ap (λ (v : Verdict). answerWord (answers v)) (wrote .0)) i) (wrote .1 i)
 
 pub lz-write-line-spec : {M : Type 1} → statement M
 lz-write-line-spec =

@@ -1,4 +1,4 @@
--- `inserter::stores::lz_merge` meets its contract. Assumes nothing.
+-- `inserter::stores::lz_merge` meets its contract.
 use borrow.Author.Tests.{eq-eqb, ne-eqb}
 use Rattle.inserter.specs.Answers.{mergeInto}
 use Rattle.inserter.proofs.StoreDoors.{merging-left}

@@ -1,4 +1,4 @@
--- `inserter::stores::lz_take` meets its contract. Assumes nothing.
+-- `inserter::stores::lz_take` meets its contract.
 use borrow.Author.Tests.{eq-eqb, ne-eqb}
 use Rattle.inserter.specs.Answers.{takeInto}
 use Rattle.inserter.proofs.StoreDoors.{taking-left}

@@ -1,10 +1,10 @@
--- `inserter::stores::lz_text` meets its contract. Assumes nothing.
+-- `inserter::stores::lz_text` meets its contract.
 use mathlib.Core.Path.{sym, ap, _∙_}
 use Prim.Native.Nat.{_≤_}
 use native.Mathlib.Omega.{arith}
 use borrow.Author.Tests.{ne-eqb}
 use Rattle.rows.specs.declared.refusal.Verdict.{Verdict}
-use Rattle.inserter.specs.Answers.{lengthOr, textInto}
+use Rattle.inserter.specs.Answers.{lengthOrRefusal, textInto}
 use Rattle.inserter.proofs.StoreDoors.{text-left, text-is-small}
 use borrow.Author.Needs.{needs}
 use Rattle.inserter.proofs.stores.lz_text.Statement.{statement}
@@ -47,7 +47,7 @@ returns-2 c =
     let text = told .before .before .before .before in
     let store = text .before .before in
     text-left _ _ _ _ _ _ (store .before .if1 .left) (store .unpack-store .ensures) (text .text .ensures .0) (text .text .ensures .1)
-    (sym (ap (λ (v : Verdict). lengthOr v (text .text .result .length)) (told .enum-told .given .1)))
+    (sym (ap (λ (v : Verdict). lengthOrRefusal v (text .text .result .length)) (told .enum-told .given .1)))
 
 same-length-2 : tie.Need-same-length-2
 same-length-2 c = search needs
@@ -58,7 +58,7 @@ returns-3 c =
     let text = told .before .before .before .before in
     let store = text .before .before in
     text-left _ _ _ _ _ _ (store .before .if1 .left) (store .unpack-store .ensures) (text .text .ensures .0) (text .text .ensures .1)
-    (c .refusal-word .ensures ∙ sym (ap (λ (v : Verdict). lengthOr v (text .text .result .length)) (told .answer .given .1)))
+    (c .refusal-word .ensures ∙ sym (ap (λ (v : Verdict). lengthOrRefusal v (text .text .result .length)) (told .answer .given .1)))
 
 pub lz-text-spec : {M : Type 1} → statement M
 lz-text-spec =

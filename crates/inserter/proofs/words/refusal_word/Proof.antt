@@ -1,4 +1,4 @@
--- `inserter::words::refusal_word` meets its contract. Assumes nothing.
+-- `inserter::words::refusal_word` meets its contract.
 use borrow.Author.Needs.{needs}
 use Rattle.inserter.proofs.words.refusal_word.Statement.{statement}
 use Rattle.inserter.proofs.words.refusal_word.Tie as tie

@@ -1,4 +1,4 @@
--- `inserter::words::taken_word` meets its contract. Assumes nothing.
+-- `inserter::words::taken_word` meets its contract.
 use borrow.Author.Needs.{needs}
 use Rattle.inserter.proofs.words.taken_word.Statement.{statement}
 use Rattle.inserter.proofs.words.taken_word.Tie as tie

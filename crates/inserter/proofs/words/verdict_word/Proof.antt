@@ -1,4 +1,4 @@
--- `inserter::words::verdict_word` meets its contract. Assumes nothing.
+-- `inserter::words::verdict_word` meets its contract.
 use borrow.Author.Needs.{needs}
 use Rattle.inserter.proofs.words.verdict_word.Statement.{statement}
 use Rattle.inserter.proofs.words.verdict_word.Tie as tie

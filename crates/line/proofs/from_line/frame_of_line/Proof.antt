@@ -1,4 +1,4 @@
--- `line::from_line::frame_of_line` meets its contract. Assumes nothing.
+-- `line::from_line::frame_of_line` meets its contract.
 use mathlib.Core.Path.{_≡_, sym, ap, _∙_}
 use Prim.Native.Nat.{ℕ, _+_, _-_, _*_, _≤_, _<_}
 use mathlib.Core.List.{List}

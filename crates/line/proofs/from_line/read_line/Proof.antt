@@ -1,4 +1,4 @@
--- `line::from_line::read_line` meets its contract. Assumes nothing.
+-- `line::from_line::read_line` meets its contract.
 use Rattle.line.proofs.LineEnds.{read-on, read-no-more}
 use borrow.Author.Needs.{needs}
 use Rattle.line.proofs.from_line.read_line.Statement.{statement}

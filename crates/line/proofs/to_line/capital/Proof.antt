@@ -1,4 +1,4 @@
--- `line::to_line::capital` meets its contract. Assumes nothing.
+-- `line::to_line::capital` meets its contract.
 use borrow.Author.Tests.{lt-ltb, le-ltb}
 use borrow.Author.Needs.{needs}
 use Rattle.line.proofs.to_line.capital.Statement.{statement}

@@ -1,4 +1,4 @@
--- `line::to_line::digit` meets its contract. Assumes nothing.
+-- `line::to_line::digit` meets its contract.
 use borrow.Author.Tests.{eq-eqb, ne-eqb}
 use borrow.Author.Needs.{needs}
 use Rattle.line.proofs.to_line.digit.Statement.{statement}

@@ -1,5 +1,5 @@
 -- `line::to_line::write_line` meets its contract: the digits passed are the frame's, and the bytes behind them are as they
--- were. Assumes nothing.
+-- were.
 use mathlib.Core.Path.{_≡_, refl, sym, ap, _∙_}
 use mathlib.Core.List.{List}
 use Prim.Native.Nat.{ℕ, _+_, _-_, _≤_}

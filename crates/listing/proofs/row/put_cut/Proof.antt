@@ -1,4 +1,4 @@
--- `listing::row::put_cut` meets its contract. Assumes nothing.
+-- `listing::row::put_cut` meets its contract.
 use native.Mathlib.Omega.{arith}
 use Rattle.listing.specs.Rows.{cutText}
 use borrow.Author.Needs.{needs}

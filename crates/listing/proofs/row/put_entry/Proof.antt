@@ -1,4 +1,4 @@
--- `listing::row::put_entry` meets its contract. Assumes nothing.
+-- `listing::row::put_entry` meets its contract.
 use Prim.Native.Nat.{ℕ, _<_}
 use native.Mathlib.Omega.{arith}
 use Rattle.listing.proofs.Texts.Decimals.{three-digits}

@@ -1,4 +1,4 @@
--- `listing::row::put_row` meets its contract: ten digits, four entries of at most four bytes, a line feed. Assumes nothing.
+-- `listing::row::put_row` meets its contract: ten digits, four entries of at most four bytes, a line feed.
 use Prim.Native.Nat.{_+_, _≤_}
 use native.Mathlib.Omega.{arith}
 use lib.ListN.{length}

@@ -1,4 +1,4 @@
--- `listing::row::write_heading` meets its contract. Assumes nothing.
+-- `listing::row::write_heading` meets its contract.
 use native.Mathlib.Omega.{arith}
 use Rattle.listing.specs.Rows.{headingText}
 use Rattle.listing.proofs.Texts.Written.{wrote-laid, too-short}

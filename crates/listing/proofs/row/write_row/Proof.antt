@@ -1,4 +1,4 @@
--- `listing::row::write_row` meets its contract. Assumes nothing.
+-- `listing::row::write_row` meets its contract.
 use mathlib.Core.Path.{ap}
 use native.Mathlib.Omega.{arith}
 use Rattle.listing.specs.Rows.{rowText}

@@ -1,4 +1,4 @@
--- `listing::scan::find` meets its contract: no line feed has been passed. Assumes nothing.
+-- `listing::scan::find` meets its contract: no line feed has been passed.
 use mathlib.Core.Path.{_≡_}
 use Prim.Native.Nat.{ℕ, _≤_, _<_, _-_}
 use native.Mathlib.Omega.{arith}

@@ -1,4 +1,4 @@
--- `listing::scan::finish` meets its contract. Assumes nothing.
+-- `listing::scan::finish` meets its contract.
 use mathlib.Core.Path.{_≡_, sym, ap, _∙_}
 use mathlib.Core.List.{List}
 use Prim.Native.Nat.{ℕ, _+_, _≤_, _<_}
@@ -6,7 +6,7 @@ use native.Mathlib.Nat.{min-le-right}
 use native.Mathlib.Omega.{arith}
 use lib.ListN.{length, take, length-take}
 use lib.Seq.{length-take-le}
-use Rattle.listing.specs.Rows.{rowText, rowOf, laid}
+use Rattle.listing.specs.Rows.{rowText, rowOf, filledBy}
 use Rattle.listing.specs.Listing.{lineRow}
 use Rattle.listing.specs.Scanning.{begunIn, finished}
 use Rattle.listing.proofs.Texts.KeptBytes.{unmapped, take-least}
@@ -59,7 +59,7 @@ returns c =
     let s = l .before .before in
     let begun : List ℕ = begunIn (s .args .from) in
     let m : 0 < length begun = omega (arith, t .if2 .taken, ap length (same l), length-take-le (l .least .result) (s .args .from .begun) (fits l)) in
-    (w .write-row .ensures .0 ∙ ap (λ (x : List ℕ). laid x (s .args .out .now)) (ap (λ x. rowText (s .args .from .lines + 1) (rowOf x)) (r .read-line .ensures) ∙ ap (lineRow (s .args .from .lines + 1)) (same l) ∙ last-some (s .args .from .lines) begun (omega (arith, limit-is)) m), w .write-row .ensures .1)
+    (w .write-row .ensures .0 ∙ ap (λ (x : List ℕ). filledBy x (s .args .out .now)) (ap (λ x. rowText (s .args .from .lines + 1) (rowOf x)) (r .read-line .ensures) ∙ ap (lineRow (s .args .from .lines + 1)) (same l) ∙ last-some (s .args .from .lines) begun (omega (arith, limit-is)) m), w .write-row .ensures .1)
 
 returns-2 : tie.Need-returns-2
 unfolding finished

@@ -1,10 +1,10 @@
--- `listing::scan::scan` meets its contract. Assumes nothing.
+-- `listing::scan::scan` meets its contract.
 use mathlib.Core.Path.{sym}
 use mathlib.Core.List.{List}
 use Prim.Native.Nat.{ℕ}
 use native.Mathlib.Omega.{arith}
 use lib.Seq.{length-take-le}
-use Rattle.listing.specs.Scanning.{taken}
+use Rattle.listing.specs.Scanning.{bytesTaken}
 use Rattle.listing.proofs.Chunks.Chunks.{taken-fits, taken-room, scan-left}
 use borrow.Author.Needs.{needs}
 use Rattle.listing.proofs.scan.scan.Statement.{statement}
@@ -14,14 +14,14 @@ least-requires : tie.Need-least-requires
 least-requires c κs = search needs
 
 slice-aggregate-scan-all : tie.Need-slice-aggregate-scan-all
-unfolding taken
+unfolding bytesTaken
 slice-aggregate-scan-all c =
     let l = c .before in
     let s = l .before .before .before in
     sym (length-take-le (l .least .result) (s .args .chunk .now) (omega (arith, l .least .ensures, taken-fits (s .args .chunk .now) (s .args .out .now))))
 
 scan-all-requires : tie.Need-scan-all-requires
-unfolding taken
+unfolding bytesTaken
 scan-all-requires c κs =
     let l = c .before .before in
     let s = l .before .before .before in
@@ -33,7 +33,7 @@ same-length : tie.Need-same-length
 same-length c = search needs
 
 returns : tie.Need-returns
-unfolding taken
+unfolding bytesTaken
 returns c =
     let a = c .before .before in
     let l = a .before .before .before in

@@ -1,4 +1,4 @@
--- `listing::scan::scan_all` meets its contract. Assumes nothing.
+-- `listing::scan::scan_all` meets its contract.
 use mathlib.Core.Path.{refl, sym, ap, _∙_}
 use mathlib.Core.Logic.{⊎-elim}
 use mathlib.Core.List.{List, [], append-nil}

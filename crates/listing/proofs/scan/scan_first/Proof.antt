@@ -1,4 +1,4 @@
--- `listing::scan::scan_first` meets its contract: the line that was begun ends, and the lines behind it follow, or it does not. Assumes nothing.
+-- `listing::scan::scan_first` meets its contract: the line that was begun ends, and the lines behind it follow, or it does not.
 use mathlib.Core.Path.{refl, sym}
 use mathlib.Core.List.{List, [], _++_}
 use Prim.Native.Nat.{ℕ, _+_, _≤_, _<_}

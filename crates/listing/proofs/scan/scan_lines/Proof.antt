@@ -1,4 +1,4 @@
--- `listing::scan::scan_lines` meets its contract: what is left to do from here is what was to be done. Assumes nothing.
+-- `listing::scan::scan_lines` meets its contract: what is left to do from here is what was to be done.
 use mathlib.Core.Path.{_≡_, refl, _∙_}
 use mathlib.Core.List.{List, []}
 use Prim.Native.Nat.{ℕ, _+_, _-_, _*_, _≤_, _<_}

@@ -1,4 +1,4 @@
--- `listing::text::put_number` meets its contract: the digits in front, and then the last. Assumes nothing.
+-- `listing::text::put_number` meets its contract: the digits in front, and then the last.
 use mathlib.Core.Path.{ap, _∙_}
 use Prim.Native.Nat.{_+_, _/_, _≤_}
 use native.Mathlib.Nat.{div-lt-self}

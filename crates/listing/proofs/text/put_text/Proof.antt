@@ -1,4 +1,4 @@
--- `listing::text::put_text` meets its contract: so many bytes of the text stand there. Assumes nothing.
+-- `listing::text::put_text` meets its contract: so many bytes of the text stand there.
 use mathlib.Core.Path.{_≡_, refl, ap, _∙_}
 use mathlib.Core.List.{List}
 use Prim.Native.Nat.{ℕ, _+_, _-_, _≤_}

@@ -1,4 +1,4 @@
--- `nankai::PageNumbers::check` meets its contract. Assumes nothing.
+-- `nankai::PageNumbers::check` meets its contract.
 use Rattle.rows.proofs.Rules.Outcomes.{then-assoc}
 use Rattle.nankai.proofs.Walks.{numbers-walk}
 use borrow.Author.Needs.{needs}

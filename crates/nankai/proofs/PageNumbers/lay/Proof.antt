@@ -1,4 +1,4 @@
--- `nankai::PageNumbers::lay` meets its contract. Assumes nothing.
+-- `nankai::PageNumbers::lay` meets its contract.
 use Prim.Native.Nat.{ℕ}
 use Rattle.bits.specs.Frame.{placed, laid}
 use Rattle.nankai.proofs.Laying.{page-laid}

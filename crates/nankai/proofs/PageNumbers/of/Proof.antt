@@ -1,4 +1,4 @@
--- `nankai::PageNumbers::of` meets its contract. Assumes nothing.
+-- `nankai::PageNumbers::of` meets its contract.
 use borrow.Author.Needs.{needs}
 use Rattle.nankai.proofs.PageNumbers.of.Statement.{statement}
 use Rattle.nankai.proofs.PageNumbers.of.Tie as tie

@@ -1,4 +1,4 @@
--- `pages::name::same_common` meets its contract. Assumes nothing.
+-- `pages::name::same_common` meets its contract.
 use mathlib.Core.Path.{_≡_, sym}
 use mathlib.Core.Bool.{Bool, true, _&&_}
 use borrow.Author.Tests.{eq-eqb, ne-eqb}

@@ -1,4 +1,4 @@
--- `pages::page::same_bytes` meets its contract. Assumes nothing.
+-- `pages::page::same_bytes` meets its contract.
 use mathlib.Core.Path.{_≡_, sym, ap, _∙_}
 use mathlib.Core.List.{List}
 use borrow.Author.Count.{below-more}

@@ -1,8 +1,8 @@
--- `record_bytes::from_bytes::body_of` meets its contract. Assumes nothing.
+-- `record_bytes::from_bytes::body_of` meets its contract.
 use mathlib.Core.Path.{sym, ap, _∙_}
 use borrow.Author.Tests.{ne-eqb}
 use Rattle.report.specs.declared.record.Body.the-variants.{Hypocenter, Intensity, Nankai, AshFall}
-use Rattle.record_bytes.specs.Unpacked.{bodyBy}
+use Rattle.record_bytes.specs.Unpacked.{bodyOfCode}
 use Rattle.rows.specs.declared.time.Time.{Time}
 use borrow.Author.Needs.{needs}
 use Rattle.record_bytes.proofs.from_bytes.body_of.Statement.{statement}
@@ -24,23 +24,23 @@ eruption-of-requires : tie.Need-eruption-of-requires
 eruption-of-requires c κs = search needs
 
 returns : tie.Need-returns
-unfolding bodyBy
-returns c = ap Hypocenter (c .quake-of .ensures) ∙ sym (ap (bodyBy (c .before .before .before .before .args .bytes .now)) (c .before .match .keys1))
+unfolding bodyOfCode
+returns c = ap Hypocenter (c .quake-of .ensures) ∙ sym (ap (bodyOfCode (c .before .before .before .before .args .bytes .now)) (c .before .match .keys1))
 
 returns-2 : tie.Need-returns-2
-unfolding bodyBy
-returns-2 c = ap (λ (t : Time). Intensity (record { time = t })) (c .time-at .ensures) ∙ sym (ap (bodyBy (c .before .before .before .before .args .bytes .now)) (c .before .match .keys2))
+unfolding bodyOfCode
+returns-2 c = ap (λ (t : Time). Intensity (record { time = t })) (c .time-at .ensures) ∙ sym (ap (bodyOfCode (c .before .before .before .before .args .bytes .now)) (c .before .match .keys2))
 
 returns-3 : tie.Need-returns-3
-unfolding bodyBy
-returns-3 c = ap Nankai (c .page-of .ensures) ∙ sym (ap (bodyBy (c .before .before .before .before .args .bytes .now)) (c .before .match .keys3))
+unfolding bodyOfCode
+returns-3 c = ap Nankai (c .page-of .ensures) ∙ sym (ap (bodyOfCode (c .before .before .before .before .args .bytes .now)) (c .before .match .keys3))
 
 returns-4 : tie.Need-returns-4
-unfolding bodyBy
-returns-4 c = ap AshFall (c .eruption-of .ensures) ∙ sym (ap (bodyBy (c .before .before .before .before .args .bytes .now)) (c .before .match .keys4))
+unfolding bodyOfCode
+returns-4 c = ap AshFall (c .eruption-of .ensures) ∙ sym (ap (bodyOfCode (c .before .before .before .before .args .bytes .now)) (c .before .match .keys4))
 
 returns-5 : tie.Need-returns-5
-unfolding bodyBy
+unfolding bodyOfCode
 returns-5 c =
     let other = c .match .rest in
     simp (ne-eqb _ 2 (other .0 .0 .0 .1), ne-eqb _ 3 (other .0 .0 .1), ne-eqb _ 4 (other .0 .1), ne-eqb _ 9 (other .1))

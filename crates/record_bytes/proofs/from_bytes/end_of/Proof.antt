@@ -1,4 +1,4 @@
--- `record_bytes::from_bytes::end_of` meets its contract. Assumes nothing.
+-- `record_bytes::from_bytes::end_of` meets its contract.
 use Rattle.record_bytes.specs.Packed.{bodyBytes}
 use borrow.Author.Needs.{needs}
 use Rattle.record_bytes.proofs.from_bytes.end_of.Statement.{statement}

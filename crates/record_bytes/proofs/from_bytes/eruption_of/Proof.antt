@@ -1,4 +1,4 @@
--- `record_bytes::from_bytes::eruption_of` meets its contract. Assumes nothing.
+-- `record_bytes::from_bytes::eruption_of` meets its contract.
 use borrow.Author.Needs.{needs}
 use Rattle.record_bytes.proofs.from_bytes.eruption_of.Statement.{statement}
 use Rattle.record_bytes.proofs.from_bytes.eruption_of.Tie as tie

@@ -1,4 +1,4 @@
--- `record_bytes::from_bytes::has_stray` meets its contract: what is left decides. Assumes nothing.
+-- `record_bytes::from_bytes::has_stray` meets its contract: what is left decides.
 use mathlib.Core.Path.{_≡_, refl, sym, ap, _∙_}
 use mathlib.Core.Bool.{not}
 use Prim.Native.Nat.{_-_}

@@ -1,4 +1,4 @@
--- `record_bytes::from_bytes::marked_slots_of` meets its contract. Assumes nothing.
+-- `record_bytes::from_bytes::marked_slots_of` meets its contract.
 use mathlib.Core.Path.{ap, _∙_}
 use mathlib.Core.Bool.{true, false}
 use mathlib.Core.List.{List}

@@ -1,4 +1,4 @@
--- `record_bytes::from_bytes::slot_at` meets its contract. Assumes nothing.
+-- `record_bytes::from_bytes::slot_at` meets its contract.
 use borrow.Author.Needs.{needs}
 use Rattle.record_bytes.proofs.from_bytes.slot_at.Statement.{statement}
 use Rattle.record_bytes.proofs.from_bytes.slot_at.Tie as tie

@@ -1,4 +1,4 @@
--- `record_bytes::from_bytes::slots_of` meets its contract: the slots passed are those of the bytes. Assumes nothing.
+-- `record_bytes::from_bytes::slots_of` meets its contract: the slots passed are those of the bytes.
 use mathlib.Core.Path.{_≡_, refl, ap, _∙_}
 use mathlib.Core.List.{List, _++_}
 use Prim.Native.Nat.{ℕ, _+_, _-_, _*_, _≤_}

@@ -1,4 +1,4 @@
--- `record_bytes::from_bytes::unpack` meets its contract. Assumes nothing.
+-- `record_bytes::from_bytes::unpack` meets its contract.
 use native.Mathlib.Omega.{arith}
 use borrow.Author.Tests.{eq-eqb, ne-eqb}
 use Rattle.record_bytes.specs.Unpacked.{unpackedAs, recordFrom}

@@ -1,4 +1,4 @@
--- `record_bytes::text::has_text` meets its contract. Assumes nothing.
+-- `record_bytes::text::has_text` meets its contract.
 use mathlib.Core.Path.{sym}
 use Prim.Native.Nat.{_+_}
 use native.Mathlib.Omega.{arith}

@@ -1,4 +1,4 @@
--- `record_bytes::text::put_text` meets its contract: the bytes passed are the text's. Assumes nothing.
+-- `record_bytes::text::put_text` meets its contract: the bytes passed are the text's.
 use mathlib.Core.Path.{_≡_, refl, sym, _∙_}
 use Prim.Native.Nat.{_+_, _-_, _≤_}
 use native.Mathlib.Omega.{arith}

@@ -1,4 +1,4 @@
--- `record_bytes::text::text_at` meets its contract: the bytes passed are the text's. Assumes nothing.
+-- `record_bytes::text::text_at` meets its contract: the bytes passed are the text's.
 use mathlib.Core.Path.{_≡_, refl, sym, ap, _∙_}
 use mathlib.Core.List.{List, _++_}
 use Prim.Native.Nat.{ℕ, _+_, _-_, _≤_}

@@ -1,4 +1,4 @@
--- `record_bytes::to_bytes::pack` meets its contract. Assumes nothing.
+-- `record_bytes::to_bytes::pack` meets its contract.
 use mathlib.Core.Path.{_≡_, sym, _∙_}
 use native.Mathlib.Omega.{arith}
 use lib.ListN.{length, length-map}

@@ -1,4 +1,4 @@
--- `record_bytes::to_bytes::put_body` meets its contract. Assumes nothing.
+-- `record_bytes::to_bytes::put_body` meets its contract.
 use Rattle.record_bytes.specs.Packed.{bodyBytes}
 use Rattle.record_bytes.proofs.ToBytes.Chains.{_then_}
 use borrow.Author.Needs.{needs}

@@ -1,4 +1,4 @@
--- `record_bytes::to_bytes::put_eruption` meets its contract. Assumes nothing.
+-- `record_bytes::to_bytes::put_eruption` meets its contract.
 use mathlib.Core.Path.{_∙_}
 use native.Mathlib.Omega.{arith}
 use lib.ListN.{length-set}

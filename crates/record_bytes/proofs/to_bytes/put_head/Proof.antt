@@ -1,4 +1,4 @@
--- `record_bytes::to_bytes::put_head` meets its contract. Assumes nothing.
+-- `record_bytes::to_bytes::put_head` meets its contract.
 use native.Mathlib.Omega.{arith}
 use lib.ListN.{length-set}
 use borrow.Author.Needs.{needs}

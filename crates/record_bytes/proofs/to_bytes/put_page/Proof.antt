@@ -1,4 +1,4 @@
--- `record_bytes::to_bytes::put_page` meets its contract. Assumes nothing.
+-- `record_bytes::to_bytes::put_page` meets its contract.
 use mathlib.Core.Path.{refl}
 use Rattle.record_bytes.specs.Packed.{bodyBytes}
 use borrow.Author.Needs.{needs}

@@ -1,4 +1,4 @@
--- `record_bytes::to_bytes::put_quake` meets its contract. Assumes nothing.
+-- `record_bytes::to_bytes::put_quake` meets its contract.
 use Rattle.record_bytes.proofs.ToBytes.Chains.{_then_}
 use borrow.Author.Needs.{needs}
 use Rattle.record_bytes.proofs.to_bytes.put_quake.Statement.{statement}

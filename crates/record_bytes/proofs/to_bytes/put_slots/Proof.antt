@@ -1,4 +1,4 @@
--- `record_bytes::to_bytes::put_slots` meets its contract: the bytes passed are those of the slots. Assumes nothing.
+-- `record_bytes::to_bytes::put_slots` meets its contract: the bytes passed are those of the slots.
 use mathlib.Core.Path.{_≡_}
 use Prim.Native.Nat.{_-_, _≤_}
 use native.Mathlib.Omega.{arith}

@@ -1,4 +1,4 @@
--- `record_bytes::to_bytes::put_time` meets its contract. Assumes nothing.
+-- `record_bytes::to_bytes::put_time` meets its contract.
 use native.Mathlib.Omega.{arith}
 use lib.ListN.{length-set}
 use Rattle.record_bytes.proofs.ToBytes.Chains.{one, _then_}

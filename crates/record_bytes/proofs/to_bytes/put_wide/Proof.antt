@@ -1,4 +1,4 @@
--- `record_bytes::to_bytes::put_wide` meets its contract: the bytes passed are the number's. Assumes nothing.
+-- `record_bytes::to_bytes::put_wide` meets its contract: the bytes passed are the number's.
 use mathlib.Core.Path.{_≡_, refl, sym}
 use Prim.Native.Nat.{_-_, _≤_}
 use native.Mathlib.Omega.{arith}

@@ -1,4 +1,4 @@
--- `record_bytes::to_bytes::put_zeros` meets its contract: the bytes passed are zeros. Assumes nothing.
+-- `record_bytes::to_bytes::put_zeros` meets its contract: the bytes passed are zeros.
 use mathlib.Core.Path.{_≡_, refl, sym}
 use Prim.Native.Nat.{ℕ, _-_, _≤_}
 use native.Mathlib.Omega.{arith}

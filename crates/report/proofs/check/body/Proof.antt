@@ -1,4 +1,4 @@
--- `report::check::body` meets its contract. Assumes nothing.
+-- `report::check::body` meets its contract.
 use Rattle.rows.proofs.Rules.Outcomes.{then-fine}
 use Rattle.report.specs.Runs.Steps.{bodyVerdict}
 use borrow.Author.Needs.{needs}

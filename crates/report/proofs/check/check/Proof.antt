@@ -1,4 +1,4 @@
--- `report::check::check` meets its contract. Assumes nothing.
+-- `report::check::check` meets its contract.
 use Rattle.bits.specs.Frame.{Bytes}
 use Rattle.rows.proofs.Rules.Outcomes.{then-assoc, fine-then}
 use Rattle.report.specs.Records.{values}

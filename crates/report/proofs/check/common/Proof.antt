@@ -1,4 +1,4 @@
--- `report::check::common` meets its contract. Assumes nothing.
+-- `report::check::common` meets its contract.
 use mathlib.Core.Path.{sym, ap, _∙_}
 use Rattle.rows.specs.declared.refusal.Verdict.{Verdict}
 use Rattle.report.specs.Layout.{layout}

@@ -1,4 +1,4 @@
--- `report::check::last` meets its contract. Assumes nothing.
+-- `report::check::last` meets its contract.
 use Rattle.rows.proofs.Rules.Outcomes.{then-assoc, then-fine, fine-then}
 use Rattle.rows.proofs.Rules.Spans.{allowed-one, only-yes}
 use Rattle.rows.specs.Runs.Questions.{unless}

@@ -1,4 +1,4 @@
--- `report::codes::is_category` meets its contract. Assumes nothing.
+-- `report::codes::is_category` meets its contract.
 use Rattle.report.proofs.Reading.KnownCodes.{two-to-four}
 use Rattle.rows.proofs.Rules.Spans.{not-allowed}
 use Rattle.report.specs.Layout.{categories}
@@ -9,7 +9,7 @@ use native.Mathlib.Omega.{arith}
 use Rattle.report.proofs.codes.is_category.Statement.{statement}
 use Rattle.report.proofs.codes.is_category.Tie as tie
 
--- `report::codes::is_category` meets its contract. Assumes nothing.
+-- `report::codes::is_category` meets its contract.
 
 returns : tie.Need-returns
 returns c = sym (not-allowed categories _ (λ h. ⊎-elim (λ k. omega arith) (λ h. ⊎-elim (λ k. omega arith) (λ h. ⊎-elim (λ k. omega arith) (λ h. ⊎-elim (λ k. omega arith) (λ h. h) h) h) h) h))

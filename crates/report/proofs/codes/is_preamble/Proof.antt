@@ -1,4 +1,4 @@
--- `report::codes::is_preamble` meets its contract. Assumes nothing.
+-- `report::codes::is_preamble` meets its contract.
 use Rattle.rows.proofs.Rules.Spans.{key-yes, key-no}
 use mathlib.Core.List.{[], _∷_}
 use mathlib.Core.Path.{sym}

@@ -1,4 +1,4 @@
--- `report::decode::body_of` meets its contract. Assumes nothing.
+-- `report::decode::body_of` meets its contract.
 use Rattle.report.specs.Records.{bodyBy}
 use Rattle.report.specs.declared.record.Body.the-variants.{Hypocenter, Intensity, Nankai, AshFall}
 use borrow.Author.Needs.{needs}

@@ -1,4 +1,4 @@
--- `report::decode::common_of` meets its contract. Assumes nothing.
+-- `report::decode::common_of` meets its contract.
 use borrow.Author.Needs.{needs}
 use Rattle.report.proofs.decode.common_of.Statement.{statement}
 use Rattle.report.proofs.decode.common_of.Tie as tie

@@ -1,4 +1,4 @@
--- `report::decode::decode` meets its contract. Assumes nothing.
+-- `report::decode::decode` meets its contract.
 use Rattle.report.specs.Records.{recordAs}
 use borrow.Author.Needs.{needs}
 use Rattle.report.proofs.decode.decode.Statement.{statement}

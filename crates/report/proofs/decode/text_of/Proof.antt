@@ -1,4 +1,4 @@
--- `report::decode::text_of` meets its contract. Assumes nothing.
+-- `report::decode::text_of` meets its contract.
 use Rattle.report.specs.Records.{textOf}
 use borrow.Author.Needs.{needs}
 use Rattle.report.proofs.decode.text_of.Statement.{statement}

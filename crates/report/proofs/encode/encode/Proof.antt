@@ -1,4 +1,4 @@
--- `report::encode::encode` meets its contract. Assumes nothing.
+-- `report::encode::encode` meets its contract.
 use Prim.Native.Nat.{ℕ}
 use Rattle.bits.specs.Frame.{laid}
 use Rattle.report.proofs.Writing.Encoding.{encoded, valid-known}

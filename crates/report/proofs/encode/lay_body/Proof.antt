@@ -1,4 +1,4 @@
--- `report::encode::lay_body` meets its contract. Assumes nothing.
+-- `report::encode::lay_body` meets its contract.
 use Rattle.report.specs.Layout.{layout}
 use Rattle.report.specs.Records.{bodyValues}
 use borrow.Author.Needs.{needs}

@@ -1,4 +1,4 @@
--- `report::encode::lay_common` meets its contract. Assumes nothing.
+-- `report::encode::lay_common` meets its contract.
 use borrow.Author.Needs.{needs}
 use Rattle.report.proofs.encode.lay_common.Statement.{statement}
 use Rattle.report.proofs.encode.lay_common.Tie as tie

@@ -1,4 +1,4 @@
--- `report::encode::lay_front` meets its contract. Assumes nothing.
+-- `report::encode::lay_front` meets its contract.
 use Rattle.bits.specs.Frame.{laid}
 use Rattle.report.proofs.Writing.Encoding.{all-laid}
 use Rattle.report.proofs.Tables.Shapes.{Shaped}

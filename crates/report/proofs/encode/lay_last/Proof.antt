@@ -1,4 +1,4 @@
--- `report::encode::lay_last` meets its contract. Assumes nothing.
+-- `report::encode::lay_last` meets its contract.
 use Prim.Native.Nat.{ℕ, _-_}
 use Rattle.bits.proofs.Inside.{placed-in}
 use Rattle.bits.specs.Frame.{placed}

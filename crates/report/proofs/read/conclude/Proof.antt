@@ -1,4 +1,4 @@
--- `report::read::conclude` meets its contract. Assumes nothing.
+-- `report::read::conclude` meets its contract.
 use borrow.Author.Needs.{needs}
 use Rattle.report.proofs.read.conclude.Statement.{statement}
 use Rattle.report.proofs.read.conclude.Tie as tie

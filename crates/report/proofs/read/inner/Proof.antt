@@ -1,4 +1,4 @@
--- `report::read::inner` meets its contract: the values of the record are those of the frame. Assumes nothing.
+-- `report::read::inner` meets its contract: the values of the record are those of the frame.
 use Prim.Native.Nat.{_-_}
 use Rattle.bits.proofs.Inside.{field-in}
 use Rattle.bits.specs.Frame.{fieldOf}

@@ -1,4 +1,4 @@
--- `report::read::outer` meets its contract. Assumes nothing.
+-- `report::read::outer` meets its contract.
 use mathlib.Core.Path.{ap, _∙_}
 use Prim.Native.Nat.{ℕ}
 use lib.Dec.{eqb}

@@ -1,4 +1,4 @@
--- `report::read::read` meets its contract. Assumes nothing.
+-- `report::read::read` meets its contract.
 use Rattle.report.proofs.Reading.ReadSteps.{not-a-frame, refused-early, read-on}
 use Rattle.bits.proofs.Inside.{right-size}
 use borrow.Author.Needs.{needs}

@@ -1,4 +1,4 @@
--- `report::tidy::has_tidy_text` meets its contract. Assumes nothing.
+-- `report::tidy::has_tidy_text` meets its contract.
 use Rattle.report.specs.Runs.Writing.{tidyText}
 use borrow.Author.Needs.{needs}
 use Rattle.report.proofs.tidy.has_tidy_text.Statement.{statement}

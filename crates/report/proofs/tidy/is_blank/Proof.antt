@@ -1,4 +1,4 @@
--- `report::tidy::is_blank` meets its contract: what is left decides. Assumes nothing.
+-- `report::tidy::is_blank` meets its contract: what is left decides.
 use Prim.Native.Nat.{_-_, _≤_}
 use Rattle.report.proofs.Writing.Blank.{blank-so-far, not-blank, all-blank}
 use Rattle.rows.specs.Runs.Verdict.{empty}

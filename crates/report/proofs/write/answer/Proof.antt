@@ -1,4 +1,4 @@
--- `report::write::answer` meets its contract. Assumes nothing.
+-- `report::write::answer` meets its contract.
 use Rattle.rows.proofs.Rules.Outcomes.{fine-then}
 use Rattle.rows.proofs.Rules.Walks.{asked, link}
 use Rattle.rows.specs.Runs.Questions.{_then_}

@@ -1,4 +1,4 @@
--- `report::write::write` meets its contract. Assumes nothing.
+-- `report::write::write` meets its contract.
 use Rattle.report.proofs.Writing.WriteSteps.{fine-size, fine-valid, left-alone, written-out}
 use Rattle.bits.proofs.Inside.{right-size}
 use borrow.Author.Needs.{needs}

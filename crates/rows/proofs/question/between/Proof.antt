@@ -1,4 +1,4 @@
--- `rows::question::between` meets its contract. Assumes nothing.
+-- `rows::question::between` meets its contract.
 use borrow.Author.Tests.{le-leb, lt-leb}
 use Rattle.rows.proofs.question.between.Statement.{statement}
 use Rattle.rows.proofs.question.between.Tie as tie

@@ -1,4 +1,4 @@
--- `slots::check::check_slot` meets its contract. Assumes nothing.
+-- `slots::check::check_slot` meets its contract.
 use Rattle.rows.proofs.Rules.Outcomes.{then-assoc, then-fine}
 use Rattle.rows.proofs.Rules.Spans.{allowed-one}
 use Rattle.rows.specs.Runs.Verdict.{walk, judge}

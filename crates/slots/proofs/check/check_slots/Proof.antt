@@ -1,5 +1,5 @@
 -- `slots::check::check_slots` meets its contract: what has been found, with what the rest of the slots comes to, stays
--- the same. Assumes nothing.
+-- the same.
 use mathlib.Core.Path.{_≡_, sym, ap, _∙_}
 use Prim.Native.Nat.{ℕ, _+_, _-_, _*_, _≤_, _<_}
 use native.Mathlib.Omega.{arith}

@@ -1,4 +1,4 @@
--- `slots::decode::slot_at` meets its contract. Assumes nothing.
+-- `slots::decode::slot_at` meets its contract.
 use mathlib.Core.Path.{_∙_}
 use Prim.Native.Nat.{_+_}
 use native.Mathlib.Omega.{arith}

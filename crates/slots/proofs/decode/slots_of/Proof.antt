@@ -1,4 +1,4 @@
--- `slots::decode::slots_of` meets its contract: the slots passed are the frame's, the others empty. Assumes nothing.
+-- `slots::decode::slots_of` meets its contract: the slots passed are the frame's, the others empty.
 use Prim.Native.Nat.{ℕ, _+_, _-_, _*_, _≤_, _<_}
 use borrow.Author.Needs.{needs}
 use Rattle.rows.proofs.Layouts.Filling.{fill}

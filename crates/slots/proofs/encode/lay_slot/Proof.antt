@@ -1,4 +1,4 @@
--- `slots::encode::lay_slot` meets its contract. Assumes nothing.
+-- `slots::encode::lay_slot` meets its contract.
 use mathlib.Core.Path.{_∙_}
 use Prim.Native.Nat.{_+_}
 use Rattle.bits.proofs.Inside.{placed-in}

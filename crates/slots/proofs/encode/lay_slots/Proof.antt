@@ -1,4 +1,4 @@
--- `slots::encode::lay_slots` meets its contract: the slots passed are laid. Assumes nothing.
+-- `slots::encode::lay_slots` meets its contract: the slots passed are laid.
 use Prim.Native.Nat.{ℕ, _+_, _-_, _*_, _≤_, _<_}
 use Rattle.bits.specs.Frame.{laid}
 use Rattle.slots.proofs.Laying.{runs, slots-widths, slot-more}

@@ -1,7 +1,7 @@
--- `slots::silence::are_tidy` meets its contract: what is left decides. Assumes nothing.
+-- `slots::silence::are_tidy` meets its contract: what is left decides.
 use Prim.Native.Nat.{ℕ, _-_, _≤_}
 use Rattle.slots.proofs.TidyLoop.{rest, tidy-so-far, not-tidy, all-tidy}
-use Rattle.rows.specs.declared.slot.SlotKind.the-variants.{Nothing}
+use Rattle.rows.specs.declared.slot.SlotKind.the-variants.{NoSlots}
 use Rattle.rows.specs.Layout.{slotCount}
 use Rattle.slots.specs.Slots.{noSlot, unused, tidySlots}
 use Rattle.rows.specs.Runs.Verdict.{empty}
@@ -27,7 +27,7 @@ sixteen c = c .good .1 .0 .1 .0 .1
 
 -- what the slot was found to be
 judged : (c : tie.After-is-tidy Inv-loop μ-loop)
-    → c .is-tidy .result ≡ empty (unused (cond (ltb (c .before .before .before .before .loop .i) (slotCount (c .before .before .before .before .before .args .kind))) (c .before .before .before .before .before .args .kind) Nothing) (getD (c .before .before .before .before .before .args .t2) (c .before .before .before .before .loop .i) noSlot))
+    → c .is-tidy .result ≡ empty (unused (cond (ltb (c .before .before .before .before .loop .i) (slotCount (c .before .before .before .before .before .args .kind))) (c .before .before .before .before .before .args .kind) NoSlots) (getD (c .before .before .before .before .before .args .t2) (c .before .before .before .before .loop .i) noSlot))
 judged c =
     let l = c .before .before .before .before in
     c .is-tidy .ensures

@@ -1,4 +1,4 @@
--- `slots::silence::used` meets its contract: those passed and those used from here on are all. Assumes nothing.
+-- `slots::silence::used` meets its contract: those passed and those used from here on are all.
 use Prim.Native.Nat.{_+_, _-_, _≤_, _<_}
 use Rattle.slots.proofs.SlotLoop.{at-most-sixteen}
 use Rattle.slots.proofs.Used.{used-more, used-end, used-all}

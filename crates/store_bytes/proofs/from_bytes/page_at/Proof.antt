@@ -1,4 +1,4 @@
--- `store_bytes::from_bytes::page_at` meets its contract. Assumes nothing.
+-- `store_bytes::from_bytes::page_at` meets its contract.
 use Prim.Native.Nat.{_+_}
 use native.Mathlib.Omega.{arith}
 use Rattle.record_bytes.proofs.Texts.{text-found}

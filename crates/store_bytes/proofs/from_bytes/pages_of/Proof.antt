@@ -1,4 +1,4 @@
--- `store_bytes::from_bytes::pages_of` meets its contract: the pages passed are those of the bytes. Assumes nothing.
+-- `store_bytes::from_bytes::pages_of` meets its contract: the pages passed are those of the bytes.
 use mathlib.Core.Path.{_≡_, refl, ap, _∙_}
 use mathlib.Core.List.{List, _++_}
 use Prim.Native.Nat.{ℕ, _+_, _-_, _*_, _≤_}

@@ -1,6 +1,6 @@
--- `store_bytes::from_bytes::unpack_name` meets its contract. Assumes nothing.
+-- `store_bytes::from_bytes::unpack_name` meets its contract.
 use borrow.Author.Tests.{eq-eqb, ne-eqb}
-use Rattle.store_bytes.specs.Stores.{nameOf}
+use Rattle.store_bytes.specs.Stores.{nameOrZeros}
 use borrow.Author.Needs.{needs}
 use Rattle.store_bytes.proofs.from_bytes.unpack_name.Statement.{statement}
 use Rattle.store_bytes.proofs.from_bytes.unpack_name.Tie as tie
@@ -9,14 +9,14 @@ of-zeros-requires : tie.Need-of-zeros-requires
 of-zeros-requires c κs = search needs
 
 returns : tie.Need-returns
-unfolding nameOf
+unfolding nameOrZeros
 returns c = simp (ne-eqb _ 8 (c .before .if1 .taken), c .of-zeros .ensures)
 
 name-of-requires : tie.Need-name-of-requires
 name-of-requires c κs = search needs
 
 returns-2 : tie.Need-returns-2
-unfolding nameOf
+unfolding nameOrZeros
 returns-2 c = simp (eq-eqb _ 8 (c .before .if1 .left), c .name-of .ensures)
 
 pub unpack-name-spec : {M : Type 1} → statement M

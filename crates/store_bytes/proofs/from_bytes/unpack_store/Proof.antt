@@ -1,6 +1,6 @@
--- `store_bytes::from_bytes::unpack_store` meets its contract. Assumes nothing.
+-- `store_bytes::from_bytes::unpack_store` meets its contract.
 use borrow.Author.Tests.{eq-eqb, ne-eqb}
-use Rattle.store_bytes.specs.Stores.{storeOf}
+use Rattle.store_bytes.specs.Stores.{storeOrZeros}
 use borrow.Author.Needs.{needs}
 use Rattle.store_bytes.proofs.from_bytes.unpack_store.Statement.{statement}
 use Rattle.store_bytes.proofs.from_bytes.unpack_store.Tie as tie
@@ -9,7 +9,7 @@ of-zeros-requires : tie.Need-of-zeros-requires
 of-zeros-requires c κs = search needs
 
 returns : tie.Need-returns
-unfolding storeOf
+unfolding storeOrZeros
 returns c = simp (ne-eqb _ 1205 (c .before .if1 .taken), c .of-zeros .ensures)
 
 pages-of-requires : tie.Need-pages-of-requires
@@ -19,7 +19,7 @@ name-of-requires : tie.Need-name-of-requires
 name-of-requires c κs = search needs
 
 returns-2 : tie.Need-returns-2
-unfolding storeOf
+unfolding storeOrZeros
 returns-2 c = simp (eq-eqb _ 1205 (c .before .before .if1 .left), c .name-of .ensures, c .before .pages-of .ensures)
 
 pub unpack-store-spec : {M : Type 1} → statement M

@@ -1,8 +1,8 @@
--- `store_bytes::to_bytes::pack_store` meets its contract. Assumes nothing.
+-- `store_bytes::to_bytes::pack_store` meets its contract.
 use mathlib.Core.Path.{_≡_}
 use lib.ListN.{length}
 use Rattle.pages.proofs.Shapes.{unmapped, shapes}
-use Rattle.bulletin.proofs.Telling.Flat.{Eighteen}
+use Rattle.bulletin.proofs.Telling.PageBytes.{Eighteen}
 use Rattle.store_bytes.proofs.Pages.{store-in-parts, other-length}
 use borrow.Author.Needs.{needs}
 use Rattle.store_bytes.proofs.to_bytes.pack_store.Statement.{statement}

@@ -1,4 +1,4 @@
--- `store_bytes::to_bytes::put_name` meets its contract. Assumes nothing.
+-- `store_bytes::to_bytes::put_name` meets its contract.
 use native.Mathlib.Omega.{arith}
 use lib.ListN.{length-set}
 use borrow.Author.Needs.{needs}

@@ -1,4 +1,4 @@
--- `store_bytes::to_bytes::put_page` meets its contract. Assumes nothing.
+-- `store_bytes::to_bytes::put_page` meets its contract.
 use native.Mathlib.Omega.{arith}
 use lib.ListN.{length-set}
 use Rattle.record_bytes.proofs.ToBytes.Chains.{one, _then_}

@@ -1,4 +1,4 @@
--- `store_bytes::to_bytes::put_pages` meets its contract: the bytes passed are those of the pages. Assumes nothing.
+-- `store_bytes::to_bytes::put_pages` meets its contract: the bytes passed are those of the pages.
 use mathlib.Core.Path.{_≡_}
 use Prim.Native.Nat.{_-_, _≤_}
 use native.Mathlib.Omega.{arith}
@@ -8,7 +8,7 @@ use borrow.Author.Needs.{needs}
 use Rattle.store_bytes.specs.Stores.{pagesBytes}
 use Rattle.record_bytes.specs.Writing.{Wrote}
 use Rattle.pages.proofs.Shapes.{unmapped, shapes}
-use Rattle.bulletin.proofs.Telling.Flat.{Eighteen}
+use Rattle.bulletin.proofs.Telling.PageBytes.{Eighteen}
 use Rattle.record_bytes.proofs.ToBytes.Chains.{nothing}
 use Rattle.store_bytes.proofs.Pages.{page-more}
 use Rattle.store_bytes.proofs.to_bytes.put_pages.Statement.{statement}

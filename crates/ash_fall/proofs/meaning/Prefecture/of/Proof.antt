@@ -1,4 +1,4 @@
--- `ash_fall::meaning::Prefecture::of` meets its contract. Assumes nothing.
+-- `ash_fall::meaning::Prefecture::of` meets its contract.
 use Prim.Native.Nat.{_<_}
 use Rattle.ash_fall.specs.Meaning.{prefectureOf}
 use borrow.Author.Needs.{needs}

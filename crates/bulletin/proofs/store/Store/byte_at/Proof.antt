@@ -1,9 +1,9 @@
--- `bulletin::store::Store::byte_at` meets its contract. Assumes nothing.
+-- `bulletin::store::Store::byte_at` meets its contract.
 use mathlib.Core.Path.{_≡_}
 use native.Mathlib.Omega.{arith}
 use lib.ListN.{length}
 use Rattle.pages.proofs.Shapes.{unmapped, shapes}
-use Rattle.bulletin.proofs.Telling.Flat.{Eighteen, getD-flat}
+use Rattle.bulletin.proofs.Telling.PageBytes.{Eighteen, getD-flat}
 use borrow.Author.Needs.{needs}
 use Rattle.bulletin.proofs.store.Store.byte_at.Statement.{statement}
 use Rattle.bulletin.proofs.store.Store.byte_at.Tie as tie

@@ -1,4 +1,4 @@
--- `bulletin::store::Store::is_sound` meets its contract: the pages that are left decide. Assumes nothing.
+-- `bulletin::store::Store::is_sound` meets its contract: the pages that are left decide.
 use mathlib.Core.Path.{_≡_, refl, _∙_, sym}
 use Prim.Native.Nat.{_≤_, _-_}
 use native.Mathlib.Omega.{arith}

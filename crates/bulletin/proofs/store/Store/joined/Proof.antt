@@ -1,4 +1,4 @@
--- `bulletin::store::Store::joined` meets its contract: the pages passed are joined. Assumes nothing.
+-- `bulletin::store::Store::joined` meets its contract: the pages passed are joined.
 use mathlib.Core.Path.{_≡_, refl, sym, _∙_}
 use Prim.Native.Nat.{_≤_, _-_}
 use native.Mathlib.Omega.{arith}

@@ -1,17 +1,17 @@
--- `bulletin::store::Store::lowest` meets its contract: the pages that are left decide. Assumes nothing.
+-- `bulletin::store::Store::lowest` meets its contract: the pages that are left decide.
 use mathlib.Core.Path.{_≡_, refl, _∙_, sym}
 use Prim.Native.Nat.{_≤_, _-_}
 use native.Mathlib.Omega.{arith}
 use borrow.Author.Needs.{needs}
 use lib.ListN.{length, drop}
-use Rattle.bulletin.specs.Counts.{lowest}
+use Rattle.bulletin.specs.Counts.{lowestNotHeld}
 use Rattle.pages.proofs.Shapes.{unmapped}
 use Rattle.bulletin.proofs.Stores.Counted.{lowest-past, lowest-more, lowest-here, lowest-end}
 use Rattle.bulletin.proofs.store.Store.lowest.Statement.{statement}
 use Rattle.bulletin.proofs.store.Store.lowest.Tie as tie
 
 abbrev Inv-loop : tie.InvT-loop
-Inv-loop self total i₀ i = (i ≤ 63) × (lowest total i (drop i (self .pages)) ≡ lowest total 0 (self .pages))
+Inv-loop self total i₀ i = (i ≤ 63) × (lowestNotHeld total i (drop i (self .pages)) ≡ lowestNotHeld total 0 (self .pages))
 
 abbrev μ-loop : tie.MeasureT-loop
 μ-loop self total i₀ i = 63 - i

@@ -1,18 +1,18 @@
--- `bulletin::store::Store::marked` meets its contract: those counted and those left are all. Assumes nothing.
+-- `bulletin::store::Store::marked` meets its contract: those counted and those left are all.
 use mathlib.Core.Path.{_≡_}
 use mathlib.Core.Logic.{⊎-elim}
 use Prim.Native.Nat.{_≤_, _<_, _-_, _+_}
 use native.Mathlib.Omega.{arith}
 use borrow.Author.Needs.{needs}
 use lib.ListN.{length, drop}
-use Rattle.bulletin.specs.Counts.{marked}
+use Rattle.bulletin.specs.Counts.{countMarked}
 use Rattle.pages.proofs.Shapes.{unmapped}
 use Rattle.bulletin.proofs.Stores.Counted.{marked-here, marked-not, marked-end}
 use Rattle.bulletin.proofs.store.Store.marked.Statement.{statement}
 use Rattle.bulletin.proofs.store.Store.marked.Tie as tie
 
 abbrev Inv-loop : tie.InvT-loop
-Inv-loop mark self n₀ i₀ n i = (i ≤ 63) × (n ≤ i) × (n + marked mark (drop i (self .pages)) ≡ marked mark (self .pages))
+Inv-loop mark self n₀ i₀ n i = (i ≤ 63) × (n ≤ i) × (n + countMarked mark (drop i (self .pages)) ≡ countMarked mark (self .pages))
 
 abbrev μ-loop : tie.MeasureT-loop
 μ-loop mark self n₀ i₀ n i = 63 - i

@@ -1,4 +1,4 @@
--- `bulletin::store::Store::merge` meets its contract. Assumes nothing.
+-- `bulletin::store::Store::merge` meets its contract.
 use Rattle.bulletin.proofs.Merging.Merged.{merged-fine, merged-refused}
 use borrow.Author.Needs.{needs}
 use Rattle.bulletin.proofs.store.Store.merge.Statement.{statement}

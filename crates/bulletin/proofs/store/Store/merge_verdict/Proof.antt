@@ -1,4 +1,4 @@
--- `bulletin::store::Store::merge_verdict` meets its contract. Assumes nothing.
+-- `bulletin::store::Store::merge_verdict` meets its contract.
 use mathlib.Core.Path.{_∙_}
 use Rattle.rows.proofs.Rules.Outcomes.{fine-then}
 use Rattle.rows.proofs.Rules.Walks.{asked, link}

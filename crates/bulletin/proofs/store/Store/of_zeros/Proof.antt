@@ -1,4 +1,4 @@
--- `bulletin::store::Store::of_zeros` meets its contract. Assumes nothing.
+-- `bulletin::store::Store::of_zeros` meets its contract.
 use mathlib.Core.Path.{ap, _∙_}
 use Rattle.pages.specs.declared.name.Name.{Name}
 use Rattle.bulletin.specs.Stores.{noPages}

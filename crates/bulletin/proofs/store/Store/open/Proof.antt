@@ -1,5 +1,5 @@
--- `bulletin::store::Store::open` meets its contract. Assumes nothing.
-use Rattle.bulletin.proofs.Stores.Opened.{opened-fine, opened-refused}
+-- `bulletin::store::Store::open` meets its contract.
+use Rattle.bulletin.proofs.Stores.OpeningOutcomes.{opened-fine, opened-refused}
 use borrow.Author.Needs.{needs}
 use Rattle.bulletin.proofs.store.Store.open.Statement.{statement}
 use Rattle.bulletin.proofs.store.Store.open.Tie as tie

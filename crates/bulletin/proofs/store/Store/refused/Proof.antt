@@ -1,4 +1,4 @@
--- `bulletin::store::Store::refused` meets its contract. Assumes nothing.
+-- `bulletin::store::Store::refused` meets its contract.
 use borrow.Author.Needs.{needs}
 use Rattle.bulletin.proofs.store.Store.refused.Statement.{statement}
 use Rattle.bulletin.proofs.store.Store.refused.Tie as tie

@@ -1,11 +1,11 @@
--- `bulletin::store::Store::take` meets its contract. Assumes nothing.
+-- `bulletin::store::Store::take` meets its contract.
 use mathlib.Core.Path.{_≡_, ap, sym, _∙_}
 use native.Mathlib.Omega.{arith}
 use Rattle.report.proofs.Tables.Shapes.{Shaped}
 use Rattle.bulletin.specs.Takings.{admission}
-use Rattle.bulletin.specs.Steps.{found}
+use Rattle.bulletin.specs.Steps.{admissionVerdict}
 use Rattle.pages.proofs.Shapes.{unmapped}
-use Rattle.bulletin.proofs.Taking.Admitted.{admits, unsound-store, sound-store, unwritable, writable-record, taken-refused, taken-in}
+use Rattle.bulletin.proofs.Taking.TakingOutcomes.{admits, unsound-store, sound-store, unwritable, writable-record, taken-refused, taken-in}
 use Rattle.pages.proofs.Numbered.{numbered}
 use borrow.Author.Needs.{needs}
 use Rattle.bulletin.proofs.store.Store.take.Statement.{statement}
@@ -78,7 +78,7 @@ returns-3 : tie.Need-returns-3
 returns-3 c = let v = c .before in
     let e = v .before in
     let a = e .before .before in
-    taken-refused _ _ (v .verdict .result) _ _ (v .verdict .ensures ∙ ap found (e .enum-told5 .given .1)) (c .refused3 .ensures) (sym (admitted a) ∙ e .enum-told5 .given .1)
+    taken-refused _ _ (v .verdict .result) _ _ (v .verdict .ensures ∙ ap admissionVerdict (e .enum-told5 .given .1)) (c .refused3 .ensures) (sym (admitted a) ∙ e .enum-told5 .given .1)
 
 put-requires : tie.Need-put-requires
 put-requires c κs = let n = c .before in

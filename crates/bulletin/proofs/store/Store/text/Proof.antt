@@ -1,6 +1,6 @@
--- `bulletin::store::Store::text` meets its contract. Assumes nothing.
+-- `bulletin::store::Store::text` meets its contract.
 use mathlib.Core.Path.{sym, _∙_}
-use Rattle.bulletin.proofs.Telling.Told.{fine-most, fine-short, told-refused, told-short, told-whole}
+use Rattle.bulletin.proofs.Telling.TextOutcomes.{fine-most, fine-short, told-refused, told-short, told-whole}
 use borrow.Author.Needs.{needs}
 use Rattle.bulletin.proofs.store.Store.text.Statement.{statement}
 use Rattle.bulletin.proofs.store.Store.text.Tie as tie

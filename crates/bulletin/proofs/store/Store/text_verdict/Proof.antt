@@ -1,4 +1,4 @@
--- `bulletin::store::Store::text_verdict` meets its contract. Assumes nothing.
+-- `bulletin::store::Store::text_verdict` meets its contract.
 use mathlib.Core.Path.{_≡_, sym, _∙_}
 use borrow.Author.Tests.{not-true, not-false, eq-eqb, ne-eqb}
 use Rattle.bulletin.specs.Text.{textVerdict}

@@ -1,4 +1,4 @@
--- `bulletin::store::Store::without_pages` meets its contract. Assumes nothing.
+-- `bulletin::store::Store::without_pages` meets its contract.
 use borrow.Author.Needs.{needs}
 use Rattle.bulletin.proofs.store.Store.without_pages.Statement.{statement}
 use Rattle.bulletin.proofs.store.Store.without_pages.Tie as tie

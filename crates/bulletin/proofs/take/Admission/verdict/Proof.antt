@@ -1,4 +1,4 @@
--- `bulletin::take::Admission::verdict` meets its contract. Assumes nothing.
+-- `bulletin::take::Admission::verdict` meets its contract.
 use borrow.Author.Needs.{needs}
 use Rattle.bulletin.proofs.take.Admission.verdict.Statement.{statement}
 use Rattle.bulletin.proofs.take.Admission.verdict.Tie as tie

@@ -1,4 +1,4 @@
--- `hypocenter::angle::Angle::lay` meets its contract. Assumes nothing.
+-- `hypocenter::angle::Angle::lay` meets its contract.
 use mathlib.Core.Path.{_∙_}
 use Prim.Native.Nat.{_+_}
 use native.Mathlib.Omega.{arith}

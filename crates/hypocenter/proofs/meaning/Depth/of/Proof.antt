@@ -1,4 +1,4 @@
--- `hypocenter::meaning::Depth::of` meets its contract. Assumes nothing.
+-- `hypocenter::meaning::Depth::of` meets its contract.
 use Prim.Native.Nat.{_<_}
 use Rattle.hypocenter.specs.Hypocenter.{depthOf}
 use borrow.Author.Tests.{le-leb, lt-leb, ne-eqb}

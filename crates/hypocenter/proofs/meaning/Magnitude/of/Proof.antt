@@ -1,4 +1,4 @@
--- `hypocenter::meaning::Magnitude::of` meets its contract. Assumes nothing.
+-- `hypocenter::meaning::Magnitude::of` meets its contract.
 use Prim.Native.Nat.{_<_}
 use Rattle.hypocenter.specs.Hypocenter.{magnitudeOf}
 use borrow.Author.Tests.{le-leb, lt-leb, ne-eqb}

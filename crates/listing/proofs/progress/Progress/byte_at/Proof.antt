@@ -1,4 +1,4 @@
--- `listing::progress::Progress::byte_at` meets its contract. Assumes nothing.
+-- `listing::progress::Progress::byte_at` meets its contract.
 use mathlib.Core.Path.{_≡_}
 use native.Mathlib.Omega.{arith}
 use lib.ListN.{length}

@@ -1,4 +1,4 @@
--- `listing::progress::Progress::with` meets its contract: byte by byte, what was begun and then what is new. Assumes nothing.
+-- `listing::progress::Progress::with` meets its contract: byte by byte, what was begun and then what is new.
 use mathlib.Core.Path.{_≡_, refl, ap, _∙_}
 use mathlib.Core.List.{List, _++_}
 use Prim.Native.Nat.{ℕ, _+_, _-_, _≤_, _<_}

@@ -1,4 +1,4 @@
--- `listing::row::Row::of` meets its contract. Assumes nothing.
+-- `listing::row::Row::of` meets its contract.
 use borrow.Author.Needs.{needs}
 use Rattle.listing.proofs.row.Row.of.Statement.{statement}
 use Rattle.listing.proofs.row.Row.of.Tie as tie

@@ -1,4 +1,4 @@
--- `listing::row::Row::of_record` meets its contract. Assumes nothing.
+-- `listing::row::Row::of_record` meets its contract.
 use borrow.Author.Needs.{needs}
 use Rattle.listing.proofs.row.Row.of_record.Statement.{statement}
 use Rattle.listing.proofs.row.Row.of_record.Tie as tie

@@ -1,4 +1,4 @@
--- `listing::row::Row::slots_entry` meets its contract. Assumes nothing.
+-- `listing::row::Row::slots_entry` meets its contract.
 use native.Mathlib.Omega.{arith}
 use Rattle.listing.proofs.Lines.UsedSlots.{few}
 use borrow.Author.Needs.{needs}

@@ -1,4 +1,4 @@
--- `pages::name::Name::is` meets its contract. Assumes nothing.
+-- `pages::name::Name::is` meets its contract.
 use mathlib.Core.Path.{sym, _∙_}
 use borrow.Author.Tests.{eq-eqb, ne-eqb}
 use Rattle.pages.specs.Names.{sameName}

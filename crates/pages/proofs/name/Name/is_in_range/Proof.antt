@@ -1,4 +1,4 @@
--- `pages::name::Name::is_in_range` meets its contract. Assumes nothing.
+-- `pages::name::Name::is_in_range` meets its contract.
 use mathlib.Core.Path.{sym, ap, _∙_}
 use Rattle.pages.specs.Names.{isFine}
 use borrow.Author.Needs.{needs}

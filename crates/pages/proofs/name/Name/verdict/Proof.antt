@@ -1,4 +1,4 @@
--- `pages::name::Name::verdict` meets its contract. Assumes nothing.
+-- `pages::name::Name::verdict` meets its contract.
 use mathlib.Core.Path.{ap, _∙_}
 use Rattle.report.specs.declared.record.Record.{Record}
 use Rattle.report.specs.Layout.{layout}

@@ -1,4 +1,4 @@
--- `pages::page::Page::is_sound` meets its contract. Assumes nothing.
+-- `pages::page::Page::is_sound` meets its contract.
 use mathlib.Core.Path.{sym, _∙_}
 use borrow.Author.Needs.{needs}
 use borrow.Author.Tests.{eq-eqb}

@@ -1,4 +1,4 @@
--- `pages::page::Page::is_sound_at` meets its contract. Assumes nothing.
+-- `pages::page::Page::is_sound_at` meets its contract.
 use mathlib.Core.Path.{_∙_, sym}
 use borrow.Author.Needs.{needs}
 use borrow.Author.Tests.{lt-ltb, le-ltb, not-true, not-false}

@@ -1,4 +1,4 @@
--- `pages::page::Page::join` meets its contract. Assumes nothing.
+-- `pages::page::Page::join` meets its contract.
 use mathlib.Core.Path.{_∙_, sym}
 use borrow.Author.Needs.{needs}
 use borrow.Author.Tests.{eq-eqb, ne-eqb}

@@ -1,4 +1,4 @@
--- `report::record::Body::code` meets its contract. Assumes nothing.
+-- `report::record::Body::code` meets its contract.
 use Rattle.report.specs.Layout.{layout}
 use borrow.Author.Needs.{needs}
 use Rattle.report.proofs.record.Body.code.Statement.{statement}

@@ -1,4 +1,4 @@
--- `report::record::Body::has_type` meets its contract. Assumes nothing.
+-- `report::record::Body::has_type` meets its contract.
 use Rattle.rows.proofs.Rules.Spans.{allowed-one}
 use Rattle.report.specs.Layout.{layout}
 use borrow.Author.Needs.{needs}

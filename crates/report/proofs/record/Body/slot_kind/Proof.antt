@@ -1,4 +1,4 @@
--- `report::record::Body::slot_kind` meets its contract. Assumes nothing.
+-- `report::record::Body::slot_kind` meets its contract.
 use Rattle.report.specs.Layout.{layout}
 use borrow.Author.Needs.{needs}
 use Rattle.report.proofs.record.Body.slot_kind.Statement.{statement}

@@ -1,4 +1,4 @@
--- `report::record::Record::is_tidy` meets its contract. Assumes nothing.
+-- `report::record::Record::is_tidy` meets its contract.
 use Rattle.report.specs.Layout.{layout}
 use Rattle.rows.specs.Layout.{slotCount}
 use Rattle.slots.specs.Slots.{tidySlots}

@@ -1,4 +1,4 @@
--- `report::record::Record::of_zeros` meets its contract. Assumes nothing.
+-- `report::record::Record::of_zeros` meets its contract.
 use Rattle.report.specs.Records.{zeros}
 use mathlib.Core.Path.{refl}
 use Rattle.report.proofs.record.Record.of_zeros.Statement.{statement}

@@ -1,4 +1,4 @@
--- `rows::refusal::Verdict::then` meets its contract. Assumes nothing.
+-- `rows::refusal::Verdict::then` meets its contract.
 use Rattle.rows.specs.Runs.Questions.{_then_}
 use borrow.Author.Needs.{needs}
 use Rattle.rows.proofs.refusal.Verdict.then.Statement.{statement}

@@ -1,4 +1,4 @@
--- `rows::refusal::Verdict::time` meets its contract. Assumes nothing.
+-- `rows::refusal::Verdict::time` meets its contract.
 use Rattle.rows.proofs.Rules.Outcomes.{then-assoc, then-fine}
 use Rattle.rows.proofs.Rules.Spans.{allowed-one}
 use Rattle.rows.specs.Runs.Verdict.{walk, judge}

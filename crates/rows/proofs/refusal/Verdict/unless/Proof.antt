@@ -1,4 +1,4 @@
--- `rows::refusal::Verdict::unless` meets its contract. Assumes nothing.
+-- `rows::refusal::Verdict::unless` meets its contract.
 use Rattle.rows.specs.Runs.Questions.{_then_, unless}
 use borrow.Author.Needs.{needs}
 use Rattle.rows.proofs.refusal.Verdict.unless.Statement.{statement}

@@ -1,4 +1,4 @@
--- `rows::refusal::Verdict::within` meets its contract. Assumes nothing.
+-- `rows::refusal::Verdict::within` meets its contract.
 use borrow.Author.Needs.{needs}
 use Rattle.rows.proofs.refusal.Verdict.within.Statement.{statement}
 use Rattle.rows.proofs.refusal.Verdict.within.Tie as tie

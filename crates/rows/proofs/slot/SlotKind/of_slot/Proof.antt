@@ -1,4 +1,4 @@
--- `rows::slot::SlotKind::of_slot` meets its contract. Assumes nothing.
+-- `rows::slot::SlotKind::of_slot` meets its contract.
 use Prim.Native.Nat.{_<_, _≤_}
 use Rattle.rows.specs.Layout.{slotCount}
 use borrow.Author.Needs.{needs}

@@ -1,4 +1,4 @@
--- `rows::time::Time::at` meets its contract. Assumes nothing.
+-- `rows::time::Time::at` meets its contract.
 use borrow.Author.Needs.{needs}
 use Rattle.rows.proofs.time.Time.at.Statement.{statement}
 use Rattle.rows.proofs.time.Time.at.Tie as tie

@@ -1,4 +1,4 @@
--- `rows::time::Time::lay` meets its contract. Assumes nothing.
+-- `rows::time::Time::lay` meets its contract.
 use borrow.Author.Needs.{needs}
 use Rattle.rows.proofs.time.Time.lay.Statement.{statement}
 use Rattle.rows.proofs.time.Time.lay.Tie as tie

@@ -1,4 +1,4 @@
--- `slots::check::Run::later` meets its contract. Assumes nothing.
+-- `slots::check::Run::later` meets its contract.
 use Rattle.rows.proofs.Rules.Outcomes.{then-assoc}
 use Rattle.slots.specs.Steps.{laterRun}
 use borrow.Author.Needs.{needs}

@@ -1,4 +1,4 @@
--- `slots::slot::Slot::empty` meets its contract. Assumes nothing.
+-- `slots::slot::Slot::empty` meets its contract.
 use Rattle.rows.proofs.Rules.Outcomes.{and-true}
 use Rattle.rows.specs.Runs.Verdict.{empty}
 use borrow.Author.Needs.{needs}

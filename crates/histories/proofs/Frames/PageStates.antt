@@ -1,14 +1,14 @@
--- The state of each page, from the frames. Assumes nothing.
+-- The state of each page, from the frames.
 use mathlib.Core.Path.{_≡_, ap, sym, _∙_, subst}
 use mathlib.Core.List.{List}
 use Prim.Native.Nat.{ℕ, suc, _-_, _≤_}
 use native.Mathlib.Omega.{arith}
 use Rattle.pages.specs.declared.name.Name.{Name}
-use Rattle.pages.proofs.Marks.{Text, Mark, absent, held, disputed, toPage, toPage-inj, markOf, markOf-same, Says, says, says-unique}
+use Rattle.pages.proofs.States.{Text, Mark, absent, held, disputed, toPage, toPage-inj, markOf, markOf-same, Says, says, says-unique}
 use Rattle.histories.specs.Soundness.{InRange}
-use Rattle.histories.specs.Frames.{Frame, after, page, SameFrames, Came, Absent, Held, Disputed}
-use Rattle.histories.proofs.Frames.Standing.{stands-same}
-use Rattle.histories.proofs.Frames.Brought.{texts, in-came, came-in}
+use Rattle.histories.specs.Frames.{Frame, storeAfter, pageNumbered, SameFrames, Came, Absent, Held, Disputed}
+use Rattle.histories.proofs.Frames.StoreStates.{stands-same}
+use Rattle.histories.proofs.Frames.TextsBrought.{texts, in-came, came-in}
 use Rattle.histories.proofs.Frames.Takings.{after-stands}
 
 module _ (n : Name) (range : InRange n) (fs : List Frame) where
@@ -46,7 +46,7 @@ module _ (n : Name) (range : InRange n) (fs : List Frame) where
   unfolding markFor
   tells-one p m h = says-unique (texts n range p fs) (markOf (texts n range p fs)) m (says (texts n range p fs)) (tells-says p m h)
 
-  pub page-for : (p : ℕ) → 1 ≤ p → p ≤ n .total → page (after n fs) p ≡ toPage (markFor p)
+  pub page-for : (p : ℕ) → 1 ≤ p → p ≤ n .total → pageNumbered (storeAfter n fs) p ≡ toPage (markFor p)
   unfolding markFor
   page-for p low high =
       let same : suc (p - 1) ≡ p = omega arith in
@@ -54,10 +54,10 @@ module _ (n : Name) (range : InRange n) (fs : List Frame) where
 
   -- ---- both ways
 
-  pub told-page : (p : ℕ) (m : Mark) → 1 ≤ p → p ≤ n .total → page (after n fs) p ≡ toPage m → Tells p m
+  pub told-page : (p : ℕ) (m : Mark) → 1 ≤ p → p ≤ n .total → pageNumbered (storeAfter n fs) p ≡ toPage m → Tells p m
   told-page p m low high e = subst (λ (x : Mark). Tells p x) (toPage-inj (markFor p) m (sym (page-for p low high) ∙ e)) (tells p)
 
-  pub page-told : (p : ℕ) (m : Mark) → 1 ≤ p → p ≤ n .total → Tells p m → page (after n fs) p ≡ toPage m
+  pub page-told : (p : ℕ) (m : Mark) → 1 ≤ p → p ≤ n .total → Tells p m → pageNumbered (storeAfter n fs) p ≡ toPage m
   page-told p m low high h = page-for p low high ∙ ap toPage (tells-one p m h)
 
 -- ---- order and repeats
@@ -65,9 +65,9 @@ module _ (n : Name) (range : InRange n) (fs : List Frame) where
 same-came : (n : Name) (a b : List Frame) → SameFrames a b → (p : ℕ) (t : Text) → Came n a p t → Came n b p t
 same-came n a b same p t c = (c .0, same .there (c .0) (c .1), c .2)
 
-pub same-frames : (n : Name) (a b : List Frame) → InRange n → SameFrames a b → after n a ≡ after n b
+pub same-frames : (n : Name) (a b : List Frame) → InRange n → SameFrames a b → storeAfter n a ≡ storeAfter n b
 same-frames n a b range same =
-    stands-same (after n a) (after n b) n _ _ (after-stands n range a) (after-stands n range b)
+    stands-same (storeAfter n a) (storeAfter n b) n _ _ (after-stands n range a) (after-stands n range b)
     (λ i h. markOf-same (texts n range (suc i) a) (texts n range (suc i) b)
     (λ t k. came-in n range (suc i) b t (same-came n a b same (suc i) t (in-came n range (suc i) a t k)))
     (λ t k. came-in n range (suc i) a t (same-came n b a (record { there = same .back; back = same .there }) (suc i) t (in-came n range (suc i) b t k))))

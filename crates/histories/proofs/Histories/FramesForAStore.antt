@@ -1,4 +1,4 @@
--- Every sound store is one that some list of frames gives. Assumes nothing.
+-- Every sound store is one that some list of frames gives.
 use mathlib.Core.Path.{_≡_, refl, ap, sym, _∙_, subst}
 use mathlib.Core.Bool.{Bool, true, false, cond}
 use mathlib.Core.List.{List, [], _∷_, _++_}
@@ -12,18 +12,18 @@ use Rattle.report.specs.declared.record.Record.{Record}
 use Rattle.pages.specs.declared.page.Page.{Page}
 use Rattle.pages.specs.declared.name.Name.{Name}
 use Rattle.bulletin.specs.declared.store.Store.{Store}
-use Rattle.pages.specs.Pages.{noPage, zeros, Shaped}
-use Rattle.bulletin.specs.Stores.{at, ShapedStore}
-use Rattle.pages.proofs.Marks.{Text, Mark, absent, held, disputed, toPage, joinM, joinM-none, markOf, markOf-append}
+use Rattle.pages.specs.Pages.{noPage, noText, Shaped}
+use Rattle.bulletin.specs.Stores.{pageBehind, ShapedStore}
+use Rattle.pages.proofs.States.{Text, Mark, absent, held, disputed, toPage, joinM, joinM-none, markOf, markOf-append}
 use Rattle.pages.proofs.Texts.{below?, ne-same}
 use Rattle.histories.specs.Soundness.{InRange, Sound}
-use Rattle.histories.specs.Frames.{Frame, after, Among, Brings, Came, AllTaken}
-use Rattle.histories.proofs.Frames.Standing.{Stands, markIn, stands-same, sound-stands}
-use Rattle.histories.proofs.Frames.Brought.{Page?, page?, broughtBy, brought, same-page, texts, texts-append}
+use Rattle.histories.specs.Frames.{Frame, storeAfter, Among, Brings, Came, AllTaken}
+use Rattle.histories.proofs.Frames.StoreStates.{Stands, markIn, stands-same, sound-stands}
+use Rattle.histories.proofs.Frames.TextsBrought.{Page?, page?, broughtBy, brought, same-page, texts, texts-append}
 use Rattle.histories.proofs.Frames.Takings.{after-stands}
 use Rattle.histories.proofs.Soundness.KeptRules.{Bytes18, all-alike}
 use Rattle.histories.proofs.Histories.PageFrames.{frameOf, frame-brings, brings-bytes}
-use Rattle.histories.proofs.Frames.Told.{Tells, markFor, tells}
+use Rattle.histories.proofs.Frames.PageStates.{Tells, markFor, tells}
 
 -- ---- texts for a mark: two that differ where it is disputed
 
@@ -33,20 +33,20 @@ ones = replicate 18 1
 abbrev textsFor : Mark → List Text
 textsFor absent = []
 textsFor (held t) = t ∷ []
-textsFor disputed = zeros ∷ ones ∷ []
+textsFor disputed = noText ∷ ones ∷ []
 
 mark-of-texts : (m : Mark) → markOf (textsFor m) ≡ m
 mark-of-texts absent = refl
 mark-of-texts (held t) = refl
-mark-of-texts disputed = rw (ne-same zeros ones apart)
+mark-of-texts disputed = rw (ne-same noText ones apart)
   where
     zero-one : _≡_ {A = ℕ} 0 1 → ⊥
     zero-one e = omega arith
 
-    apart : zeros ≡ ones → ⊥
+    apart : noText ≡ ones → ⊥
     apart e = zero-one (ap (λ (l : Text). getD l 0 0) e)
 
-pub zeros-bytes : Bytes18 zeros
+pub zeros-bytes : Bytes18 noText
 zeros-bytes = all-alike 0 (omega arith)
 
 abbrev AllBytes : List Text → Type 0
@@ -131,12 +131,12 @@ module _ (n : Name) (range : InRange n) where
 
   -- ---- a store that stands for marks of 18 bytes
 
-  pub stands-given : (s : Store) (m : ℕ → Mark) → Stands s n m → ((i : ℕ) → MarkBytes (m i)) → (fs : List Frame) × AllTaken n fs × (s ≡ after n fs)
+  pub stands-given : (s : Store) (m : ℕ → Mark) → Stands s n m → ((i : ℕ) → MarkBytes (m i)) → (fs : List Frame) × AllTaken n fs × (s ≡ storeAfter n fs)
   stands-given s m p bytes =
       let g = given m bytes (n .total) (omega arith) in (
         g .frames,
         g .taken,
-        stands-same s (after n (g .frames)) n m _ p (after-stands n range (g .frames))
+        stands-same s (storeAfter n (g .frames)) n m _ p (after-stands n range (g .frames))
             (λ i h. ⊎-elim (λ l. sym (g .below i l)) (λ l. p .past i l ∙ sym (g .beyond i l)) (below? i (n .total))),
       )
 
@@ -153,12 +153,12 @@ none-bytes : MarkBytes (markIn noPage)
 unfolding markIn
 none-bytes = tt
 
-pub sound-given : (s : Store) → Sound s → ShapedStore s → (fs : List Frame) × AllTaken (s .name) fs × (s ≡ after (s .name) fs)
+pub sound-given : (s : Store) → Sound s → ShapedStore s → (fs : List Frame) × AllTaken (s .name) fs × (s ≡ storeAfter (s .name) fs)
 sound-given s p shape =
-    stands-given (s .name) (p .name) s (λ i. markIn (at s i)) (sound-stands s p (shape .long))
+    stands-given (s .name) (p .name) s (λ i. markIn (pageBehind s i)) (sound-stands s p (shape .long))
     (λ i. ⊎-elim
-    (λ l. mark-bytes (at s i) (shape .pages i l))
-    (λ l. let past : at s i ≡ noPage = List·getD-eq-default (s .pages) noPage (omega (arith, shape .long)) in rw past none-bytes)
+    (λ l. mark-bytes (pageBehind s i) (shape .pages i l))
+    (λ l. let past : pageBehind s i ≡ noPage = List·getD-eq-default (s .pages) noPage (omega (arith, shape .long)) in rw past none-bytes)
     (below? i 63))
 
 -- ---- and a store that frames give has the shape of a store of the code
@@ -176,7 +176,7 @@ page-shaped absent h = record { long = zeros-bytes .long; bytes = zeros-bytes .b
 page-shaped (held t) h = record { long = h .long; bytes = h .bytes }
 page-shaped disputed h = record { long = zeros-bytes .long; bytes = zeros-bytes .bytes }
 
-pub after-shaped : (n : Name) → InRange n → (fs : List Frame) → ShapedStore (after n fs)
+pub after-shaped : (n : Name) → InRange n → (fs : List Frame) → ShapedStore (storeAfter n fs)
 unfolding markFor
 after-shaped n range fs = record {
   long = after-stands n range fs .long;

@@ -1,4 +1,4 @@
--- What a store stands for: a name, and a mark for each page. Two stores that stand for the same are the same. Assumes nothing.
+-- What a store stands for: a name, and a mark for each page. Two stores that stand for the same are the same.
 use mathlib.Core.Path.{_≡_, refl, ap, sym, _∙_}
 use mathlib.Core.Bool.{cond}
 use mathlib.Core.Logic.{_⊎_, inl, inr, ⊎-elim}
@@ -9,10 +9,10 @@ use lib.Dec.{eqb}
 use Rattle.pages.specs.declared.page.Page.{Page}
 use Rattle.pages.specs.declared.name.Name.{Name}
 use Rattle.bulletin.specs.declared.store.Store.{Store}
-use Rattle.pages.specs.Pages.{noPage, zeros, absentPage}
-use Rattle.bulletin.specs.Stores.{noPages, at}
-use Rattle.bulletin.specs.Merges.{joined}
-use Rattle.pages.proofs.Marks.{Mark, absent, held, disputed, toPage, joinM}
+use Rattle.pages.specs.Pages.{noPage, noText, absentPage}
+use Rattle.bulletin.specs.Stores.{noPages, pageBehind}
+use Rattle.bulletin.specs.Merges.{joinedStores}
+use Rattle.pages.proofs.States.{Mark, absent, held, disputed, toPage, joinM}
 use Rattle.bulletin.proofs.Merging.Merged.{marks, store-ext, merge-at, merge-long}
 use Rattle.pages.proofs.Texts.{below?}
 use Rattle.histories.specs.Soundness.{InRange, OneOfThree, Sound}
@@ -21,7 +21,7 @@ use Rattle.histories.proofs.Soundness.Tested.{sound-tested}
 pub record Stands (s : Store) (n : Name) (m : ℕ → Mark) : Type 0 where
   pub name : s .name ≡ n
   pub long : length (s .pages) ≡ 63
-  pub page : (i : ℕ) → i < 63 → at s i ≡ toPage (m i)
+  pub page : (i : ℕ) → i < 63 → pageBehind s i ≡ toPage (m i)
   pub past : (i : ℕ) → n .total ≤ i → m i ≡ absent
 
 pub stands-same : (a b : Store) (n : Name) (m k : ℕ → Mark) → Stands a n m → Stands b n k → ((i : ℕ) → i < 63 → m i ≡ k i) → a ≡ b
@@ -43,7 +43,7 @@ three absent = inl refl
 three (held t) = inr (inl refl)
 three disputed = inr (inr refl)
 
-no-bytes : (m : Mark) → (toPage m .mark ≡ 0) ⊎ (toPage m .mark ≡ 2) → toPage m .text ≡ zeros
+no-bytes : (m : Mark) → (toPage m .mark ≡ 0) ⊎ (toPage m .mark ≡ 2) → toPage m .text ≡ noText
 no-bytes absent h = refl
 no-bytes (held t) h = absurd (⊎-elim (λ e. one-is-not-0 e) (λ e. one-is-not-2 e) h)
   where
@@ -92,7 +92,7 @@ unmarked disputed e = absurd (two-is-not-0 e)
     two-is-not-0 : _≡_ {A = ℕ} 2 0 → ⊥
     two-is-not-0 e = omega arith
 
-pub sound-stands : (s : Store) → Sound s → length (s .pages) ≡ 63 → Stands s (s .name) (λ i. markIn (at s i))
+pub sound-stands : (s : Store) → Sound s → length (s .pages) ≡ 63 → Stands s (s .name) (λ i. markIn (pageBehind s i))
 sound-stands s p long = record {
   name = refl;
   long = long;
@@ -100,10 +100,10 @@ sound-stands s p long = record {
   past = λ i l. ⊎-elim (λ h. inside i l h) (λ h. ap markIn (List·getD-eq-default (s .pages) noPage (omega arith)) ∙ no-mark) (below? i 63);
 }
   where
-    found : (i : ℕ) → i < 63 → (m : Mark) × (at s i ≡ toPage m)
+    found : (i : ℕ) → i < 63 → (m : Mark) × (pageBehind s i ≡ toPage m)
     found = marks s (record { long = long; sound = sound-tested s p })
 
-    inside : (i : ℕ) → s .name .total ≤ i → i < 63 → markIn (at s i) ≡ absent
+    inside : (i : ℕ) → s .name .total ≤ i → i < 63 → markIn (pageBehind s i) ≡ absent
     inside i l h =
         let m = found i h in
         ap markIn (m .1) ∙ mark-to (m .0) ∙ unmarked (m .0) (ap (λ (q : Page). q .mark) (sym (m .1)) ∙ p .past i (omega arith) l)
@@ -113,7 +113,7 @@ sound-stands s p long = record {
 pub opened-stands : (n : Name) → Stands (noPages n) n (λ i. absent)
 opened-stands n = record { name = refl; long = refl; page = λ i h. getD-replicate 63 i absentPage noPage h; past = λ i l. refl }
 
-pub joined-stands : (a b : Store) (n : Name) (m k : ℕ → Mark) → Stands a n m → Stands b n k → Stands (joined a b) n (λ i. joinM (m i) (k i))
+pub joined-stands : (a b : Store) (n : Name) (m k : ℕ → Mark) → Stands a n m → Stands b n k → Stands (joinedStores a b) n (λ i. joinM (m i) (k i))
 joined-stands a b n m k p q = record {
   name = p .name;
   long = merge-long a b (p .long);

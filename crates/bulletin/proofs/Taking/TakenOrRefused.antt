@@ -1,4 +1,4 @@
--- A record is taken or refused, told without the admission, which is the store's own. Assumes nothing.
+-- A record is taken or refused, told without the admission, which is the store's own.
 use mathlib.Core.Path.{_≡_, refl, ap}
 use mathlib.Core.Logic.{_⊎_, inl, inr}
 use Prim.Native.Nat.{ℕ}
@@ -9,7 +9,7 @@ use Rattle.bulletin.specs.declared.take.Admission.{Admission}
 use Rattle.bulletin.specs.declared.take.Admission.the-variants.{Number, Refused as NotAdmitted}
 use Rattle.bulletin.specs.declared.take.Taken.the-variants.{Refused}
 use Rattle.bulletin.specs.Takings.{admission, taking, takeOf}
-use Rattle.bulletin.proofs.Taking.Admitted.{Admits, admits}
+use Rattle.bulletin.proofs.Taking.TakingOutcomes.{Admits, admits}
 
 pub taken-or-refused : (s : Store) (r : Record) → ((k : ℕ) × Admits s r k) ⊎ ((x : Refusal) × (takeOf s r ≡ record { answer = Refused x; store = s }))
 unfolding taking

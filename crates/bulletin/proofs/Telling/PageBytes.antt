@@ -1,4 +1,4 @@
--- The bytes of pages of 18 bytes, one page behind the other. Assumes nothing.
+-- The bytes of pages of 18 bytes, one page behind the other.
 use mathlib.Core.Path.{_≡_, refl, ap, sym, _∙_}
 use mathlib.Core.Bool.{Bool, true, false, cond}
 use mathlib.Core.List.{List, [], _∷_, _++_}
@@ -12,22 +12,22 @@ use lib.Dec.{eqb}
 use borrow.Author.Tests.{eq-eqb, ne-eqb}
 use Rattle.pages.specs.declared.page.Page.{Page}
 use Rattle.pages.specs.Pages.{noPage}
-use Rattle.bulletin.specs.Text.{flat, textLength}
+use Rattle.bulletin.specs.Text.{bytesInOrder, textLength}
 use Rattle.pages.proofs.Texts.{below?}
 
 abbrev pub Eighteen : List Page → Type 0
 Eighteen l = (i : ℕ) → i < length l → length (getD l i noPage .text) ≡ 18
 
-pub length-flat : (l : List Page) → Eighteen l → length (flat l) ≡ 18 * length l
-unfolding flat
+pub length-flat : (l : List Page) → Eighteen l → length (bytesInOrder l) ≡ 18 * length l
+unfolding bytesInOrder
 length-flat [] h = refl
 length-flat (p ∷ l) h =
     let a : length (p .text) ≡ 18 = h 0 (omega arith) in
-    let r : length (flat l) ≡ 18 * length l = length-flat l (λ i k. h (suc i) (omega arith)) in
-    length-append (p .text) (flat l) ∙ omega arith
+    let r : length (bytesInOrder l) ≡ 18 * length l = length-flat l (λ i k. h (suc i) (omega arith)) in
+    length-append (p .text) (bytesInOrder l) ∙ omega arith
 
-pub getD-flat : (l : List Page) (k : ℕ) → Eighteen l → k < 18 * length l → getD (getD l (k / 18) noPage .text) (k % 18) 0 ≡ getD (flat l) k 0
-unfolding flat
+pub getD-flat : (l : List Page) (k : ℕ) → Eighteen l → k < 18 * length l → getD (getD l (k / 18) noPage .text) (k % 18) 0 ≡ getD (bytesInOrder l) k 0
+unfolding bytesInOrder
 getD-flat [] k h b = absurd (no b)
   where
     no : k < 0 → ⊥
@@ -37,14 +37,14 @@ getD-flat (p ∷ l) k h b =
     (λ s.
     let q : k / 18 ≡ 0 = omega arith in
     let m : k % 18 ≡ k = omega arith in
-    (λ j. getD (getD (p ∷ l) (q j) noPage .text) (m j) 0) ∙ sym (List·getD-append (p .text) (flat l) 0 k (omega (arith, h 0 (omega arith)))))
+    (λ j. getD (getD (p ∷ l) (q j) noPage .text) (m j) 0) ∙ sym (List·getD-append (p .text) (bytesInOrder l) 0 k (omega (arith, h 0 (omega arith)))))
     (λ s.
     let q : k / 18 ≡ suc ((k - 18) / 18) = omega arith in
     let m : k % 18 ≡ (k - 18) % 18 = omega arith in
     let e : k ≡ length (p .text) + (k - 18) = omega (arith, h 0 (omega arith)) in
     (λ j. getD (getD (p ∷ l) (q j) noPage .text) (m j) 0)
     ∙ getD-flat l (k - 18) (λ i z. h (suc i) (omega arith)) (omega arith)
-    ∙ sym (ap (λ (x : ℕ). getD (p .text ++ flat l) x 0) e ∙ getD-append-add (p .text) (flat l) (k - 18) 0))
+    ∙ sym (ap (λ (x : ℕ). getD (p .text ++ bytesInOrder l) x 0) e ∙ getD-append-add (p .text) (bytesInOrder l) (k - 18) 0))
     (below? k 18)
 
 -- a loop that copies F into D from the front

@@ -1,4 +1,4 @@
--- A page that came twice does not stand for another. Assumes nothing.
+-- A page that came twice does not stand for another.
 use mathlib.Core.Path.{_≡_, refl, sym, _∙_, subst}
 use mathlib.Core.Logic.{inl, inr, ⊎-elim}
 use Prim.Native.Nat.{ℕ}
@@ -8,17 +8,17 @@ use Rattle.report.specs.declared.record.Record.{Record}
 use Rattle.rows.specs.declared.refusal.Verdict.the-variants.{Fine}
 use Rattle.rows.specs.declared.refusal.Refusal.the-variants.{NotHeld}
 use Rattle.bulletin.specs.declared.count.Count.{Count}
-use Rattle.bulletin.specs.Counts.{reportOf}
-use Rattle.pages.proofs.Marks.{Text}
+use Rattle.bulletin.specs.Counts.{countOf}
+use Rattle.pages.proofs.States.{Text}
 use Rattle.histories.specs.Soundness.{InRange}
-use Rattle.histories.specs.Frames.{after, Among, Brings, Came, Held, Disputed, AllTaken}
+use Rattle.histories.specs.Frames.{storeAfter, Among, Brings, Came, Held, Disputed, AllTaken}
 use Rattle.histories.specs.Reports.{none, one-more, no-more, LowestWithout, IsHeld, TellsNothing}
-use Rattle.histories.specs.Examples.{ofTwoPages, firstPage, cameTwice}
-use Rattle.histories.proofs.Frames.Brought.{same-page}
+use Rattle.histories.specs.Examples.{ofTwoPages, exampleFrame, cameTwice}
+use Rattle.histories.proofs.Frames.TextsBrought.{same-page}
 use Rattle.histories.proofs.Histories.PageFrames.{frame-brings}
 use Rattle.histories.proofs.Soundness.KeptRules.{all-alike}
 use Rattle.histories.proofs.Reports.Reported.{reported, reported-once}
-use Rattle.histories.proofs.Reports.Spoken.{no-text}
+use Rattle.histories.proofs.Reports.TextFromFrames.{no-text}
 
 in-range : InRange ofTwoPages
 in-range = record {
@@ -35,10 +35,10 @@ in-range = record {
 abbrev letters : Text
 letters = replicate 18 65
 
-first-brings : Brings ofTwoPages (firstPage .came) 1 letters
+first-brings : Brings ofTwoPages (exampleFrame .came) 1 letters
 first-brings = frame-brings ofTwoPages in-range 1 letters (omega arith) (omega arith) (all-alike 65 (omega arith))
 
-only-first : (r : Record) → Among r cameTwice → r ≡ firstPage .came
+only-first : (r : Record) → Among r cameTwice → r ≡ exampleFrame .came
 only-first r h = ⊎-elim (λ e. e) (λ k. ⊎-elim (λ e. e) (λ z. absurd z) k) h
 
 pub all-taken : AllTaken ofTwoPages cameTwice
@@ -46,11 +46,11 @@ all-taken r h = (1, subst (λ (x : Record). Brings ofTwoPages x 1 (x .text)) (sy
 
 only-page-one : (p : ℕ) (t : Text) → Came ofTwoPages cameTwice p t → (p ≡ 1) × (t ≡ letters)
 only-page-one p t c =
-    let b : Brings ofTwoPages (firstPage .came) p t = subst (λ (x : Record). Brings ofTwoPages x p t) (only-first (c .0) (c .1)) (c .2) in
-    (same-page ofTwoPages (firstPage .came) p 1 t letters b first-brings, sym (b .text))
+    let b : Brings ofTwoPages (exampleFrame .came) p t = subst (λ (x : Record). Brings ofTwoPages x p t) (only-first (c .0) (c .1)) (c .2) in
+    (same-page ofTwoPages (exampleFrame .came) p 1 t letters b first-brings, sym (b .text))
 
 first-held : Held ofTwoPages cameTwice 1 letters
-first-held = record { came = (firstPage .came, inl refl, first-brings); alone = λ u c. only-page-one 1 u c .1 }
+first-held = record { came = (exampleFrame .came, inl refl, first-brings); alone = λ u c. only-page-one 1 u c .1 }
 
 second-not-held : IsHeld ofTwoPages cameTwice 2 → ⊥
 second-not-held h = omega (arith, only-page-one 2 (h .0) (h .1 .came) .0)
@@ -69,9 +69,9 @@ second-lowest = record {
 abbrev oneOfTwo : Count
 oneOfTwo = record { answer = Fine; held = 1; disputed = 0; lowest = 2 }
 
-pub twice-reported : reportOf (after ofTwoPages cameTwice) ≡ oneOfTwo
+pub twice-reported : countOf (storeAfter ofTwoPages cameTwice) ≡ oneOfTwo
 twice-reported =
-    reported-once ofTwoPages cameTwice (reportOf (after ofTwoPages cameTwice)) oneOfTwo (reported ofTwoPages in-range cameTwice)
+    reported-once ofTwoPages cameTwice (countOf (storeAfter ofTwoPages cameTwice)) oneOfTwo (reported ofTwoPages in-range cameTwice)
     (record {
       answer = refl;
       held = no-more (one-more none (letters, first-held)) second-not-held;
@@ -79,8 +79,8 @@ twice-reported =
       lowest = inr second-lowest;
     })
 
-pub twice-told : TellsNothing (after ofTwoPages cameTwice) (NotHeld 2 1)
+pub twice-told : TellsNothing (storeAfter ofTwoPages cameTwice) (NotHeld 2 1)
 twice-told =
     let t = no-text ofTwoPages in-range cameTwice 2 second-lowest in
     let mark : t .0 ≡ 1 = ⊎-elim (λ a. a .0) (λ d. absurd (none-disputed 2 (d .1))) (t .1 .why) in
-    subst (λ (m : ℕ). TellsNothing (after ofTwoPages cameTwice) (NotHeld 2 m)) mark (t .2)
+    subst (λ (m : ℕ). TellsNothing (storeAfter ofTwoPages cameTwice) (NotHeld 2 m)) mark (t .2)

@@ -1,4 +1,4 @@
--- The laws of a page, over what a page stands for; `join-to` carries them over to pages. Assumes nothing.
+-- The laws of a page, over what a page stands for; `join-to` carries them over to pages.
 use mathlib.Core.Path.{_≡_, refl, ap, sym, _∙_}
 use mathlib.Core.Bool.{Bool, true, false, cond}
 use mathlib.Core.List.{List, [], _∷_, _++_}

@@ -1,4 +1,4 @@
--- The ways out of opening a store. Assumes nothing.
+-- The ways out of opening a store.
 use mathlib.Core.Path.{_≡_, ap, sym, _∙_}
 use Rattle.rows.specs.declared.refusal.Verdict.{Verdict}
 use Rattle.rows.specs.declared.refusal.Verdict.the-variants.{Fine, Refused}

@@ -1,4 +1,4 @@
--- What a record brings for a page, as the store's test admits it and as `Brings` says it. Assumes nothing.
+-- What a record brings for a page, as the store's test admits it and as `Brings` says it.
 use mathlib.Core.Path.{_≡_, refl, ap, sym, _∙_}
 use mathlib.Core.Bool.{Bool, true, false, _&&_, cond}
 use mathlib.Core.List.{List, [], _∷_, _++_, append-assoc}
@@ -20,17 +20,17 @@ use Rattle.bulletin.specs.declared.take.Taken.the-variants.{New, Same, Disputed
 use Rattle.bulletin.specs.declared.take.Taking.{Taking}
 use Rattle.pages.specs.Pages.{join, heldPage}
 use Rattle.pages.specs.Names.{sameCommon, sameName}
-use Rattle.bulletin.specs.Stores.{noPages, soundStore, at}
-use Rattle.bulletin.specs.Takings.{nameOf, told, putPage, takeOf}
-use Rattle.bulletin.proofs.Taking.Admitted.{Admits}
+use Rattle.bulletin.specs.Stores.{noPages, soundStore, pageBehind}
+use Rattle.bulletin.specs.Takings.{bulletinOf, takingAnswer, putPage, takeOf}
+use Rattle.bulletin.proofs.Taking.TakingOutcomes.{Admits}
 use Rattle.pages.proofs.Numbered.{numbered}
-use Rattle.bulletin.proofs.Taking.Decided.{taken-or-refused}
+use Rattle.bulletin.proofs.Taking.TakenOrRefused.{taken-or-refused}
 use Rattle.bulletin.proofs.Claims.{a-sound-store-takes-every-page}
-use Rattle.pages.proofs.Marks.{Text, In}
+use Rattle.pages.proofs.States.{Text, In}
 use Rattle.histories.specs.Soundness.{InRange}
 use Rattle.histories.specs.Frames.{Frame, Brings, Came}
 use Rattle.histories.proofs.Soundness.Tested.{sound-tested}
-use Rattle.histories.proofs.Frames.Standing.{opened-stands, stands-sound}
+use Rattle.histories.proofs.Frames.StoreStates.{opened-stands, stands-sound}
 
 -- ---- names compared
 
@@ -65,8 +65,8 @@ name-same a =
 
 -- ---- a page that is put answers one of the three
 
-never-refused : (p q : Page) (x : Refusal) → told p q ≡ Refused x → ⊥
-unfolding told
+never-refused : (p q : Page) (x : Refusal) → takingAnswer p q ≡ Refused x → ⊥
+unfolding takingAnswer
 never-refused p q x e = by (eqb (p .mark) 0) (eqb (q .mark) 1) e
   where
     apart : _≡_ {A = ℕ} 0 1 → ⊥
@@ -79,7 +79,7 @@ never-refused p q x e = by (eqb (p .mark) 0) (eqb (q .mark) 1) e
 
 pub put-answer : (s : Store) (k : ℕ) (t : Text) (x : Refusal) → putPage s k t .answer ≡ Refused x → ⊥
 unfolding putPage
-put-answer s k t x e = never-refused (at s k) (join (at s k) (heldPage t)) x e
+put-answer s k t x e = never-refused (pageBehind s k) (join (pageBehind s k) (heldPage t)) x e
 
 -- ---- what one record brings
 
@@ -101,7 +101,7 @@ pub brings-taken : (s : Store) (r : Record) (p : ℕ) (t : Text) → soundStore 
 brings-taken s r p t h b =
     let n = s .name in
     let numbers : PageNumbers = record { serial = n .serial; number = p; total = n .total } in
-    a-sound-store-takes-every-page s r numbers h (b .valid) (b .body) (ap (λ (c : Common). sameName (nameOf c numbers) n) (b .common) ∙ name-same n)
+    a-sound-store-takes-every-page s r numbers h (b .valid) (b .body) (ap (λ (c : Common). sameName (bulletinOf c numbers) n) (b .common) ∙ name-same n)
 
 -- "Page number at 201 (6, 1-63). Page total at 207 (6): at least the page number"
 pub brings-page : (n : Name) (f : Frame) (p : ℕ) (t : Text) → Brings n (f .came) p t → (1 ≤ p) × (p ≤ n .total)

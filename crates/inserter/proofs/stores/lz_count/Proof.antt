@@ -1,32 +1,32 @@
--- `inserter::stores::lz_report` meets its contract. Assumes nothing.
+-- `inserter::stores::lz_count` meets its contract.
 use borrow.Author.Tests.{eq-eqb, ne-eqb}
 use native.Mathlib.Omega.{arith}
 use lib.ListN.{length-set}
-use Rattle.inserter.specs.Answers.{reportInto}
+use Rattle.inserter.specs.Answers.{countInto}
 use Rattle.inserter.proofs.StoreDoors.{report-left, three-bytes}
 use borrow.Author.Needs.{needs}
-use Rattle.inserter.proofs.stores.lz_report.Statement.{statement}
-use Rattle.inserter.proofs.stores.lz_report.Tie as tie
+use Rattle.inserter.proofs.stores.lz_count.Statement.{statement}
+use Rattle.inserter.proofs.stores.lz_count.Tie as tie
 
 wrong-call-requires : tie.Need-wrong-call-requires
 wrong-call-requires c κs = search needs
 
 returns : tie.Need-returns
-unfolding reportInto
+unfolding countInto
 returns c = simp (ne-eqb _ 1205 (c .before .if1 .taken), c .wrong-call .ensures)
 
 wrong-call-requires-2 : tie.Need-wrong-call-requires-2
 wrong-call-requires-2 c κs = search needs
 
 returns-2 : tie.Need-returns-2
-unfolding reportInto
+unfolding countInto
 returns-2 c = simp (eq-eqb _ 1205 (c .before .before .if1 .left), ne-eqb _ 3 (c .before .if2 .taken), c .wrong-call2 .ensures)
 
 unpack-store-requires : tie.Need-unpack-store-requires
 unpack-store-requires c κs = search needs
 
-report-requires : tie.Need-report-requires
-report-requires c κs = search needs
+count-requires : tie.Need-count-requires
+count-requires c κs = search needs
 
 slice-write-counts : tie.Need-slice-write-counts
 slice-write-counts c = search needs
@@ -45,15 +45,15 @@ same-length c = search needs
 
 returns-3 : tie.Need-returns-3
 returns-3 c =
-    let report = c .before in
-    let lengths = report .before .before in
+    let counts = c .before in
+    let lengths = counts .before .before in
     let buffer = lengths .before .before .before .before .args .counts .now in
-    let n = report .report .result in
-    report-left _ buffer _ _ n _ (lengths .before .if1 .left) (lengths .if2 .left) (report .before .unpack-store .ensures) (report .report .ensures)
+    let n = counts .count .result in
+    report-left _ buffer _ _ n _ (lengths .before .if1 .left) (lengths .if2 .left) (counts .before .unpack-store .ensures) (counts .count .ensures)
     (three-bytes buffer (n .held) (n .disputed) (n .lowest) (lengths .if2 .left)) (c .verdict-word .ensures)
 
-pub lz-report-spec : {M : Type 1} → statement M
-lz-report-spec =
+pub lz-count-spec : {M : Type 1} → statement M
+lz-count-spec =
     tie.close
     (tie.spec
     wrong-call-requires
@@ -61,7 +61,7 @@ lz-report-spec =
     wrong-call-requires-2
     returns-2
     unpack-store-requires
-    report-requires
+    count-requires
     slice-write-counts
     slice-write-counts-2
     slice-write-counts-3

@@ -1,4 +1,4 @@
--- A store that any history has come to is the one that the history's frames give. Assumes nothing.
+-- A store that any history has come to is the one that the history's frames give.
 use mathlib.Core.Path.{_≡_, refl, ap, sym, _∙_, subst}
 use mathlib.Core.Bool.{Bool, true, false}
 use mathlib.Core.List.{List, [], _∷_, _++_}
@@ -11,14 +11,14 @@ use Rattle.bulletin.specs.declared.merge.Merging.{Merging}
 use Rattle.pages.specs.Names.{sameName}
 use Rattle.bulletin.specs.Stores.{soundStore, ShapedStore}
 use Rattle.bulletin.specs.Takings.{takeOf}
-use Rattle.bulletin.specs.Merges.{mergeVerdict, joined, merging, mergeOf}
+use Rattle.bulletin.specs.Merges.{mergeVerdict, joinedStores, merging, mergeOf}
 use Rattle.histories.specs.Soundness.{InRange, Sound}
-use Rattle.histories.specs.Frames.{Frame, takes, after}
-use Rattle.histories.specs.Histories.{History, opened, took, merged, met, refused, storeOf, framesOf}
+use Rattle.histories.specs.Frames.{Frame, takes, storeAfter}
+use Rattle.histories.specs.Histories.{History, opened, took, merged, met, refused, historyStore, framesOf}
 use Rattle.histories.proofs.Soundness.Tested.{tested-sound, sound-tested}
-use Rattle.histories.proofs.Frames.Brought.{same-name, name-same}
+use Rattle.histories.proofs.Frames.TextsBrought.{same-name, name-same}
 use Rattle.histories.proofs.Histories.Merges.{after-sound, after-name, joined-after, merge-after}
-use Rattle.histories.proofs.Histories.Given.{sound-given, after-shaped}
+use Rattle.histories.proofs.Histories.FramesForAStore.{sound-given, after-shaped}
 
 takes-append : (s : Store) (a b : List Frame) → takes s (a ++ b) ≡ takes (takes s a) b
 takes-append s [] b = refl
@@ -37,15 +37,15 @@ merge-refused a b none = by (mergeVerdict a b) refl
         absurd (none (tested-sound b (unless-fine _ _ (parts .0))) (sym (same-name (a .name) (b .name) (unless-fine _ _ (parts .1)))))
 
 -- what two sound stores of one bulletin give has the shape of a store of the code
-pub joined-shaped : (a b : Store) → Sound a → Sound b → ShapedStore a → ShapedStore b → a .name ≡ b .name → ShapedStore (joined a b)
+pub joined-shaped : (a b : Store) → Sound a → Sound b → ShapedStore a → ShapedStore b → a .name ≡ b .name → ShapedStore (joinedStores a b)
 joined-shaped a b p q x y e =
     let f = sound-given a p x in
     let g = sound-given b q y in
-    let both : joined a b ≡ after (b .name) (f .0 ++ g .0) = (λ j. joined ((f .2 ∙ ap (λ (n : Name). after n (f .0)) e) j) (g .2 j)) ∙ joined-after (b .name) (q .name) (f .0) (g .0) in
+    let both : joinedStores a b ≡ storeAfter (b .name) (f .0 ++ g .0) = (λ j. joinedStores ((f .2 ∙ ap (λ (n : Name). storeAfter n (f .0)) e) j) (g .2 j)) ∙ joined-after (b .name) (q .name) (f .0) (g .0) in
     subst ShapedStore (sym both) (after-shaped (b .name) (q .name) (f .0 ++ g .0))
 
 module _ (n : Name) (range : InRange n) where
-  pub history-after : (h : History n) → storeOf h ≡ after n (framesOf h)
+  pub history-after : (h : History n) → historyStore h ≡ storeAfter n (framesOf h)
   history-after opened = refl
   history-after (took h f) = ap (λ (s : Store). takeOf s (f .came) .store) (history-after h) ∙ sym (takes-append _ (framesOf h) (f ∷ []))
   history-after (merged h k) =
@@ -54,21 +54,21 @@ module _ (n : Name) (range : InRange n) where
       (λ j. mergeOf (history-after h j) (e j) .store) ∙ ap (λ (m : Merging). m .store) (merge-after n range (framesOf h) frames)
   history-after (refused h s none) =
       ap (λ (x : Store). mergeOf x s .store) (history-after h)
-      ∙ merge-refused (after n (framesOf h)) s (λ p e. none p (e ∙ after-name n range (framesOf h)))
+      ∙ merge-refused (storeAfter n (framesOf h)) s (λ p e. none p (e ∙ after-name n range (framesOf h)))
 
-  pub history-sound : (h : History n) → Sound (storeOf h)
+  pub history-sound : (h : History n) → Sound (historyStore h)
   history-sound h = subst Sound (sym (history-after h)) (after-sound n range (framesOf h))
 
-  pub history-shaped : (h : History n) → ShapedStore (storeOf h)
+  pub history-shaped : (h : History n) → ShapedStore (historyStore h)
   history-shaped h = subst ShapedStore (sym (history-after h)) (after-shaped n range (framesOf h))
 
   -- whatever store it is merged with, that is a history too
-  pub any-store : (h : History n) (s : Store) → ShapedStore s → (k : History n) × (storeOf k ≡ mergeOf (storeOf h) s .store)
+  pub any-store : (h : History n) (s : Store) → ShapedStore s → (k : History n) × (historyStore k ≡ mergeOf (historyStore h) s .store)
   any-store h s shape = by (soundStore s) refl (sameName (s .name) n) refl
     where
-      by : (a : Bool) → soundStore s ≡ a → (b : Bool) → sameName (s .name) n ≡ b → (k : History n) × (storeOf k ≡ mergeOf (storeOf h) s .store)
+      by : (a : Bool) → soundStore s ≡ a → (b : Bool) → sameName (s .name) n ≡ b → (k : History n) × (historyStore k ≡ mergeOf (historyStore h) s .store)
       by false e b f = (refused h s (λ p q. false-not-true (sym e ∙ sound-tested s p)), refl)
       by true e false f = (refused h s (λ p q. false-not-true (sym f ∙ ap (λ (x : Name). sameName x n) q ∙ name-same n)), refl)
       by true e true f =
           let g = sound-given s (tested-sound s e) shape in
-          (met h s (g .0) (g .2 ∙ ap (λ (x : Name). after x (g .0)) (same-name (s .name) n f)), refl)
+          (met h s (g .0) (g .2 ∙ ap (λ (x : Name). storeAfter x (g .0)) (same-name (s .name) n f)), refl)

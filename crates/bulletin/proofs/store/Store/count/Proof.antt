@@ -1,9 +1,9 @@
--- `bulletin::store::Store::report` meets its contract. Assumes nothing.
+-- `bulletin::store::Store::count` meets its contract.
 use mathlib.Core.Path.{sym, _∙_}
-use Rattle.bulletin.specs.Counts.{reportOf}
+use Rattle.bulletin.specs.Counts.{countOf}
 use borrow.Author.Needs.{needs}
-use Rattle.bulletin.proofs.store.Store.report.Statement.{statement}
-use Rattle.bulletin.proofs.store.Store.report.Tie as tie
+use Rattle.bulletin.proofs.store.Store.count.Statement.{statement}
+use Rattle.bulletin.proofs.store.Store.count.Tie as tie
 
 is-sound-requires : tie.Need-is-sound-requires
 is-sound-requires c κs = search needs
@@ -18,16 +18,16 @@ lowest-requires : tie.Need-lowest-requires
 lowest-requires c κs = search needs
 
 returns : tie.Need-returns
-unfolding reportOf
+unfolding countOf
 returns c = let t = c .before .before .before in
     simp (sym (t .before .is-sound .ensures .0) ∙ t .if1 .taken, c .before .before .marked .ensures, c .before .marked2 .ensures, c .lowest .ensures)
 
 returns-2 : tie.Need-returns-2
-unfolding reportOf
+unfolding countOf
 returns-2 c = simp (sym (c .before .is-sound .ensures .0) ∙ c .if1 .left)
 
-pub report-spec : {M : Type 1} → statement M
-report-spec =
+pub count-spec : {M : Type 1} → statement M
+count-spec =
     tie.close
     (tie.spec
     is-sound-requires

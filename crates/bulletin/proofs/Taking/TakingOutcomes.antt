@@ -1,4 +1,4 @@
--- The ways out of admitting a record, and of taking it. Assumes nothing.
+-- The ways out of admitting a record, and of taking it.
 use mathlib.Core.Path.{_≡_, refl, ap, sym, _∙_}
 use mathlib.Core.Bool.{Bool, true, false, cond}
 use mathlib.Core.List.{[], _∷_}
@@ -9,7 +9,7 @@ use denote.Enum.Declared
 use types.Run
 use Rattle.report.specs.declared.record.Common.{Common}
 use Rattle.report.specs.declared.record.Body.{Body}
-use Rattle.report.specs.declared.record.Body.the-variants.{Nothing, Hypocenter, Intensity, Nankai, AshFall}
+use Rattle.report.specs.declared.record.Body.the-variants.{NoCategory, Hypocenter, Intensity, Nankai, AshFall}
 use Rattle.nankai.specs.declared.PageNumbers.{PageNumbers}
 use Rattle.report.specs.declared.record.Record.{Record}
 use Rattle.rows.specs.declared.refusal.Verdict.{Verdict}
@@ -26,8 +26,8 @@ use Rattle.bulletin.specs.declared.store.Store.{Store}
 use Rattle.pages.specs.Names.{sameName}
 use Rattle.bulletin.specs.Stores.{soundStore}
 use Rattle.bulletin.specs.declared.take.Taking.{Taking}
-use Rattle.bulletin.specs.Takings.{nameOf, belongs, writable, admission, putPage, taking, takeOf}
-use Rattle.bulletin.specs.Steps.{soundness, refusing}
+use Rattle.bulletin.specs.Takings.{bulletinOf, pageNumberIn, writable, admission, putPage, taking, takeOf}
+use Rattle.bulletin.specs.Steps.{soundness, refusedTaking}
 
 no0 : _≡_ {A = ℕ} 3 0 → ⊥
 no0 z = omega arith
@@ -41,20 +41,20 @@ no2 z = omega arith
 no4 : _≡_ {A = ℕ} 3 4 → ⊥
 no4 z = omega arith
 
-pub no-page : (n : Name) (c : Common) (b : Body) → Run.OneOf (0 ∷ 1 ∷ 2 ∷ 4 ∷ []) (Declared.tagOf B.the-type b) → Refused NoPage ≡ belongs n c b
-unfolding belongs
-no-page n c Nothing h = refl
+pub no-page : (n : Name) (c : Common) (b : Body) → Run.OneOf (0 ∷ 1 ∷ 2 ∷ 4 ∷ []) (Declared.tagOf B.the-type b) → Refused NoPage ≡ pageNumberIn n c b
+unfolding pageNumberIn
+no-page n c NoCategory h = refl
 no-page n c (Hypocenter q) h = refl
 no-page n c (Intensity t) h = refl
 no-page n c (Nankai p) h = absurd (⊎-elim no0 (⊎-elim no1 (⊎-elim no2 no4)) h)
 no-page n c (AshFall e) h = refl
 
-pub of-bulletin : (n : Name) (c : Common) (b : Body) (p : PageNumbers) → b ≡ Nankai p → sameName (nameOf c p) n ≡ true → Number (p .number) ≡ belongs n c b
-unfolding belongs
+pub of-bulletin : (n : Name) (c : Common) (b : Body) (p : PageNumbers) → b ≡ Nankai p → sameName (bulletinOf c p) n ≡ true → Number (p .number) ≡ pageNumberIn n c b
+unfolding pageNumberIn
 of-bulletin n c b p e f = simp (e, f)
 
-pub of-another : (n : Name) (c : Common) (b : Body) (p : PageNumbers) → b ≡ Nankai p → sameName (nameOf c p) n ≡ false → Refused OtherBulletin ≡ belongs n c b
-unfolding belongs
+pub of-another : (n : Name) (c : Common) (b : Body) (p : PageNumbers) → b ≡ Nankai p → sameName (bulletinOf c p) n ≡ false → Refused OtherBulletin ≡ pageNumberIn n c b
+unfolding pageNumberIn
 of-another n c b p e f = simp (e, f)
 
 -- ---- by what each step answers
@@ -72,7 +72,7 @@ unfolding admission
 unwritable s r v x e f g = simp (e, sym f ∙ g)
 
 pub writable-record : (s : Store) (r : Record) (v : Verdict) → soundStore s ≡ true → v ≡ writeAnswer r 32 → v ≡ Fine
-    → belongs (s .name) (r .common) (r .body) ≡ admission s r
+    → pageNumberIn (s .name) (r .common) (r .body) ≡ admission s r
 unfolding admission
 writable-record s r v e f g = simp (e, sym f ∙ g)
 
@@ -90,19 +90,19 @@ pub record Admits (s : Store) (r : Record) (k : ℕ) : Type 0 where
   pub valid : Valid r
   pub page : PageNumbers
   pub is : r .body ≡ Nankai page
-  pub same : sameName (nameOf (r .common) page) (s .name) ≡ true
+  pub same : sameName (bulletinOf (r .common) page) (s .name) ≡ true
   pub number : page .number ≡ k
 
-belongs-back : (n : Name) (c : Common) (b : Body) (k : ℕ) → belongs n c b ≡ Number k
-    → (p : PageNumbers) × (b ≡ Nankai p) × (sameName (nameOf c p) n ≡ true) × (p .number ≡ k)
-unfolding belongs
-belongs-back n c Nothing k h = absurd (no-number NoPage k h)
+belongs-back : (n : Name) (c : Common) (b : Body) (k : ℕ) → pageNumberIn n c b ≡ Number k
+    → (p : PageNumbers) × (b ≡ Nankai p) × (sameName (bulletinOf c p) n ≡ true) × (p .number ≡ k)
+unfolding pageNumberIn
+belongs-back n c NoCategory k h = absurd (no-number NoPage k h)
 belongs-back n c (Hypocenter q) k h = absurd (no-number NoPage k h)
 belongs-back n c (Intensity t) k h = absurd (no-number NoPage k h)
-belongs-back n c (Nankai p) k h = go (sameName (nameOf c p) n) refl h
+belongs-back n c (Nankai p) k h = go (sameName (bulletinOf c p) n) refl h
   where
-    go : (t : Bool) → sameName (nameOf c p) n ≡ t → cond t (Number (p .number)) (Refused OtherBulletin) ≡ Number k
-        → (q : PageNumbers) × (Nankai p ≡ Nankai q) × (sameName (nameOf c q) n ≡ true) × (q .number ≡ k)
+    go : (t : Bool) → sameName (bulletinOf c p) n ≡ t → cond t (Number (p .number)) (Refused OtherBulletin) ≡ Number k
+        → (q : PageNumbers) × (Nankai p ≡ Nankai q) × (sameName (bulletinOf c q) n ≡ true) × (q .number ≡ k)
     go true e f = (p, refl, e, cc)
     go false e f = absurd (no-number OtherBulletin k f)
 belongs-back n c (AshFall e) k h = absurd (no-number NoPage k h)
@@ -112,7 +112,7 @@ unfolding admission
 admits s r k h = go (soundStore s) refl (writeAnswer r 32) refl h
   where
     go : (t : Bool) → soundStore s ≡ t → (v : Verdict) → writeAnswer r 32 ≡ v
-        → cond t (writable v (belongs (s .name) (r .common) (r .body))) (Refused Unsound) ≡ Number k → Admits s r k
+        → cond t (writable v (pageNumberIn (s .name) (r .common) (r .body))) (Refused Unsound) ≡ Number k → Admits s r k
     go true e Fine f h =
         let b = belongs-back (s .name) (r .common) (r .body) k h in
         record { sound = e; valid = f; page = b .0; is = b .1; same = b .2; number = b .3 }
@@ -121,10 +121,10 @@ admits s r k h = go (soundStore s) refl (writeAnswer r 32) refl h
 
 -- ---- the two ways out of taking
 
-pub taken-refused : (s : Store) (r : Record) (v : Verdict) (x : Refusal) (t : Taking) → v ≡ Refuses x → t ≡ refusing v s → admission s r ≡ Refused x
+pub taken-refused : (s : Store) (r : Record) (v : Verdict) (x : Refusal) (t : Taking) → v ≡ Refuses x → t ≡ refusedTaking v s → admission s r ≡ Refused x
     → t ≡ takeOf s r
 unfolding taking
-taken-refused s r v x t e f g = f ∙ ap (λ (w : Verdict). refusing w s) e ∙ sym (ap (λ (a : Admission). taking a s (r .text)) g)
+taken-refused s r v x t e f g = f ∙ ap (λ (w : Verdict). refusedTaking w s) e ∙ sym (ap (λ (a : Admission). taking a s (r .text)) g)
 
 pub taken-in : (s : Store) (r : Record) (a : Admission) (k : ℕ) (t : Taking) → a ≡ admission s r → a ≡ Number k
     → t ≡ putPage s (k - 1) (r .text) → t ≡ takeOf s r
