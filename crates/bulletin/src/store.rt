@@ -1,6 +1,6 @@
 // A store of pages, by value: opened for one bulletin, without a page.
 ghost use mathlib.Core.Path.{_≡_};
-ghost use Rattle.bulletin.specs.Stores.{noPages, zeroStore, openOf, soundStore, ShapedStore};
+ghost use Rattle.bulletin.specs.Stores.{noPages, zeroStore, openOf, soundStore};
 use pages::name::Name;
 use pages::page::Page;
 use rows::refusal::Verdict;
@@ -64,8 +64,7 @@ impl Store {
 
     // Any store may be passed, from wherever it comes: this is what makes it one that frames give.
     pub fn is_sound(self) -> bool
-        ensures is { λ r. ⌜ r ≡ soundStore self ⌝ }
-        ensures shape { λ r. ⌜ ShapedStore self ⌝ }
+        ensures { λ r. ⌜ r ≡ soundStore self ⌝ }
     {
         let name = self.name;
         if !name.is_in_range() {

@@ -19,7 +19,7 @@ pub Store-open-is-settled : Settled bulletin.store.Store.open.ended bulletin.sto
 Store-open-is-settled κs a x y = answer
 
 pub Store-is-sound-is-settled : Settled bulletin.store.Store.is_sound.ended bulletin.store.Store.is_sound.Reads.Post
-Store-is-sound-is-settled κs a x y = beside answer
+Store-is-sound-is-settled κs a x y = answer
 
 pub Store-take-is-settled : Settled bulletin.store.Store.take.ended bulletin.store.Store.take.Reads.Post
 Store-take-is-settled κs a x y = answer

@@ -20,11 +20,11 @@ lowest-requires c κs = search needs
 returns : tie.Need-returns
 unfolding countOf
 returns c = let t = c .before .before .before in
-    simp (sym (t .before .is-sound .ensures .0) ∙ t .if1 .taken, c .before .before .marked .ensures, c .before .marked2 .ensures, c .lowest .ensures)
+    simp (sym (t .before .is-sound .ensures) ∙ t .if1 .taken, c .before .before .marked .ensures, c .before .marked2 .ensures, c .lowest .ensures)
 
 returns-2 : tie.Need-returns-2
 unfolding countOf
-returns-2 c = simp (sym (c .before .is-sound .ensures .0) ∙ c .if1 .left)
+returns-2 c = simp (sym (c .before .is-sound .ensures) ∙ c .if1 .left)
 
 pub count-spec : {M : Type 1} → statement M
 count-spec =

@@ -5,8 +5,8 @@ use native.Mathlib.Omega.{arith}
 use borrow.Author.Needs.{needs}
 use borrow.Author.Tests.{not-true, not-false}
 use lib.ListN.{length, drop}
-use Rattle.bulletin.specs.Stores.{soundFrom, soundStore, ShapedStore}
-use Rattle.pages.proofs.Shapes.{unmapped, shapes}
+use Rattle.bulletin.specs.Stores.{soundFrom, soundStore}
+use Rattle.pages.proofs.Shapes.{unmapped}
 use Rattle.bulletin.proofs.Stores.Sound.{sound-more, sound-stop, sound-end}
 use Rattle.bulletin.proofs.store.Store.is_sound.Statement.{statement}
 use Rattle.bulletin.proofs.store.Store.is_sound.Tie as tie
@@ -17,18 +17,15 @@ Inv-loop self name i₀ i = (i ≤ 63) × (soundFrom (name .total) i (drop i (se
 abbrev μ-loop : tie.MeasureT-loop
 μ-loop self name i₀ i = 63 - i
 
-shaped : (c : tie.Start Inv-loop μ-loop) → ShapedStore (c .args .t1)
-shaped c =
-    let a = c .good .0 .1 .1 .1 .0 .1 in
-    let ll : length (c .args .t1 .pages) ≡ 63 = unmapped _ (c .args .t1 .pages) 63 (a .0 .1) in
-    record { long = ll; pages = λ i h. shapes (c .args .t1 .pages) _ (a .1) i (omega arith) }
+long-of : (c : tie.Start Inv-loop μ-loop) → length (c .args .t1 .pages) ≡ 63
+long-of c = unmapped _ (c .args .t1 .pages) 63 (c .good .0 .1 .1 .1 .0 .1 .0 .1)
 
 is-in-range-requires : tie.Need-is-in-range-requires Inv-loop μ-loop
 is-in-range-requires c κs = search needs
 
 returns : tie.Need-returns Inv-loop μ-loop
 unfolding soundStore
-returns c = (simp (sym (c .before .is-in-range .ensures) ∙ not-true _ (c .if1 .taken)), shaped (c .before .before .before))
+returns c = simp (sym (c .before .is-in-range .ensures) ∙ not-true _ (c .if1 .taken))
 
 loop-holds : tie.Need-loop-holds Inv-loop μ-loop
 loop-holds c = (omega arith, refl)
@@ -47,11 +44,9 @@ unfolding soundStore
 returns-2 c = let l = c .before .before .before .before in
     let e = l .before in
     let s = e .before .before .before in
-    let long = shaped s .long in (
-      simp (sym (e .before .is-in-range .ensures) ∙ not-false _ (e .if1 .left))
-          (sym (sound-stop (s .args .t1 .name .total) (s .args .t1 .pages) (l .loop .i) (omega arith) (sym (c .before .is-sound-at .ensures) ∙ not-true _ (c .if2 .taken))) ∙ l .loop .inv .1),
-      shaped s,
-    )
+    let long = long-of s in
+    simp (sym (e .before .is-in-range .ensures) ∙ not-false _ (e .if1 .left))
+    (sym (sound-stop (s .args .t1 .name .total) (s .args .t1 .pages) (l .loop .i) (omega arith) (sym (c .before .is-sound-at .ensures) ∙ not-true _ (c .if2 .taken))) ∙ l .loop .inv .1)
 
 add-i : tie.Need-add-i Inv-loop μ-loop
 add-i c = search needs
@@ -62,7 +57,7 @@ loop-less c = search needs
 loop-again : tie.Need-loop-again Inv-loop μ-loop
 loop-again c = let l = c .before .before .before .before in
     let s = l .before .before .before .before in
-    let long = shaped s .long in
+    let long = long-of s in
     (omega arith, sym (sound-more (s .args .t1 .name .total) (s .args .t1 .pages) (l .loop .i) (omega arith) (sym (c .before .is-sound-at .ensures) ∙ not-false _ (c .if2 .left))) ∙ l .loop .inv .1)
 
 returns-3 : tie.Need-returns-3 Inv-loop μ-loop
@@ -70,11 +65,9 @@ unfolding soundStore
 returns-3 c = let l = c .before in
     let e = l .before in
     let s = e .before .before .before in
-    let long = shaped s .long in (
-      simp (sym (e .before .is-in-range .ensures) ∙ not-false _ (e .if1 .left))
-          (sym (sound-end (s .args .t1 .name .total) (s .args .t1 .pages) (l .loop .i) (omega arith)) ∙ l .loop .inv .1),
-      shaped s,
-    )
+    let long = long-of s in
+    simp (sym (e .before .is-in-range .ensures) ∙ not-false _ (e .if1 .left))
+    (sym (sound-end (s .args .t1 .name .total) (s .args .t1 .pages) (l .loop .i) (omega arith)) ∙ l .loop .inv .1)
 
 pub is-sound-spec : {M : Type 1} → statement M
 is-sound-spec =

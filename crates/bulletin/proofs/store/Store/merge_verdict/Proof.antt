@@ -29,8 +29,8 @@ returns : tie.Need-returns
 unfolding mergeVerdict
 returns c = let u2 = c .before .before in
     let u1 = u2 .before .before in
-    link _ _ _ _ _ (asked _ _ _ _ _ (u1 .unless .ensures) (u1 .before .is-sound .ensures .0))
-    (link _ _ _ _ _ (asked _ _ _ _ _ (u2 .unless2 .ensures) (u2 .before .is-sound2 .ensures .0))
+    link _ _ _ _ _ (asked _ _ _ _ _ (u1 .unless .ensures) (u1 .before .is-sound .ensures))
+    (link _ _ _ _ _ (asked _ _ _ _ _ (u2 .unless2 .ensures) (u2 .before .is-sound2 .ensures))
     (asked _ _ _ _ _ (c .unless3 .ensures) (c .before .is .ensures)))
     ∙ fine-then _
 

@@ -15,7 +15,7 @@ unless-requires c κs = search needs
 
 returns : tie.Need-returns
 unfolding soundness
-returns c = asked _ _ _ _ _ (c .unless .ensures) (c .before .is-sound .ensures .0) ∙ fine-then _
+returns c = asked _ _ _ _ _ (c .unless .ensures) (c .before .is-sound .ensures) ∙ fine-then _
 
 pub soundness-spec : {M : Type 1} → statement M
 soundness-spec = tie.close (tie.spec is-sound-requires unless-requires returns)

@@ -15,7 +15,7 @@ is-sound-requires c κs = search needs
 
 returns : tie.Need-returns
 unfolding textVerdict
-returns c = simp (sym (c .before .is-sound .ensures .0) ∙ not-true _ (c .if1 .taken))
+returns c = simp (sym (c .before .is-sound .ensures) ∙ not-true _ (c .if1 .taken))
 
 lowest-requires : tie.Need-lowest-requires
 lowest-requires c κs = search needs
@@ -23,7 +23,7 @@ lowest-requires c κs = search needs
 returns-2 : tie.Need-returns-2
 unfolding textVerdict
 returns-2 c = let l = c .before in
-    simp (sym (l .before .before .is-sound .ensures .0) ∙ not-false _ (l .before .if1 .left), eq-eqb _ _ (sym (l .lowest .ensures) ∙ c .if2 .taken))
+    simp (sym (l .before .before .is-sound .ensures) ∙ not-false _ (l .before .if1 .left), eq-eqb _ _ (sym (l .lowest .ensures) ∙ c .if2 .taken))
 
 sub-page : tie.Need-sub-page
 sub-page c = search needs
@@ -48,7 +48,7 @@ returns-3 : tie.Need-returns-3
 unfolding textVerdict
 returns-3 c = let e = c .before .before in
     let l = e .before in
-    simp (sym (l .before .before .is-sound .ensures .0) ∙ not-false _ (l .before .if1 .left), sym (l .lowest .ensures), ne-eqb _ _ (e .if2 .left), c .absence .ensures)
+    simp (sym (l .before .before .is-sound .ensures) ∙ not-false _ (l .before .if1 .left), sym (l .lowest .ensures), ne-eqb _ _ (e .if2 .left), c .absence .ensures)
 
 pub text-verdict-spec : {M : Type 1} → statement M
 text-verdict-spec =
