@@ -1,24 +1,37 @@
--- Category 9, ash fall: table 4.1.2-35 of document 001, and what its record holds.
+-- Category 9, ash fall: table 4.1.2-35 of document 001, and what its record holds. Its slots are places.
 use Prim.Native.Nat.{ℕ}
-use mathlib.Core.List.{List, [], _∷_, _++_}
-use Rattle.rows.specs.declared.slot.SlotKind.the-variants.{Places}
-use Rattle.bits.specs.Frame.{fieldOf}
+use mathlib.Core.Bool.{false}
+use mathlib.Core.List.{List, [], _∷_, _++_, map}
+use lib.ListN.{getD}
 use Rattle.ash_fall.specs.declared.Eruption.{Eruption}
-use Rattle.rows.specs.Values.{timeOf, timeValues}
-use Rattle.rows.specs.Layout.{time, corrected, row, within, Layout}
+use Rattle.rows.specs.Values.{cut, timeFrom, timeValues}
+use Rattle.rows.specs.Layout.{time, twoOrSeven, corrected, spare1, spare, row, within, Slots, Layout}
+
+-- "Four slots from 83, 29 bits each: hour (3, 1-6), strength (3, 1-7), place"
+abbrev pub places : Slots
+places = record {
+  count = 4;
+  first = 83;
+  bits = 29;
+  rows = row 0 3 (within 1 6) ∷ row 3 3 (within 1 7) ∷ row 6 23 (within 110000 4799999) ∷ [];
+}
 
 abbrev pub ashFall : Layout
 ashFall = record {
   code = 9;
+  rcs = twoOrSeven;
   types = corrected;
-  body = time 53 ++ row 69 2 (within 1 2) ∷ row 71 12 (within 101 4000) ∷ [];  -- warning type, volcano
-  slots = Places;
-  spareFirst = 199;
-  spareWidth = 15;
+  front = spare1 ∷ time 53 ++ row 69 2 (within 1 2) ∷ row 71 12 (within 101 4000) ∷ [];  -- warning type, volcano
+  slots = places;
+  behind = row 199 15 spare ∷ [];
+  text = false;
 }
 
-abbrev pub eruptionOf : List ℕ → Eruption
-eruptionOf s = record { time = timeOf s 53; warning = fieldOf s 69 2; volcano = fieldOf s 71 12 }
+abbrev pub eruptionFrom : List ℕ → Eruption
+eruptionFrom vs = record { time = timeFrom vs 1; warning = getD vs 4 0; volcano = getD vs 5 0 }
 
-abbrev pub eruptionValues : Eruption → List ℕ
-eruptionValues e = timeValues (e .time) ++ e .warning ∷ e .volcano ∷ []
+abbrev pub eruptionOf : List ℕ → Eruption
+eruptionOf s = eruptionFrom (map (cut s) (ashFall .front))
+
+abbrev pub eruptionValues : Eruption → ℕ → List ℕ
+eruptionValues e unused = unused ∷ timeValues (e .time) ++ e .warning ∷ e .volcano ∷ []

@@ -7,3 +7,4 @@ pub mod Inside
 pub mod Laid
 pub mod ByteLoops
 pub mod Arrays
+pub mod LayLoop

@@ -1,9 +1,10 @@
 -- The walk over the fields, cut into the pieces that the code asks.
+use Prim.Native.Nat.{ℕ}
 use mathlib.Core.Path.{_≡_}
 use mathlib.Core.Bool.{_&&_}
 use mathlib.Core.List.{[], _∷_}
-use lib.Dec.{leb}
-use Rattle.rows.specs.declared.refusal.Refusal.the-variants.{Range}
+use lib.Dec.{leb, eqb}
+use Rattle.rows.specs.declared.refusal.Refusal.the-variants.{Range, Spare}
 use Rattle.hypocenter.specs.declared.Quake.{Quake}
 use Rattle.rows.specs.Runs.Questions.{_then_, unless}
 use Rattle.rows.specs.Layout.{_to_, time}
@@ -14,16 +15,17 @@ use Rattle.rows.proofs.Rules.Outcomes.{then-assoc, fine-then}
 use Rattle.rows.proofs.Rules.Spans.{allowed-one}
 
 -- category 2
-pub quake-walk : (q : Quake)
-    → walk 0 (hypocenter .body) (quakeValues q)
-    ≡ unless (allowed (0 to 0 ∷ 101 to 500 ∷ []) (q .notification1)) (Range 53)
+pub quake-walk : (q : Quake) (x : ℕ)
+    → walk [] (hypocenter .front) (quakeValues q x)
+    ≡ unless (eqb x 0) (Spare 43)
+    then unless (allowed (0 to 0 ∷ 101 to 500 ∷ []) (q .notification1)) (Range 53)
     then unless (allowed (0 to 0 ∷ 101 to 500 ∷ []) (q .notification2)) (Range 62)
     then unless (allowed (0 to 0 ∷ 101 to 500 ∷ []) (q .notification3)) (Range 71)
-    then walk 0 (time 80) (timeValues (q .time))
+    then walk [] (time 80) (timeValues (q .time))
     then unless (allowed (0 to 501 ∷ 511 to 511 ∷ []) (q .depth)) (Range 96)
     then unless (allowed (1 to 101 ∷ 126 to 126 ∷ 127 to 127 ∷ []) (q .magnitude)) (Range 105)
     then unless (leb 11 (q .epicenter) && leb (q .epicenter) 1000) (Range 112)
-    then walk 0 (angle 122 7 89) (angleValues (q .latitude))
-    then walk 0 (angle 142 8 179) (angleValues (q .longitude))
+    then walk [] (angle 122 7 89) (angleValues (q .latitude))
+    then walk [] (angle 142 8 179) (angleValues (q .longitude))
 unfolding walk judge
-quake-walk q = simp (then-assoc, fine-then, allowed-one)
+quake-walk q x = simp (then-assoc, fine-then, allowed-one)

@@ -1,18 +1,17 @@
 -- Category 2, hypocenter: table 4.1.2-12 of document 001, what its record holds and what its numbers say.
 use Prim.Native.Nat.{ℕ, _+_}
-use mathlib.Core.Bool.{_&&_, cond}
-use mathlib.Core.List.{List, [], _∷_, _++_}
+use mathlib.Core.Bool.{false, _&&_, cond}
+use mathlib.Core.List.{List, [], _∷_, _++_, map}
 use lib.Dec.{eqb, leb}
-use Rattle.rows.specs.declared.slot.SlotKind.the-variants.{NoSlots}
-use Rattle.bits.specs.Frame.{fieldOf}
+use lib.ListN.{getD}
 use Rattle.hypocenter.specs.declared.angle.Angle.{Angle}
 use Rattle.hypocenter.specs.declared.Quake.{Quake}
-use Rattle.rows.specs.Layout.{_to_, time, within, among, uncorrected, row, Rule, Row, Layout}
+use Rattle.rows.specs.Layout.{_to_, time, within, among, spare, twoOrSeven, uncorrected, spare1, noSlots, row, Rule, Row, Layout}
 use Rattle.hypocenter.specs.declared.meaning.Depth.{Depth}
 use Rattle.hypocenter.specs.declared.meaning.Depth.the-variants.{Kilometres, Deeper, Unknown, OutOfRange}
 use Rattle.hypocenter.specs.declared.meaning.Magnitude.{Magnitude}
 use Rattle.hypocenter.specs.declared.meaning.Magnitude.the-variants.{InRange, UnknownAboveEight, Unknown as NoMagnitude, OutOfRange as NotAMagnitude}
-use Rattle.rows.specs.Values.{timeValues, timeOf}
+use Rattle.rows.specs.Values.{cut, timeFrom, timeValues}
 
 abbrev pub notification : Rule
 notification = among (0 to 0 ∷ 101 to 500 ∷ [])
@@ -31,9 +30,11 @@ angle a w most =
 abbrev pub hypocenter : Layout
 hypocenter = record {
   code = 2;
+  rcs = twoOrSeven;
   types = uncorrected;
-  body =
-      row 53 9 notification
+  front =
+      spare1
+      ∷ row 53 9 notification
       ∷ row 62 9 notification
       ∷ row 71 9 notification
       ∷ time 80
@@ -42,34 +43,42 @@ hypocenter = record {
       ∷ row 112 10 (within 11 1000)  -- epicenter
       ∷ angle 122 7 89  -- latitude
       ++ angle 142 8 179;  -- longitude
-  slots = NoSlots;
-  spareFirst = 163;
-  spareWidth = 51;
+  slots = noSlots;
+  behind = row 163 51 spare ∷ [];
+  text = false;
 }
 
--- an angle whose degrees have w bits
-abbrev pub angleOf : List ℕ → ℕ → ℕ → Angle
-angleOf s a w = record { side = fieldOf s a 1; degrees = fieldOf s (a + 1) w; minutes = fieldOf s (a + 1 + w) 6; seconds = fieldOf s (a + 7 + w) 6 }
+-- ---- what the values of the rows in front say
+
+abbrev pub angleFrom : List ℕ → ℕ → Angle
+angleFrom vs i = record { side = getD vs i 0; degrees = getD vs (i + 1) 0; minutes = getD vs (i + 2) 0; seconds = getD vs (i + 3) 0 }
+
+abbrev pub quakeFrom : List ℕ → Quake
+quakeFrom vs = record {
+  notification1 = getD vs 1 0;
+  notification2 = getD vs 2 0;
+  notification3 = getD vs 3 0;
+  time = timeFrom vs 4;
+  depth = getD vs 7 0;
+  magnitude = getD vs 8 0;
+  epicenter = getD vs 9 0;
+  latitude = angleFrom vs 10;
+  longitude = angleFrom vs 14;
+}
 
 abbrev pub quakeOf : List ℕ → Quake
-quakeOf s = record {
-  notification1 = fieldOf s 53 9;
-  notification2 = fieldOf s 62 9;
-  notification3 = fieldOf s 71 9;
-  time = timeOf s 80;
-  depth = fieldOf s 96 9;
-  magnitude = fieldOf s 105 7;
-  epicenter = fieldOf s 112 10;
-  latitude = angleOf s 122 7;
-  longitude = angleOf s 142 8;
-}
+quakeOf s = quakeFrom (map (cut s) (hypocenter .front))
+
+-- ---- and the values of what they say
 
 abbrev pub angleValues : Angle → List ℕ
 angleValues a = a .side ∷ a .degrees ∷ a .minutes ∷ a .seconds ∷ []
 
-abbrev pub quakeValues : Quake → List ℕ
-quakeValues q =
-    q .notification1
+-- with that of the spare, which is not in it
+abbrev pub quakeValues : Quake → ℕ → List ℕ
+quakeValues q unused =
+    unused
+    ∷ q .notification1
     ∷ q .notification2
     ∷ q .notification3
     ∷ timeValues (q .time)

@@ -1,11 +1,11 @@
 // A latitude or a longitude.
 ghost use mathlib.Core.Path.{_≡_};
-ghost use mathlib.Core.List.{_∷_, []};
+ghost use mathlib.Core.List.{[], map};
 ghost use Prim.Native.Nat.{_≤_};
-ghost use Rattle.bits.specs.Frame.{laid};
+ghost use Rattle.rows.specs.Values.{cut};
 ghost use Rattle.rows.specs.Runs.Questions.{_then_};
 ghost use Rattle.rows.specs.Runs.Verdict.{walk};
-ghost use Rattle.hypocenter.specs.Hypocenter.{angle, angleOf, angleValues};
+ghost use Rattle.hypocenter.specs.Hypocenter.{angle, angleFrom, angleValues};
 use rows::refusal::Verdict;
 
 // Side 0 is north or east, 1 is south or west.
@@ -20,7 +20,7 @@ pub struct Angle {
 impl Angle {
     pub(crate) fn at(f: [u8; 32], at: usize, width: usize) -> Angle
         requires { ⌜ (at ≤ 200) × (width ≤ 8) ⌝ }
-        ensures { λ r. ⌜ r ≡ angleOf f at width ⌝ }
+        ensures { λ r. ⌜ r ≡ angleFrom (map (cut f) (angle at width 0)) 0 ⌝ }
     {
         Angle {
             side: bits::field8(f, at, 1),
@@ -32,22 +32,12 @@ impl Angle {
 
     pub(crate) fn check(self, found: Verdict, at: u8, width: u8, most: u32) -> Verdict
         requires { ⌜ (at ≤ 200) × (width ≤ 8) ⌝ }
-        ensures { λ r. ⌜ r ≡ found then walk 0 (angle at width most) (angleValues self) ⌝ }
+        ensures { λ r. ⌜ r ≡ found then walk [] (angle at width most) (angleValues self) ⌝ }
     {
         found
             .within(at, self.side as u32, 0, 1)
             .within(at + 1, self.degrees as u32, 0, most)
             .within(at + 1 + width, self.minutes as u32, 0, 59)
             .within(at + 7 + width, self.seconds as u32, 0, 59)
-    }
-
-    pub(crate) fn lay(self, f: [u8; 32], at: usize, width: usize) -> [u8; 32]
-        requires { ⌜ (at ≤ 200) × (width ≤ 8) ⌝ }
-        ensures { λ r. ⌜ r ≡ laid f at (1 ∷ width ∷ 6 ∷ 6 ∷ []) (angleValues self) ⌝ }
-    {
-        let side = bits::put(f, at, 1, self.side as u64);
-        let degrees = bits::put(side, at + 1, width, self.degrees as u64);
-        let minutes = bits::put(degrees, at + 1 + width, 6, self.minutes as u64);
-        bits::put(minutes, at + 1 + width + 6, 6, self.seconds as u64)
     }
 }

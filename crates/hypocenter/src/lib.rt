@@ -1,8 +1,7 @@
-// Category 2, hypocenter: the fields from bit 53 to bit 162.
+// Category 2, hypocenter: the fields from bit 43 to bit 162.
 ghost use mathlib.Core.Path.{_≡_};
-ghost use Rattle.bits.specs.Frame.{laid};
+ghost use mathlib.Core.List.{[]};
 ghost use Rattle.rows.specs.Runs.Questions.{_then_};
-ghost use Rattle.rows.specs.Values.{widths};
 ghost use Rattle.rows.specs.Runs.Verdict.{walk};
 ghost use Rattle.hypocenter.specs.Hypocenter.{hypocenter, quakeOf, quakeValues};
 
@@ -17,6 +16,9 @@ use crate::codes::is_notification;
 use rows::refusal::Refusal;
 use rows::refusal::Verdict;
 use rows::time::Time;
+
+// The widths of the fields, and of the spare in front of them.
+pub const WIDTHS: [u8; 18] = [10, 9, 9, 9, 5, 5, 6, 9, 7, 10, 1, 7, 6, 6, 1, 8, 6, 6];
 
 // What its depth and its magnitude say is told by `Depth::of` and `Magnitude::of`.
 pub struct Quake {
@@ -49,14 +51,15 @@ impl Quake {
         }
     }
 
-    // Their ranges, behind what has been found.
-    pub fn check(self, found: Verdict) -> Verdict
-        ensures { λ r. ⌜ r ≡ found then walk 0 (hypocenter .body) (quakeValues self) ⌝ }
+    // Their ranges and the spare in front of them, behind what has been found.
+    pub fn check(self, found: Verdict, spare: u64) -> Verdict
+        ensures { λ r. ⌜ r ≡ found then walk [] (hypocenter .front) (quakeValues self spare) ⌝ }
     {
         let time = self.time;
         let latitude = self.latitude;
         let longitude = self.longitude;
         let front = found
+            .spare(43, spare)
             .unless(is_notification(self.notification1), Refusal::Range(53))
             .unless(is_notification(self.notification2), Refusal::Range(62))
             .unless(is_notification(self.notification3), Refusal::Range(71))
@@ -67,21 +70,32 @@ impl Quake {
         longitude.check(latitude.check(front, 122, 7, 89), 142, 8, 179)
     }
 
-    // The frame with these fields laid on it.
-    pub fn lay(self, f: [u8; 32]) -> [u8; 32]
-        ensures { λ r. ⌜ r ≡ laid f 53 (widths (hypocenter .body)) (quakeValues self) ⌝ }
+    // Their values, in the order of the table, with that of the spare in front of them.
+    pub fn values(self, spare: u64) -> [u64; 18]
+        ensures { λ r. ⌜ r ≡ quakeValues self spare ⌝ }
     {
-        let first = bits::put(f, 53, 9, self.notification1 as u64);
-        let second = bits::put(first, 62, 9, self.notification2 as u64);
-        let third = bits::put(second, 71, 9, self.notification3 as u64);
-        let quake_time = self.time;
-        let time = quake_time.lay(third, 80);
-        let depth = bits::put(time, 96, 9, self.depth as u64);
-        let magnitude = bits::put(depth, 105, 7, self.magnitude as u64);
-        let epicenter = bits::put(magnitude, 112, 10, self.epicenter as u64);
-        let quake_latitude = self.latitude;
-        let quake_longitude = self.longitude;
-        let latitude = quake_latitude.lay(epicenter, 122, 7);
-        quake_longitude.lay(latitude, 142, 8)
+        let time = self.time;
+        let latitude = self.latitude;
+        let longitude = self.longitude;
+        [
+            spare,
+            self.notification1 as u64,
+            self.notification2 as u64,
+            self.notification3 as u64,
+            time.day as u64,
+            time.hour as u64,
+            time.minute as u64,
+            self.depth as u64,
+            self.magnitude as u64,
+            self.epicenter as u64,
+            latitude.side as u64,
+            latitude.degrees as u64,
+            latitude.minutes as u64,
+            latitude.seconds as u64,
+            longitude.side as u64,
+            longitude.degrees as u64,
+            longitude.minutes as u64,
+            longitude.seconds as u64,
+        ]
     }
 }

@@ -35,6 +35,6 @@ byte-more f t a k at h e =
     ∙ ap (λ (n : ℕ). laid f a (replicate n 8) (take n t)) (sym (add-one k))
 
 pub page-laid : (f text : List ℕ) (x y z : ℕ) → length text ≡ 18
-    → placed (placed (laid (placed f 53 4 x) 57 (replicate 18 8) text) 201 6 y) 207 6 z
-    ≡ laid f 53 (widths (nankai .body)) (x ∷ text ++ y ∷ z ∷ [])
-page-laid f text x y z l = sym (laid-append (placed f 53 4 x) (replicate 18 8) text (6 ∷ 6 ∷ []) (y ∷ z ∷ []) 57 (sym l))
+    → placed (placed (laid (placed (placed f 43 10 0) 53 4 x) 57 (replicate 18 8) text) 201 6 y) 207 6 z
+    ≡ laid f 43 (widths (nankai .front)) (0 ∷ x ∷ text ++ y ∷ z ∷ [])
+page-laid f text x y z l = sym (laid-append (placed (placed f 43 10 0) 53 4 x) (replicate 18 8) text (6 ∷ 6 ∷ []) (y ∷ z ∷ []) 57 (sym l))

@@ -9,7 +9,7 @@ use Rattle.hypocenter.specs.declared.angle.Angle.{Angle}
 use Rattle.report.specs.declared.record.Body.{Body}
 use Rattle.report.specs.declared.record.Body.the-variants.{Hypocenter, Intensity, Nankai}
 use Rattle.slots.specs.declared.slot.Slot.{Slot}
-use Rattle.rows.specs.declared.slot.SlotKind.the-variants.{Prefectures}
+use Rattle.slots.specs.declared.kind.SlotKind.the-variants.{Prefectures}
 use Rattle.ash_fall.specs.declared.meaning.Prefecture.{Prefecture}
 use Rattle.ash_fall.specs.declared.meaning.Prefecture.the-variants.{Number, Nowhere}
 use Rattle.ash_fall.specs.Meaning.{prefectureOf}

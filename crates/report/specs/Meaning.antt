@@ -4,12 +4,11 @@ use mathlib.Core.List.{List, map}
 use lib.ListN.{take}
 use Rattle.report.specs.declared.record.Record.{Record}
 use Rattle.report.specs.Layout.{layout}
-use Rattle.rows.specs.Layout.{slotCount}
 use Rattle.slots.specs.Slots.{usedAmong, slotValues}
 
 -- the values of the slots that the category of a record has
 abbrev pub slotsOfCategory : Record → List (List ℕ)
-slotsOfCategory r = let k = layout (r .body) .slots in map (slotValues k) (take (slotCount k) (r .slots))
+slotsOfCategory r = slotsValues (r .body) (r .slots)
 
 unfoldable pub usedOf : Record → ℕ
 usedOf r = usedAmong (slotsOfCategory r)

@@ -9,8 +9,8 @@ use Rattle.report.specs.declared.record.Common.{Common}
 use Rattle.report.specs.declared.record.Body.{Body}
 use Rattle.report.specs.declared.record.Body.the-variants.{NoCategory, Hypocenter, Intensity, Nankai, AshFall}
 use Rattle.report.specs.declared.record.Record.{Record}
-use Rattle.rows.specs.Layout.{common, slotCount}
-use Rattle.report.specs.Layout.{layout}
+use Rattle.rows.specs.Layout.{Layout}
+use Rattle.report.specs.Layout.{layout, slotKind}
 use Rattle.rows.specs.Values.{Values, lastValues}
 use Rattle.hypocenter.specs.Hypocenter.{quakeValues, quakeOf}
 use Rattle.intensity.specs.Intensity.{shakingOf, shakingValues}
@@ -52,7 +52,7 @@ recordAs s b = record {
   reserved = fieldOf s 220 6;
   common = commonOf s;
   body = b;
-  slots = slotsOf s (layout b .slots);
+  slots = slotsOf s (slotKind b);
   text = textOf s b;
 }
 
@@ -70,26 +70,29 @@ zeros = record {
   text = replicate 18 0;
 }
 
--- ---- the values of a frame, row by row
-
 -- ---- the values of a record, with those of the two spares, which are not in it
 
-abbrev pub headValues : Common → ℕ → ℕ → List ℕ
-headValues c dc spare =
-    43 ∷ c .rc ∷ dc ∷ c .month ∷ c .day ∷ c .hour ∷ c .minute ∷ c .it ∷ spare ∷ []
+abbrev pub headValues : Common → ℕ → List ℕ
+headValues c dc = 43 ∷ c .rc ∷ dc ∷ c .month ∷ c .day ∷ c .hour ∷ c .minute ∷ c .it ∷ []
 
-unfoldable pub bodyValues : Body → List ℕ → List ℕ
-bodyValues NoCategory text = []
-bodyValues (Hypocenter q) text = quakeValues q
-bodyValues (Intensity t) text = shakingValues t
-bodyValues (Nankai p) text = pageValues p text
-bodyValues (AshFall e) text = eruptionValues e
+unfoldable pub bodyValues : Body → List ℕ → ℕ → List ℕ
+bodyValues NoCategory text spare1 = spare1 ∷ []
+bodyValues (Hypocenter q) text spare1 = quakeValues q spare1
+bodyValues (Intensity t) text spare1 = shakingValues t spare1
+bodyValues (Nankai p) text spare1 = pageValues p text spare1
+bodyValues (AshFall e) text spare1 = eruptionValues e spare1
+
+abbrev pub slotsValues : Body → List Slot → List (List ℕ)
+slotsValues b ss = map (slotValues (slotKind b)) (take (layout b .slots .count) ss)
+
+abbrev pub behindValues : Layout → ℕ → List ℕ
+behindValues l spare2 = map (λ r. spare2) (l .behind)
 
 unfoldable pub values : Record → ℕ → ℕ → Values
-values r spare1 spare2 =
-    let l = layout (r .body) in record {
-      head = headValues (r .common) (l .code) spare1;
-      body = bodyValues (r .body) (r .text);
-      slots = map (slotValues (l .slots)) (take (slotCount (l .slots)) (r .slots));
-      last = lastValues spare2 (r .reserved);
-    }
+values r spare1 spare2 = record {
+  head = headValues (r .common) (layout (r .body) .code);
+  front = bodyValues (r .body) (r .text) spare1;
+  slots = slotsValues (r .body) (r .slots);
+  behind = behindValues (layout (r .body)) spare2;
+  last = lastValues (r .reserved);
+}

@@ -5,10 +5,9 @@ use mathlib.Core.List.{List}
 use lib.ListN.{getD}
 use Rattle.report.specs.declared.record.Body.{Body}
 use Rattle.report.specs.declared.record.Body.the-variants.{NoCategory, Hypocenter, Intensity, Nankai, AshFall}
-use Rattle.rows.specs.declared.slot.SlotKind.the-variants.{NoSlots}
+use Rattle.slots.specs.declared.kind.SlotKind.the-variants.{NoSlots}
 use Rattle.report.specs.declared.record.Record.{Record}
-use Rattle.rows.specs.Layout.{slotCount}
-use Rattle.report.specs.Layout.{layout, preambles}
+use Rattle.report.specs.Layout.{slotKind, layout, preambles}
 use Rattle.slots.specs.Slots.{unused, noSlot}
 use Rattle.report.specs.Records.{values}
 use Rattle.rows.specs.Kept.{In, Empty, Holds}
@@ -23,14 +22,14 @@ TextUnused (AshFall e) text = Empty text
 
 -- nothing stands where the category has nothing
 pub record Tidy (r : Record) : Type 0 where
-  pub slots : (i : ℕ) → i < slotCount (layout (r .body) .slots) → Empty (unused (layout (r .body) .slots) (getD (r .slots) i noSlot))
-  pub others : (i : ℕ) → slotCount (layout (r .body) .slots) ≤ i → Empty (unused NoSlots (getD (r .slots) i noSlot))
+  pub slots : (i : ℕ) → i < layout (r .body) .slots .count → Empty (unused (slotKind (r .body)) (getD (r .slots) i noSlot))
+  pub others : (i : ℕ) → layout (r .body) .slots .count ≤ i → Empty (unused NoSlots (getD (r .slots) i noSlot))
   pub text : TextUnused (r .body) (r .text)
 
 pub record KeepsRules (r : Record) : Type 0 where
   pub preamble : In preambles (r .preamble)
   pub category : r .body ≡ NoCategory → ⊥
-  pub slots : (i : ℕ) → i < slotCount (layout (r .body) .slots) → Empty (unused (layout (r .body) .slots) (getD (r .slots) i noSlot))
-  pub others : (i : ℕ) → slotCount (layout (r .body) .slots) ≤ i → Empty (unused NoSlots (getD (r .slots) i noSlot))
+  pub slots : (i : ℕ) → i < layout (r .body) .slots .count → Empty (unused (slotKind (r .body)) (getD (r .slots) i noSlot))
+  pub others : (i : ℕ) → layout (r .body) .slots .count ≤ i → Empty (unused NoSlots (getD (r .slots) i noSlot))
   pub text : TextUnused (r .body) (r .text)
   pub rows : Holds (layout (r .body)) (values r 0 0)

@@ -1,7 +1,6 @@
 // Which values a field may hold, one value at a time.
-ghost use mathlib.Core.List.{_∷_, []};
 ghost use mathlib.Core.Path.{_≡_};
-ghost use Rattle.rows.specs.Layout.{_to_};
+ghost use Rattle.rows.specs.Layout.{twoOrSeven, uncorrected};
 ghost use Rattle.report.specs.Layout.{preambles, categories};
 ghost use Rattle.rows.specs.Runs.Verdict.{allowed};
 use crate::record::Body;
@@ -24,8 +23,8 @@ pub(crate) fn is_category(v: u8) -> bool
     }
 }
 
-pub(crate) fn is_classification(v: u8) -> bool
-    ensures { λ r. ⌜ r ≡ allowed (2 to 2 ∷ 7 to 7 ∷ []) v ⌝ }
+pub(crate) fn is_two_or_seven(v: u8) -> bool
+    ensures { λ r. ⌜ r ≡ allowed twoOrSeven v ⌝ }
 {
     match v {
         2 | 7 => true,
@@ -35,7 +34,7 @@ pub(crate) fn is_classification(v: u8) -> bool
 
 // Issue or cancellation.
 pub(crate) fn is_uncorrected(v: u8) -> bool
-    ensures { λ r. ⌜ r ≡ allowed (0 to 0 ∷ 2 to 2 ∷ []) v ⌝ }
+    ensures { λ r. ⌜ r ≡ allowed uncorrected v ⌝ }
 {
     match v {
         0 | 2 => true,

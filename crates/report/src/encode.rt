@@ -13,9 +13,9 @@ use crate::record::Common;
 use crate::record::Record;
 use slots::encode::lay_slots;
 
-// Bits 8 to 52.
+// Bits 8 to 42.
 fn lay_common(f: [u8; 32], c: Common, b: Body) -> [u8; 32]
-    ensures { λ r. ⌜ r ≡ laid f 8 (widths (common (layout b))) (headValues c (layout b .code) 0) ⌝ }
+    ensures { λ r. ⌜ r ≡ laid f 8 (widths (common (layout b))) (headValues c (layout b .code)) ⌝ }
 {
     let message = bits::put(f, 8, 6, 43);
     let rc = bits::put(message, 14, 3, c.rc as u64);
@@ -24,29 +24,40 @@ fn lay_common(f: [u8; 32], c: Common, b: Body) -> [u8; 32]
     let day = bits::put(month, 25, 5, c.day as u64);
     let hour = bits::put(day, 30, 5, c.hour as u64);
     let minute = bits::put(hour, 35, 6, c.minute as u64);
-    let it = bits::put(minute, 41, 2, c.it as u64);
-    bits::put(it, 43, 10, 0)
+    bits::put(minute, 41, 2, c.it as u64)
 }
 
-// The fields of the category, from bit 53 on.
+// The rows in front of the slots, from bit 43 on, their values laid in their widths. The spare is zero.
 fn lay_body(f: [u8; 32], b: Body, text: [u8; 18]) -> [u8; 32]
-    ensures { λ r. ⌜ r ≡ laid f 53 (widths (layout b .body)) (bodyValues b text) ⌝ }
+    ensures { λ r. ⌜ r ≡ laid f 43 (widths (layout b .front)) (bodyValues b text 0) ⌝ }
 {
     match b {
-        Body::NoCategory => f,
-        Body::Hypocenter(q) => q.lay(f),
-        Body::Intensity(s) => s.lay(f),
+        Body::NoCategory => bits::put(f, 43, 10, 0),
+        Body::Hypocenter(q) => {
+            let widths = hypocenter::WIDTHS;
+            let values = q.values(0);
+            bits::lay(f, 43, &widths, &values)
+        }
+        Body::Intensity(s) => {
+            let widths = intensity::WIDTHS;
+            let values = s.values(0);
+            bits::lay(f, 43, &widths, &values)
+        }
         Body::Nankai(p) => p.lay(f, text),
-        Body::AshFall(e) => e.lay(f),
+        Body::AshFall(e) => {
+            let widths = ash_fall::WIDTHS;
+            let values = e.values(0);
+            bits::lay(f, 43, &widths, &values)
+        }
     }
 }
 
-// The category's spare, the version and Reserved.
+// The spare behind the slots, the version and Reserved.
 fn lay_last(f: [u8; 32], b: Body, reserved: u8) -> [u8; 32]
     requires { ⌜ known b ≡ true ⌝ }
-    ensures { λ r. ⌜ r ≡ laid f (layout b .spareFirst) (widths (ending (layout b))) (lastValues 0 reserved) ⌝ }
+    ensures { λ r. ⌜ r ≡ laid f (firstBit (layout b .behind ++ ending)) (widths (layout b .behind ++ ending)) (behindValues (layout b) 0 ++ lastValues reserved) ⌝ }
 {
-    let first = b.spare_first() as usize;
+    let first = b.spare_behind() as usize;
     let spare = bits::put(f, first, 214 - first, 0);
     let version = bits::put(spare, 214, 6, 1);
     bits::put(version, 220, 6, reserved as u64)

@@ -53,12 +53,10 @@ fn inner(f: [u8; 32]) -> Reading
 {
     let record = decode(f);
     let body = record.body;
-    let first = body.spare_first() as usize;
-    let found = check(
-        record,
-        bits::field64(f, 43, 10),
-        bits::field64(f, first, 214 - first),
-    );
+    let first = body.spare_behind() as usize;
+    let spare1 = bits::field64(f, 43, body.spare_bits() as usize);
+    let spare2 = bits::field64(f, first, 214 - first);
+    let found = check(record, spare1, spare2);
     conclude(found, record)
 }
 

@@ -4,14 +4,15 @@ ghost use mathlib.Core.Path.{_≡_};
 ghost use Rattle.rows.specs.Runs.Verdict.{allowed};
 ghost use Rattle.report.specs.Records.{zeros};
 ghost use Rattle.report.specs.Runs.Writing.{known};
-ghost use Rattle.report.specs.Layout.{layout};
+ghost use Rattle.report.specs.Layout.{layout, slotKind, firstWidth, firstBit};
 ghost use Rattle.report.specs.Meaning.{usedOf};
+use crate::codes::is_two_or_seven;
 use crate::codes::is_uncorrected;
 use ash_fall::Eruption;
 use hypocenter::Quake;
 use intensity::Shaking;
 use nankai::PageNumbers;
-use rows::slot::SlotKind;
+use slots::kind::SlotKind;
 use slots::silence::used;
 use slots::slot::Slot;
 
@@ -48,7 +49,7 @@ pub struct Record {
 impl Body {
     // What the slots of its category list.
     pub fn slot_kind(self) -> SlotKind
-        ensures { λ r. ⌜ r ≡ layout self .slots ⌝ }
+        ensures { λ r. ⌜ r ≡ slotKind self ⌝ }
     {
         match self {
             Body::NoCategory => SlotKind::NoSlots,
@@ -98,9 +99,35 @@ impl Body {
         }
     }
 
-    // The first bit of its category's spare, which ends before bit 214.
-    pub(crate) fn spare_first(self) -> u8
-        ensures { λ r. ⌜ r ≡ layout self .spareFirst ⌝ }
+    // Which classifications (Rc) its category has.
+    pub(crate) fn has_classification(self, v: u8) -> bool
+        ensures { λ r. ⌜ r ≡ allowed (layout self .rcs) v ⌝ }
+    {
+        match self {
+            Body::NoCategory => is_two_or_seven(v),
+            Body::Hypocenter(_) => is_two_or_seven(v),
+            Body::Intensity(_) => is_two_or_seven(v),
+            Body::Nankai(_) => is_two_or_seven(v),
+            Body::AshFall(_) => is_two_or_seven(v),
+        }
+    }
+
+    // The width of the spare at bit 43.
+    pub(crate) fn spare_bits(self) -> u8
+        ensures { λ r. ⌜ r ≡ firstWidth (layout self .front) ⌝ }
+    {
+        match self {
+            Body::NoCategory => 10,
+            Body::Hypocenter(_) => 10,
+            Body::Intensity(_) => 10,
+            Body::Nankai(_) => 10,
+            Body::AshFall(_) => 10,
+        }
+    }
+
+    // The first bit of the spare behind the slots, which ends before bit 214; 0 where there is none.
+    pub(crate) fn spare_behind(self) -> u8
+        ensures { λ r. ⌜ r ≡ firstBit (layout self .behind) ⌝ }
     {
         match self {
             Body::NoCategory => 53,

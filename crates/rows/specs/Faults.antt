@@ -6,9 +6,8 @@ use mathlib.Core.Logic.{_⊎_}
 use mathlib.Core.List.{List, [], _∷_}
 use Rattle.rows.specs.declared.refusal.Refusal.{Refusal}
 use Rattle.rows.specs.declared.refusal.Refusal.the-variants.{Range, Spare, Gap}
-use Rattle.rows.specs.declared.slot.SlotKind.{SlotKind}
 use Rattle.rows.specs.Refusals.{says}
-use Rattle.rows.specs.Layout.{Rule, among, rising, spare, Row, Layout, common, ending, slotFirst, slotBits, slotRows}
+use Rattle.rows.specs.Layout.{Rule, among, rising, spare, Row, Slots, Layout, common, ending, slotRows}
 use Rattle.rows.specs.Values.{Values}
 use Rattle.rows.specs.Kept.{Keeps, Empty}
 
@@ -18,27 +17,28 @@ blame (among ss) at = Range at
 blame (rising hi) at = Range at
 blame spare at = Spare at
 
-abbrev pub RowFault : ℕ → List Row → List ℕ → Refusal → Type 0
-RowFault before [] vs x = ⊥
-RowFault before (r ∷ rs) [] x = ⊥
-RowFault before (r ∷ rs) (v ∷ vs) x =
-    ((Keeps (r .rule) before v → ⊥) × (x ≡ blame (r .rule) (r .first))) ⊎ RowFault v rs vs x
+abbrev pub RowFault : List ℕ → List Row → List ℕ → Refusal → Type 0
+RowFault past [] vs x = ⊥
+RowFault past (r ∷ rs) [] x = ⊥
+RowFault past (r ∷ rs) (v ∷ vs) x =
+    ((Keeps (r .rule) past v vs → ⊥) × (x ≡ blame (r .rule) (r .first))) ⊎ RowFault (v ∷ past) rs vs x
 
 -- a slot behind the first that is not empty: 10 where an empty one stands before it (`gap`), and its fields' own faults
-abbrev pub LaterFault : SlotKind → Bool → ℕ → List (List ℕ) → Refusal → Type 0
+abbrev pub LaterFault : Slots → Bool → ℕ → List (List ℕ) → Refusal → Type 0
 LaterFault k gap at [] x = ⊥
 LaterFault k gap at (v ∷ vs) x =
-    (Empty v × LaterFault k true (at + slotBits k) vs x)
-    ⊎ ((Empty v → ⊥) × (((gap ≡ true) × (x ≡ Gap at)) ⊎ (RowFault 0 (slotRows k at) v x ⊎ LaterFault k gap (at + slotBits k) vs x)))
+    (Empty v × LaterFault k true (at + k .bits) vs x)
+    ⊎ ((Empty v → ⊥) × (((gap ≡ true) × (x ≡ Gap at)) ⊎ (RowFault [] (slotRows k at) v x ⊎ LaterFault k gap (at + k .bits) vs x)))
 
-abbrev pub SlotsFault : SlotKind → List (List ℕ) → Refusal → Type 0
+abbrev pub SlotsFault : Slots → List (List ℕ) → Refusal → Type 0
 SlotsFault k [] x = ⊥
-SlotsFault k (v ∷ vs) x = RowFault 0 (slotRows k (slotFirst k)) v x ⊎ LaterFault k false (slotFirst k + slotBits k) vs x
+SlotsFault k (v ∷ vs) x = RowFault [] (slotRows k (k .first)) v x ⊎ LaterFault k false (k .first + k .bits) vs x
 
 abbrev pub Fault : Layout → Values → Refusal → Type 0
 Fault l v x =
-    RowFault 0 (common l) (v .head) x
-    ⊎ (RowFault 0 (l .body) (v .body) x ⊎ (SlotsFault (l .slots) (v .slots) x ⊎ RowFault 0 (ending l) (v .last) x))
+    RowFault [] (common l) (v .head) x
+    ⊎ (RowFault [] (l .front) (v .front) x
+    ⊎ (SlotsFault (l .slots) (v .slots) x ⊎ (RowFault [] (l .behind) (v .behind) x ⊎ RowFault [] ending (v .last) x)))
 
 abbrev pub place : Refusal → ℕ
 place x = says x .place

@@ -3,8 +3,7 @@ use Prim.Native.Nat.{ℕ, _+_, _≤_}
 use mathlib.Core.Path.{_≡_}
 use mathlib.Core.Logic.{_⊎_}
 use mathlib.Core.List.{List, [], _∷_}
-use Rattle.rows.specs.declared.slot.SlotKind.{SlotKind}
-use Rattle.rows.specs.Layout.{Span, _to_, Rule, among, rising, spare, Row, Layout, common, ending, slotFirst, slotBits, slotRows}
+use Rattle.rows.specs.Layout.{Span, _to_, Rule, among, rising, spare, Row, Slots, Layout, common, ending, slotRows}
 use Rattle.rows.specs.Values.{Values}
 
 -- the value lies in one of the spans
@@ -12,17 +11,22 @@ abbrev pub In : List Span → ℕ → Type 0
 In [] v = ⊥
 In ((lo to hi) ∷ ss) v = ((lo ≤ v) × (v ≤ hi)) ⊎ In ss v
 
--- the value keeps the rule
-abbrev pub Keeps : Rule → ℕ → ℕ → Type 0
-Keeps (among ss) before v = In ss v
-Keeps (rising hi) before v = (before ≤ v) × (v ≤ hi)
-Keeps spare before v = v ≡ 0
+-- the latest of the values before a field, 0 where there is none
+abbrev pub latest : List ℕ → ℕ
+latest [] = 0
+latest (b ∷ past) = b
+
+-- the value keeps the rule; `past` are the values before it, the latest first, and `next` those behind it
+abbrev pub Keeps : Rule → List ℕ → ℕ → List ℕ → Type 0
+Keeps (among ss) past v next = In ss v
+Keeps (rising hi) past v next = (latest past ≤ v) × (v ≤ hi)
+Keeps spare past v next = v ≡ 0
 
 -- each value keeps its row's rule
-abbrev pub Kept : ℕ → List Row → List ℕ → Type 0
-Kept before [] vs = Unit
-Kept before (r ∷ rs) [] = Unit
-Kept before (r ∷ rs) (v ∷ vs) = Keeps (r .rule) before v × Kept v rs vs
+abbrev pub Kept : List ℕ → List Row → List ℕ → Type 0
+Kept past [] vs = Unit
+Kept past (r ∷ rs) [] = Unit
+Kept past (r ∷ rs) (v ∷ vs) = Keeps (r .rule) past v vs × Kept (v ∷ past) rs vs
 
 abbrev pub Empty : List ℕ → Type 0
 Empty [] = Unit
@@ -33,18 +37,19 @@ AllEmpty [] = Unit
 AllEmpty (v ∷ vs) = Empty v × AllEmpty vs
 
 -- a slot behind the first is empty, and then every slot behind it is, or it is used, and then each of its fields is in range
-abbrev pub LaterKept : SlotKind → ℕ → List (List ℕ) → Type 0
+abbrev pub LaterKept : Slots → ℕ → List (List ℕ) → Type 0
 LaterKept k at [] = Unit
 LaterKept k at (v ∷ vs) =
-    (Empty v × AllEmpty vs) ⊎ ((Empty v → ⊥) × (Kept 0 (slotRows k at) v × LaterKept k (at + slotBits k) vs))
+    (Empty v × AllEmpty vs) ⊎ ((Empty v → ⊥) × (Kept [] (slotRows k at) v × LaterKept k (at + k .bits) vs))
 
 -- the first slot is used
-abbrev pub SlotsKept : SlotKind → List (List ℕ) → Type 0
+abbrev pub SlotsKept : Slots → List (List ℕ) → Type 0
 SlotsKept k [] = Unit
-SlotsKept k (v ∷ vs) = Kept 0 (slotRows k (slotFirst k)) v × LaterKept k (slotFirst k + slotBits k) vs
+SlotsKept k (v ∷ vs) = Kept [] (slotRows k (k .first)) v × LaterKept k (k .first + k .bits) vs
 
 pub record Holds (l : Layout) (v : Values) : Type 0 where
-  pub head : Kept 0 (common l) (v .head)
-  pub body : Kept 0 (l .body) (v .body)
+  pub head : Kept [] (common l) (v .head)
+  pub front : Kept [] (l .front) (v .front)
   pub slots : SlotsKept (l .slots) (v .slots)
-  pub last : Kept 0 (ending l) (v .last)
+  pub behind : Kept [] (l .behind) (v .behind)
+  pub last : Kept [] ending (v .last)

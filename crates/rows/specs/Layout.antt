@@ -1,11 +1,9 @@
--- The fields of a frame, as document 01, "The frame on the wire", and the tables 4.1.2-12, -14, -18 and -35 of document 001
--- have them: first bit, width, and what may stand there. Bits 0 to 7 are the preamble, bits 226 to 249 the parity.
+-- The tables of a frame (document 01, "The frame on the wire"): first bit, width, and what may stand there. Bits 0 to 7 are
+-- the preamble, bits 226 to 249 the parity. What each category has is for its own crate.
 use Prim.Native.Nat.{ℕ, zero, suc, _+_, _^_}
-use mathlib.Core.Bool.{Bool, true, _&&_}
+use mathlib.Core.Bool.{Bool, true, false, _&&_}
 use mathlib.Core.List.{List, [], _∷_, _++_}
 use lib.Dec.{eqb, ltb}
-use Rattle.rows.specs.declared.slot.SlotKind.{SlotKind}
-use Rattle.rows.specs.declared.slot.SlotKind.the-variants.{NoSlots, Prefectures, Places}
 
 -- from one number to another, both included
 infixl 70 _to_
@@ -32,37 +30,49 @@ within lo hi = among (lo to hi ∷ [])
 abbrev pub only : ℕ → Rule
 only v = within v v
 
--- a category: its code (Dc), its information types (It), the fields from bit 53 on, the slots behind them, and the spare
--- behind those, which ends before bit 214
+-- slots: how many, the first bit of the first one, how many bits each has, and its rows counted from its own first bit
+pub record Slots : Type 0 where
+  pub count : ℕ
+  pub first : ℕ
+  pub bits : ℕ
+  pub rows : List Row
+
+-- a category: its code (Dc), its classifications (Rc), its information types (It), its rows in front of the slots, from bit 43
+-- on, the slots, the rows behind them, up to bit 213, and whether it has text. Spares are rows like any other.
 pub record Layout : Type 0 where
   pub code : ℕ
+  pub rcs : List Span
   pub types : List Span
-  pub body : List Row
-  pub slots : SlotKind
-  pub spareFirst : ℕ
-  pub spareWidth : ℕ
+  pub front : List Row
+  pub slots : Slots
+  pub behind : List Row
+  pub text : Bool
 
 -- ---- what every category has
 
--- bits 8 to 52
+-- bits 8 to 42
 abbrev pub common : Layout → List Row
 common l =
     row 8 6 (only 43)  -- message type
-    ∷ row 14 3 (among (2 to 2 ∷ 7 to 7 ∷ []))  -- Rc
+    ∷ row 14 3 (among (l .rcs))  -- Rc
     ∷ row 17 4 (only (l .code))  -- Dc
     ∷ row 21 4 (within 1 12)  -- month
     ∷ row 25 5 (within 1 31)  -- day
     ∷ row 30 5 (within 0 23)  -- hour
     ∷ row 35 6 (within 0 59)  -- minute
-    ∷ row 41 2 (among (l .types))  -- It
-    ∷ row 43 10 spare ∷ []  -- Spare1
+    ∷ row 41 2 (among (l .types)) ∷ []  -- It
 
--- the category's spare, and bits 214 to 225
-abbrev pub ending : Layout → List Row
-ending l =
-    row (l .spareFirst) (l .spareWidth) spare
-    ∷ row 214 6 (only 1)  -- Vn
+-- bits 214 to 225
+abbrev pub ending : List Row
+ending =
+    row 214 6 (only 1)  -- Vn
     ∷ row 220 6 (within 0 63) ∷ []  -- Reserved
+
+-- ---- what several categories have
+
+-- "Rc: 2 or 7"
+abbrev pub twoOrSeven : List Span
+twoOrSeven = 2 to 2 ∷ 7 to 7 ∷ []
 
 -- "It: 0 or 2; in category 9 also 1": issue, cancellation, and correction
 abbrev pub uncorrected : List Span
@@ -71,60 +81,45 @@ uncorrected = 0 to 0 ∷ 2 to 2 ∷ []
 abbrev pub corrected : List Span
 corrected = 0 to 2 ∷ []
 
+-- "Spare1 at 43, 10 long"
+abbrev pub spare1 : Row
+spare1 = row 43 10 spare
+
 -- day, hour, minute
 abbrev pub time : ℕ → List Row
 time a = row a 5 (within 1 31) ∷ row (a + 5) 5 (within 0 23) ∷ row (a + 10) 6 (within 0 59) ∷ []
-
--- ---- category 2, table 4.1.2-12
-
--- ---- category 3, table 4.1.2-14: its slots are prefectures
-
--- ---- category 4, table 4.1.2-18
 
 -- n bytes, any
 abbrev pub bytes : ℕ → ℕ → List Row
 bytes zero a = []
 bytes (suc n) a = row a 8 (within 0 255) ∷ bytes n (a + 8)
 
--- ---- category 9, table 4.1.2-35: its slots are places
+abbrev pub noSlots : Slots
+noSlots = record { count = 0; first = 0; bits = 0; rows = [] }
 
--- ---- no category: all spare
-
+-- no category: all spare
 abbrev pub noCategory : Layout
-noCategory = record { code = 0; types = uncorrected; body = []; slots = NoSlots; spareFirst = 53; spareWidth = 161 }
+noCategory = record { code = 0; rcs = twoOrSeven; types = uncorrected; front = spare1 ∷ []; slots = noSlots; behind = row 53 161 spare ∷ []; text = false }
 
--- ---- slots: "Sixteen slots from 69, 9 bits each"; "Four slots from 83, 29 bits each"
+-- ---- slots on the wire
 
-abbrev pub slotCount : SlotKind → ℕ
-slotCount NoSlots = 0
-slotCount Prefectures = 16
-slotCount Places = 4
+abbrev pub shifted : ℕ → List Row → List Row
+shifted a [] = []
+shifted a (r ∷ rs) = row (a + r .first) (r .width) (r .rule) ∷ shifted a rs
 
-abbrev pub slotFirst : SlotKind → ℕ
-slotFirst NoSlots = 0
-slotFirst Prefectures = 69
-slotFirst Places = 83
-
-abbrev pub slotBits : SlotKind → ℕ
-slotBits NoSlots = 0
-slotBits Prefectures = 9
-slotBits Places = 29
-
--- intensity, prefecture; hour, strength, place
-abbrev pub slotRows : SlotKind → ℕ → List Row
-slotRows NoSlots a = []
-slotRows Prefectures a = row a 3 (within 1 7) ∷ row (a + 3) 6 (within 1 47) ∷ []
-slotRows Places a = row a 3 (within 1 6) ∷ row (a + 3) 3 (within 1 7) ∷ row (a + 6) 23 (within 110000 4799999) ∷ []
+-- the rows of the slot at the bit a
+abbrev pub slotRows : Slots → ℕ → List Row
+slotRows k a = shifted a (k .rows)
 
 -- the rows of n slots from the bit a on
-abbrev pub slotsRows : SlotKind → ℕ → ℕ → List Row
+abbrev pub slotsRows : Slots → ℕ → ℕ → List Row
 slotsRows k zero a = []
-slotsRows k (suc n) a = slotRows k a ++ slotsRows k n (a + slotBits k)
+slotsRows k (suc n) a = slotRows k a ++ slotsRows k n (a + k .bits)
 
 -- ---- what is asked of a table
 
 abbrev pub allRows : Layout → List Row
-allRows l = common l ++ (l .body ++ (slotsRows (l .slots) (slotCount (l .slots)) (slotFirst (l .slots)) ++ ending l))
+allRows l = common l ++ (l .front ++ (slotsRows (l .slots) (l .slots .count) (l .slots .first) ++ (l .behind ++ ending)))
 
 -- each row starts where the one before it ends
 abbrev pub tiles : ℕ → ℕ → List Row → Bool

@@ -2,5 +2,4 @@
 // what several categories have in their fields.
 pub mod refusal; // why a call is refused
 pub mod question; // one question after another
-pub mod slot; // what the slots of a category list
 pub mod time; // day, hour and minute

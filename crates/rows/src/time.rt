@@ -1,7 +1,7 @@
 // Day, hour and minute, wherever a category has them.
 ghost use mathlib.Core.Path.{_≡_};
 ghost use Rattle.rows.specs.Runs.Questions.{_then_};
-ghost use Rattle.rows.specs.Runs.Times.{timeIn, timeLaid, timeVerdict};
+ghost use Rattle.rows.specs.Runs.Times.{timeIn, timeVerdict};
 use crate::refusal::Verdict;
 
 // When an earthquake or an eruption was.
@@ -22,16 +22,6 @@ impl Time {
             hour: bits::field8(f, first + 5, 5),
             minute: bits::field8(f, first + 10, 6),
         }
-    }
-
-    // The frame with this time laid on it; what lies outside the frame is not laid.
-    pub fn lay(self, f: [u8; 32], at: u8) -> [u8; 32]
-        ensures { λ r. ⌜ r ≡ timeLaid f at self ⌝ }
-    {
-        let first = at as usize;
-        let day = bits::put(f, first, 5, self.day as u64);
-        let hour = bits::put(day, first + 5, 5, self.hour as u64);
-        bits::put(hour, first + 10, 6, self.minute as u64)
     }
 }
 

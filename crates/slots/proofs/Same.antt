@@ -6,8 +6,8 @@ use native.Mathlib.Nat.{suc-ne-zero, suc-inj}
 use mathlib.Core.List.{List, [], _∷_, map}
 use lib.ListN.{length, getD, take, drop}
 use Rattle.slots.specs.declared.slot.Slot.{Slot}
-use Rattle.rows.specs.declared.slot.SlotKind.{SlotKind}
-use Rattle.rows.specs.declared.slot.SlotKind.the-variants.{NoSlots, Prefectures, Places}
+use Rattle.slots.specs.declared.kind.SlotKind.{SlotKind}
+use Rattle.slots.specs.declared.kind.SlotKind.the-variants.{NoSlots, Prefectures, Places}
 use Rattle.rows.specs.Runs.Verdict.{empty}
 use Rattle.slots.specs.Slots.{slotValues, unused, tidySlots}
 use Rattle.rows.specs.Kept.{Empty}

@@ -7,11 +7,10 @@ use native.Mathlib.Omega.{arith}
 use mathlib.Core.List.{List, [], _∷_}
 use lib.ListN.{getD}
 use Rattle.slots.specs.declared.slot.Slot.{Slot}
-use Rattle.rows.specs.declared.slot.SlotKind.{SlotKind}
-use Rattle.rows.specs.declared.slot.SlotKind.the-variants.{NoSlots, Prefectures, Places}
-use Rattle.rows.specs.Layout.{slotCount}
+use Rattle.slots.specs.declared.kind.SlotKind.{SlotKind}
+use Rattle.slots.specs.declared.kind.SlotKind.the-variants.{NoSlots, Prefectures, Places}
 use Rattle.rows.specs.Runs.Verdict.{empty}
-use Rattle.slots.specs.Slots.{noSlot, slotsOf, unused, tidySlots}
+use Rattle.slots.specs.Slots.{slotTable, noSlot, slotsOf, unused, tidySlots}
 use Rattle.rows.specs.Kept.{Empty}
 use Rattle.rows.proofs.Rules.Outcomes.{and-both, both-and}
 use Rattle.rows.proofs.Rules.JudgedSlots.{empty-is, is-empty}
@@ -53,7 +52,7 @@ slots-tidy k (suc n) (s ∷ ss) f g =
     both-and (empty (unused k s)) (tidySlots k n ss) (is-empty (unused k s) (f 0 (omega arith)))
     (slots-tidy k n ss (λ i h. f (suc i) (omega arith)) (λ i h. g (suc i) (omega arith)))
 
-pub frame-slots-tidy : (s : List ℕ) (k : SlotKind) → tidySlots k (slotCount k) (slotsOf s k) ≡ true
+pub frame-slots-tidy : (s : List ℕ) (k : SlotKind) → tidySlots k (slotTable k .count) (slotsOf s k) ≡ true
 unfolding slotsOf tidySlots empty
 frame-slots-tidy s NoSlots = refl
 frame-slots-tidy s Prefectures = refl

@@ -10,12 +10,12 @@ use mathlib.Core.List.{List, [], _∷_, map}
 use lib.ListN.{length, getD, take, drop, length-map, drop-of-length-le}
 use Rattle.slots.specs.declared.slot.Slot.{Slot}
 use borrow.Author.Tests.{ne-eqb}
-use Rattle.rows.specs.declared.slot.SlotKind.{SlotKind}
-use Rattle.rows.specs.declared.slot.SlotKind.the-variants.{NoSlots, Prefectures, Places}
-use Rattle.rows.specs.Layout.{_to_, slotCount, slotFirst, slotBits, slotRows}
+use Rattle.slots.specs.declared.kind.SlotKind.{SlotKind}
+use Rattle.slots.specs.declared.kind.SlotKind.the-variants.{NoSlots, Prefectures, Places}
+use Rattle.rows.specs.Layout.{_to_, slotRows}
 use Rattle.rows.specs.Runs.Verdict.{empty}
 use Rattle.rows.specs.Values.{each, cut}
-use Rattle.slots.specs.Slots.{noSlot, slotValues, usedAmong}
+use Rattle.slots.specs.Slots.{slotTable, noSlot, slotValues, usedAmong}
 use Rattle.rows.specs.Kept.{In, Empty, AllEmpty, LaterKept, SlotsKept}
 use Rattle.rows.proofs.Rules.JudgedSlots.{empty-is, is-empty}
 use Rattle.slots.proofs.SlotLoop.{taken, split}
@@ -29,21 +29,21 @@ unmapped f l n e = sym (length-map l f) ∙ e
 module _ (k : SlotKind) (ss : List Slot) (sixteen : length ss ≡ 16) where
   -- those used from slot i on
   abbrev pub from : ℕ → ℕ
-  from i = usedAmong (map (slotValues k) (drop i (take (slotCount k) ss)))
+  from i = usedAmong (map (slotValues k) (drop i (take (slotTable k .count) ss)))
 
-  pub used-more : (i : ℕ) → i < slotCount k → empty (slotValues k (getD ss i noSlot)) ≡ false → from i ≡ suc (from (i + 1))
+  pub used-more : (i : ℕ) → i < slotTable k .count → empty (slotValues k (getD ss i noSlot)) ≡ false → from i ≡ suc (from (i + 1))
   unfolding usedAmong
   used-more i h e = rw (split k ss sixteen i h, e, add-one i)
 
-  pub used-end : (i : ℕ) → i < slotCount k → empty (slotValues k (getD ss i noSlot)) ≡ true → from i ≡ 0
+  pub used-end : (i : ℕ) → i < slotTable k .count → empty (slotValues k (getD ss i noSlot)) ≡ true → from i ≡ 0
   unfolding usedAmong
   used-end i h e = rw (split k ss sixteen i h, e)
 
-  pub used-all : (i : ℕ) → slotCount k ≤ i → from i ≡ 0
+  pub used-all : (i : ℕ) → slotTable k .count ≤ i → from i ≡ 0
   unfolding usedAmong
   used-all i h =
-      let all : length (take (slotCount k) ss) ≤ i = rw (taken k ss sixteen) h in
-      ap (λ (l : List Slot). usedAmong (map (slotValues k) l)) (drop-of-length-le (take (slotCount k) ss) all)
+      let all : length (take (slotTable k .count) ss) ≤ i = rw (taken k ss sixteen) h in
+      ap (λ (l : List Slot). usedAmong (map (slotValues k) l)) (drop-of-length-le (take (slotTable k .count) ss) all)
 
 -- ---- the number
 
@@ -77,13 +77,13 @@ all-empty [] h i l = absurd (not-suc-le-zero l)
 all-empty (v ∷ vs) h zero l = is-empty v (h .0)
 all-empty (v ∷ vs) h (suc i) l = all-empty vs (h .1) i (le-of-suc-le-suc l)
 
-pub later-empty : (k : SlotKind) (at : ℕ) (vs : List (List ℕ)) → LaterKept k at vs → (i : ℕ) → usedAmong vs ≤ i → i < length vs → empty (getD vs i []) ≡ true
+pub later-empty : (k : SlotKind) (at : ℕ) (vs : List (List ℕ)) → LaterKept (slotTable k) at vs → (i : ℕ) → usedAmong vs ≤ i → i < length vs → empty (getD vs i []) ≡ true
 later-empty k at [] h i u l = absurd (not-suc-le-zero l)
 later-empty k at (v ∷ vs) h zero u l =
     ⊎-elim (λ p. is-empty v (p .0)) (λ p. absurd (not-suc-le-zero (rw (first-counted v vs (not-empty v (empty v) refl (p .0))) at u))) h
 later-empty k at (v ∷ vs) h (suc i) u l =
     ⊎-elim (λ p. all-empty vs (p .1) i (le-of-suc-le-suc l))
-    (λ p. later-empty k (at + slotBits k) vs (p .1 .1) i (le-of-suc-le-suc (rw (first-counted v vs (not-empty v (empty v) refl (p .0))) at u)) (le-of-suc-le-suc l))
+    (λ p. later-empty k (at + slotTable k .bits) vs (p .1 .1) i (le-of-suc-le-suc (rw (first-counted v vs (not-empty v (empty v) refl (p .0))) at u)) (le-of-suc-le-suc l))
     h
 
 -- ---- of a frame: the first slot is used, for its first field is not zero
@@ -100,9 +100,9 @@ lowest lo hi x h = ⊎-elim (λ p. p .0) (λ p. absurd p) h
 
 -- the slots of a frame
 abbrev pub slotsIn : List ℕ → SlotKind → List (List ℕ)
-slotsIn s k = each (slotCount k) (λ i. map (cut s) (slotRows k (slotFirst k + slotBits k * i)))
+slotsIn s k = each (slotTable k .count) (λ i. map (cut s) (slotRows (slotTable k) (slotTable k .first + slotTable k .bits * i)))
 
-pub behind-used : (s : List ℕ) (k : SlotKind) → SlotsKept k (slotsIn s k) → (i : ℕ) → usedAmong (slotsIn s k) ≤ i → i < slotCount k
+pub behind-used : (s : List ℕ) (k : SlotKind) → SlotsKept (slotTable k) (slotsIn s k) → (i : ℕ) → usedAmong (slotsIn s k) ≤ i → i < slotTable k .count
     → empty (getD (slotsIn s k) i []) ≡ true
 behind-used s NoSlots h i u l = absurd (not-suc-le-zero l)
 behind-used s Prefectures h zero u l = absurd (not-suc-le-zero (rw (first-counted _ _ (starts _ _ (lowest 1 7 _ (h .0 .0)))) at u))

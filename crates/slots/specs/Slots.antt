@@ -1,28 +1,39 @@
 -- The slots of a record (document 01, "Silence in a slot" and "The record").
 use Prim.Native.Nat.{ℕ, _+_, _-_, _*_, zero, suc}
 use mathlib.Core.Bool.{cond, Bool, true, _&&_}
-use mathlib.Core.List.{List, [], _∷_, _++_}
-use lib.ListN.{replicate}
-use Rattle.bits.specs.Frame.{fieldOf}
+use mathlib.Core.List.{List, [], _∷_, _++_, map}
+use lib.ListN.{getD, replicate}
 use Rattle.slots.specs.declared.slot.Slot.{Slot}
-use Rattle.rows.specs.declared.slot.SlotKind.{SlotKind}
-use Rattle.rows.specs.declared.slot.SlotKind.the-variants.{NoSlots, Prefectures, Places}
-use Rattle.rows.specs.Layout.{slotCount, slotFirst, slotBits}
+use Rattle.slots.specs.declared.kind.SlotKind.{SlotKind}
+use Rattle.slots.specs.declared.kind.SlotKind.the-variants.{NoSlots, Prefectures, Places}
+use Rattle.rows.specs.Layout.{Slots, noSlots, slotRows}
+use Rattle.intensity.specs.Intensity.{prefectures}
+use Rattle.ash_fall.specs.AshFall.{places}
 use Rattle.rows.specs.Runs.Verdict.{empty}
-use Rattle.rows.specs.Values.{each}
+use Rattle.rows.specs.Values.{cut, each}
+
+-- the slots of each kind
+abbrev pub slotTable : SlotKind → Slots
+slotTable NoSlots = noSlots
+slotTable Prefectures = prefectures
+slotTable Places = places
 
 abbrev pub noSlot : Slot
 noSlot = record { hour = 0; strength = 0; place = 0 }
 
--- the slot at the bit a: "in category 3 each slot's hour is zero"
+-- what the values of a slot's rows say: "in category 3 each slot's hour is zero"
+abbrev pub slotFrom : SlotKind → List ℕ → Slot
+slotFrom NoSlots vs = noSlot
+slotFrom Prefectures vs = record { hour = 0; strength = getD vs 0 0; place = getD vs 1 0 }
+slotFrom Places vs = record { hour = getD vs 0 0; strength = getD vs 1 0; place = getD vs 2 0 }
+
+-- the slot at the bit a
 abbrev pub slotOf : SlotKind → List ℕ → ℕ → Slot
-slotOf NoSlots s a = noSlot
-slotOf Prefectures s a = record { hour = 0; strength = fieldOf s a 3; place = fieldOf s (a + 3) 6 }
-slotOf Places s a = record { hour = fieldOf s a 3; strength = fieldOf s (a + 3) 3; place = fieldOf s (a + 6) 23 }
+slotOf k s a = slotFrom k (map (cut s) (slotRows (slotTable k) a))
 
 -- the category's slots, and empty ones up to sixteen
 unfoldable pub slotsOf : List ℕ → SlotKind → List Slot
-slotsOf s k = each (slotCount k) (λ i. slotOf k s (slotFirst k + slotBits k * i)) ++ replicate (16 - slotCount k) noSlot
+slotsOf s k = each (slotTable k .count) (λ i. slotOf k s (slotTable k .first + slotTable k .bits * i)) ++ replicate (16 - slotTable k .count) noSlot
 
 abbrev pub slotValues : SlotKind → Slot → List ℕ
 slotValues NoSlots s = []

@@ -1,22 +1,22 @@
 // The rules of slots, asked from the lowest bit up behind what has been found before them.
 ghost use mathlib.Core.Path.{_≡_};
-ghost use mathlib.Core.List.{map};
+ghost use mathlib.Core.List.{[], map};
 ghost use Prim.Native.Nat.{_≤_};
 ghost use lib.ListN.{take};
 ghost use Rattle.rows.specs.Runs.Questions.{_then_};
-ghost use Rattle.rows.specs.Layout.{slotRows, slotCount};
+ghost use Rattle.rows.specs.Layout.{slotRows};
 ghost use Rattle.rows.specs.Runs.Verdict.{walk, slotsVerdict};
-ghost use Rattle.slots.specs.Slots.{slotValues};
+ghost use Rattle.slots.specs.Slots.{slotTable, slotValues};
 ghost use Rattle.slots.specs.Steps.{laterRun};
+use crate::kind::SlotKind;
 use crate::slot::Slot;
 use rows::refusal::Refusal;
 use rows::refusal::Verdict;
-use rows::slot::SlotKind;
 
 // The fields of a used slot.
 fn check_slot(found: Verdict, kind: SlotKind, at: u8, s: Slot) -> Verdict
     requires { ⌜ at ≤ 240 ⌝ }
-    ensures { λ r. ⌜ r ≡ found then walk 0 (slotRows kind at) (slotValues kind s) ⌝ }
+    ensures { λ r. ⌜ r ≡ found then walk [] (slotRows (slotTable kind) at) (slotValues kind s) ⌝ }
 {
     match kind {
         SlotKind::NoSlots => found,
@@ -59,7 +59,7 @@ impl Run {
 
 // The first slot is used; a later one may be empty.
 pub fn check_slots(found: Verdict, kind: SlotKind, slots: [Slot; 16]) -> Verdict
-    ensures { λ r. ⌜ r ≡ found then slotsVerdict kind (map (slotValues kind) (take (slotCount kind) slots)) ⌝ }
+    ensures { λ r. ⌜ r ≡ found then slotsVerdict (slotTable kind) (map (slotValues kind) (take (slotTable kind .count) slots)) ⌝ }
 {
     let count = kind.count();
     if count == 0 {

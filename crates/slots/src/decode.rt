@@ -2,8 +2,8 @@
 ghost use mathlib.Core.Path.{_≡_};
 ghost use Prim.Native.Nat.{_≤_};
 ghost use Rattle.slots.specs.Slots.{slotOf, slotsOf};
+use crate::kind::SlotKind;
 use crate::slot::Slot;
-use rows::slot::SlotKind;
 
 fn slot_at(f: [u8; 32], kind: SlotKind, at: usize) -> Slot
     requires { ⌜ at ≤ 220 ⌝ }

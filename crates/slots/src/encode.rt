@@ -4,15 +4,15 @@ ghost use mathlib.Core.List.{map};
 ghost use Prim.Native.Nat.{_≤_};
 ghost use lib.ListN.{take};
 ghost use Rattle.bits.specs.Frame.{laid};
-ghost use Rattle.rows.specs.Layout.{slotRows, slotsRows, slotCount, slotFirst};
+ghost use Rattle.rows.specs.Layout.{slotRows, slotsRows};
 ghost use Rattle.rows.specs.Values.{widths, joined};
-ghost use Rattle.slots.specs.Slots.{slotValues};
+ghost use Rattle.slots.specs.Slots.{slotTable, slotValues};
+use crate::kind::SlotKind;
 use crate::slot::Slot;
-use rows::slot::SlotKind;
 
 fn lay_slot(f: [u8; 32], kind: SlotKind, at: usize, s: Slot) -> [u8; 32]
     requires { ⌜ at ≤ 220 ⌝ }
-    ensures { λ r. ⌜ r ≡ laid f at (widths (slotRows kind at)) (slotValues kind s) ⌝ }
+    ensures { λ r. ⌜ r ≡ laid f at (widths (slotRows (slotTable kind) at)) (slotValues kind s) ⌝ }
 {
     match kind {
         SlotKind::NoSlots => f,
@@ -29,7 +29,7 @@ fn lay_slot(f: [u8; 32], kind: SlotKind, at: usize, s: Slot) -> [u8; 32]
 }
 
 pub fn lay_slots(f: [u8; 32], kind: SlotKind, slots: [Slot; 16]) -> [u8; 32]
-    ensures { λ r. ⌜ r ≡ laid f (slotFirst kind) (widths (slotsRows kind (slotCount kind) (slotFirst kind))) (joined (map (slotValues kind) (take (slotCount kind) slots))) ⌝ }
+    ensures { λ r. ⌜ r ≡ laid f (slotTable kind .first) (widths (slotsRows (slotTable kind) (slotTable kind .count) (slotTable kind .first))) (joined (map (slotValues kind) (take (slotTable kind .count) slots))) ⌝ }
 {
     let count = kind.count();
     let bits = kind.bits() as usize;

@@ -2,14 +2,13 @@
 ghost use mathlib.Core.Path.{_≡_};
 ghost use mathlib.Core.List.{map};
 ghost use lib.ListN.{take};
-ghost use Rattle.rows.specs.Layout.{slotCount};
-ghost use Rattle.slots.specs.Slots.{slotValues, tidySlots, usedAmong};
+ghost use Rattle.slots.specs.Slots.{slotTable, slotValues, tidySlots, usedAmong};
+use crate::kind::SlotKind;
 use crate::slot::Slot;
-use rows::slot::SlotKind;
 
 // How many slots are used, 0 in a category without slots: those before the first empty one.
 pub fn used(kind: SlotKind, slots: [Slot; 16]) -> usize
-    ensures { λ r. ⌜ r ≡ usedAmong (map (slotValues kind) (take (slotCount kind) slots)) ⌝ }
+    ensures { λ r. ⌜ r ≡ usedAmong (map (slotValues kind) (take (slotTable kind .count) slots)) ⌝ }
 {
     let count = kind.count();
     let mut k = 0;
@@ -25,7 +24,7 @@ pub fn used(kind: SlotKind, slots: [Slot; 16]) -> usize
 
 // Nothing stands in what the category does not use: neither in its slots nor in those behind them.
 pub fn are_tidy(kind: SlotKind, slots: [Slot; 16]) -> bool
-    ensures { λ r. ⌜ r ≡ tidySlots kind (slotCount kind) slots ⌝ }
+    ensures { λ r. ⌜ r ≡ tidySlots kind (slotTable kind .count) slots ⌝ }
 {
     let mut i = 0;
     while i < 16 {

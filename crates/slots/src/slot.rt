@@ -2,7 +2,7 @@
 ghost use mathlib.Core.Path.{_≡_};
 ghost use Rattle.rows.specs.Runs.Verdict.{empty};
 ghost use Rattle.slots.specs.Slots.{slotValues, unused};
-use rows::slot::SlotKind;
+use crate::kind::SlotKind;
 
 // A place that shakes (category 3: no hour, `strength` is the intensity, `place` the prefecture) or
 // on which ash falls (category 9).

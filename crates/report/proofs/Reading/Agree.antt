@@ -68,7 +68,7 @@ head-agrees : (s : List ℕ) (l : Layout) → fieldOf s 8 6 ≡ 43 → l .code �
 head-agrees s l m e = rw (e, ← m)
 
 last-agrees : (s : List ℕ) (l : Layout) → fieldOf s 214 6 ≡ 1
-    → lastValues (fieldOf s (l .spareFirst) (l .spareWidth)) (fieldOf s 220 6) ≡ map (cut s) (ending l)
+    → lastValues (fieldOf s (l .spareFirst) (l .spareWidth)) (fieldOf s 220 6) ≡ map (cut s) ending
 last-agrees s l e = rw (← e)
 
 -- ---- together

@@ -3,7 +3,7 @@ use mathlib.Core.Path.{_≡_, refl}
 use lib.ListN.{length}
 use Rattle.report.specs.declared.record.Body.{Body}
 use Rattle.report.specs.declared.record.Body.the-variants.{NoCategory, Hypocenter, Intensity, Nankai, AshFall}
-use Rattle.rows.specs.declared.slot.SlotKind.the-variants.{Prefectures, Places}
+use Rattle.slots.specs.declared.kind.SlotKind.the-variants.{Prefectures, Places}
 use Rattle.rows.specs.Layout.{noCategory, slotCount}
 use Rattle.report.specs.Layout.{layout}
 use Rattle.intensity.specs.Intensity.{intensity}

@@ -5,7 +5,7 @@ use Prim.Native.Nat.{ℕ, _≤_, _<_}
 use mathlib.Core.List.{List, [], map}
 use lib.ListN.{getD, take}
 use Rattle.report.specs.declared.record.Record.{Record}
-use Rattle.rows.specs.declared.slot.SlotKind.{SlotKind}
+use Rattle.slots.specs.declared.kind.SlotKind.{SlotKind}
 use Rattle.rows.specs.Layout.{slotCount}
 use Rattle.report.specs.Layout.{layout}
 use Rattle.rows.specs.Runs.Verdict.{empty}

@@ -22,7 +22,7 @@ use Rattle.rows.proofs.Rules.Spans.{allowed-one, only-yes}
 
 -- bits 8 to 52: message type and category are what they are
 pub common-walk : (l : Layout) (c : Common) (x : ℕ)
-    → walk 0 (common l) (headValues c (l .code) x)
+    → walk [] (common l) (headValues c (l .code) x)
     ≡ unless (allowed (2 to 2 ∷ 7 to 7 ∷ []) (c .rc)) (Range 14)
     then unless (leb 1 (c .month) && leb (c .month) 12) (Range 21)
     then unless (leb 1 (c .day) && leb (c .day) 31) (Range 25)
@@ -34,7 +34,7 @@ unfolding walk judge
 common-walk l c x = simp (unless-true _ (Range 8) (only-yes 43), unless-true _ (Range 17) (only-yes (l .code)), fine-then, then-fine) (simp allowed-one)
 
 -- any text passes, so the fields of a category are judged without it
-pub body-walk : (b : Body) (text : List ℕ) → Bytes text → length text ≡ 18 → walk 0 (layout b .body) (bodyValues b text) ≡ bodyVerdict b
+pub body-walk : (b : Body) (text : List ℕ) → Bytes text → length text ≡ 18 → walk [] (layout b .body) (bodyValues b text) ≡ bodyVerdict b
 unfolding layout bodyValues bodyVerdict walk
 body-walk NoCategory text h l = refl
 body-walk (Hypocenter q) text h l = refl

@@ -75,7 +75,7 @@ pub all-laid : (r : Record) → Shaped r → (z f g h i j : List ℕ) → let l 
     → g ≡ laid f 8 (widths (common l)) (headValues (r .common) (l .code) 0)
     → h ≡ laid g 53 (widths (l .body)) (bodyValues (r .body) (r .text))
     → i ≡ laid h (slotFirst (l .slots)) (slotsWidths l) (joined (map (slotValues (l .slots)) (take (slotCount (l .slots)) (r .slots))))
-    → j ≡ laid i (l .spareFirst) (widths (ending l)) (lastValues 0 (r .reserved))
+    → j ≡ laid i (l .spareFirst) (widths ending) (lastValues 0 (r .reserved))
     → j ≡ laid z 0 (frontWidths l) (frontValues r)
     )
 unfolding values
@@ -83,7 +83,7 @@ all-laid r s z f g h i j ef eg eh ei ej =
     let l = layout (r .body) in
     let k = l .slots in
     let wb = widths (l .body) in
-    let we = widths (ending l) in
+    let we = widths ending in
     let vb = bodyValues (r .body) (r .text) in
     let vs = joined (map (slotValues k) (take (slotCount k) (r .slots))) in
     let ve = lastValues 0 (r .reserved) in
@@ -97,7 +97,7 @@ all-laid r s z f g h i j ef eg eh ei ej =
     (ei ∙ sym (slots-start (r .body) h vs)
     ∙ ap (λ (x : List ℕ). laid x (53 + total wb) (slotsWidths l) vs) (eh ∙ ap (λ (x : List ℕ). laid x 53 wb vb) (eg ∙ ap (λ (x : List ℕ). laid x 8 (widths (common l)) head) ef)))
     ∙ sym (in-four first (widths (common l)) wb (slotsWidths l) we head vb vs ve refl (many (l .body) vb (record-filled r 0 0 (s .slots) (s .text) .body)) many-slots)
-    ∙ ap (λ (ws : List ℕ). laid first 8 ws (head ++ (vb ++ (vs ++ ve)))) (sym (widths-four (common l) (l .body) (slotsRows k (slotCount k) (slotFirst k)) (ending l)))
+    ∙ ap (λ (ws : List ℕ). laid first 8 ws (head ++ (vb ++ (vs ++ ve)))) (sym (widths-four (common l) (l .body) (slotsRows k (slotCount k) (slotFirst k)) ending))
 
 -- ---- the parity behind them
 

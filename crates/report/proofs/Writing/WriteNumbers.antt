@@ -13,8 +13,8 @@ use Rattle.rows.specs.declared.refusal.Refusal.{Refusal}
 use Rattle.rows.specs.declared.refusal.Refusal.the-variants.{Length, Preamble, Category, Range, Spare, Gap, Unused}
 use Rattle.report.specs.declared.record.Body.{Body}
 use Rattle.report.specs.declared.record.Body.the-variants.{NoCategory, Hypocenter, Intensity, Nankai, AshFall}
-use Rattle.rows.specs.declared.slot.SlotKind.{SlotKind}
-use Rattle.rows.specs.declared.slot.SlotKind.the-variants.{NoSlots, Prefectures, Places}
+use Rattle.slots.specs.declared.kind.SlotKind.{SlotKind}
+use Rattle.slots.specs.declared.kind.SlotKind.the-variants.{NoSlots, Prefectures, Places}
 use Rattle.report.specs.declared.record.Record.{Record}
 use Rattle.rows.specs.Refusals.{says, answers}
 use Rattle.rows.specs.Runs.Questions.{_then_, unless}
@@ -108,7 +108,7 @@ slot-ruled Places at = refl
 
 -- ---- slots
 
-slot-numbered : (k : SlotKind) (at : ℕ) (v : List ℕ) → Numbered (walk 0 (slotRows k at) v)
+slot-numbered : (k : SlotKind) (at : ℕ) (v : List ℕ) → Numbered (walk [] (slotRows k at) v)
 slot-numbered k at v = walk-numbered 0 (slotRows k at) v (all-spared (slotRows k at) v (slot-ruled k at))
 
 later-numbered : (k : SlotKind) (gap : Bool) (at : ℕ) (vs : List (List ℕ)) → Numbered (later k gap at vs)
@@ -132,7 +132,7 @@ inner-numbered r =
     let l = layout (r .body) in
     then-numbered _ _ (walk-numbered 0 (common l) (values r 0 0 .head) (tt, (tt, (tt, (tt, (tt, (tt, (tt, (tt, (refl, tt))))))))))
     (then-numbered _ _ (walk-numbered 0 (l .body) (values r 0 0 .body) (all-spared (l .body) _ (body-ruled (r .body))))
-    (then-numbered _ _ (slots-numbered (l .slots) (values r 0 0 .slots)) (walk-numbered 0 (ending l) (values r 0 0 .last) (refl, (tt, (tt, tt))))))
+    (then-numbered _ _ (slots-numbered (l .slots) (values r 0 0 .slots)) (walk-numbered 0 ending (values r 0 0 .last) (refl, (tt, (tt, tt))))))
 
 pub write-numbered : (r : Record) (size : ℕ) → OneOf writeNumbers (answers (writeAnswer r size) .number)
 unfolding writeAnswer

@@ -59,7 +59,7 @@ no-gap r size p s e f = late (judged-record r (s .slots) .earliest (Range p) (Ga
 abbrev pub reserving : Record → ℕ → Record
 reserving r n = record { preamble = r .preamble; reserved = n; common = r .common; body = r .body; slots = r .slots; text = r .text }
 
-above : (l : Layout) (n : ℕ) → 63 < n → walk 0 (ending l) (lastValues 0 n) ≡ Refused (Range 220)
+above : (l : Layout) (n : ℕ) → 63 < n → walk [] ending (lastValues 0 n) ≡ Refused (Range 220)
 unfolding walk judge allowed unless _then_
 above l n h = simp (le-leb 0 n (omega arith), lt-leb n 63 h)
 
@@ -76,8 +76,8 @@ unfolding verdict values
 above-inner r n h e =
     let l = layout (r .body) in
     let v = values r 0 0 in
-    behind-fine (walk 0 (common l) (v .head)) (walk 0 (l .body) (v .body)) (slotsVerdict (l .slots) (v .slots)) (walk 0 (ending l) (v .last)) (Range 220) e
-    (walk 0 (ending l) (lastValues 0 n)) (above l n h)
+    behind-fine (walk [] (common l) (v .head)) (walk [] (l .body) (v .body)) (slotsVerdict (l .slots) (v .slots)) (walk [] ending (v .last)) (Range 220) e
+    (walk [] ending (lastValues 0 n)) (above l n h)
 
 pub above-63 : (r : Record) (n : ℕ) → Valid r → 63 < n → writeAnswer (reserving r n) 32 ≡ Refused (Range 220)
 above-63 r n v h =

@@ -16,8 +16,8 @@ use Rattle.report.specs.declared.record.Body.{Body}
 use Rattle.report.specs.declared.record.Body.the-variants.{NoCategory, Hypocenter, Intensity, Nankai, AshFall}
 use Rattle.report.specs.declared.record.Record.{Record}
 use Rattle.rows.specs.Runs.Questions.{_then_, unless}
-use Rattle.rows.specs.Layout.{Layout, allRows, slotCount}
-use Rattle.report.specs.Layout.{layout, preambles}
+use Rattle.rows.specs.Layout.{Layout, allRows}
+use Rattle.report.specs.Layout.{slotKind, layout, preambles}
 use Rattle.rows.specs.Runs.Verdict.{allowed, empty, verdict}
 use Rattle.slots.specs.Slots.{tidySlots}
 use Rattle.report.specs.Records.{values}
@@ -42,7 +42,7 @@ tidyText (Intensity t) text = empty text
 tidyText (AshFall e) text = empty text
 
 abbrev pub tidy : Record → Bool
-tidy r = let k = layout (r .body) .slots in tidySlots k (slotCount k) (r .slots) && tidyText (r .body) (r .text)
+tidy r = tidySlots (slotKind (r .body)) (layout (r .body) .slots .count) (r .slots) && tidyText (r .body) (r .text)
 
 -- spares are not in a record: they are zero
 unfoldable pub writeAnswer : Record → ℕ → Verdict

@@ -10,8 +10,7 @@ use lib.Dec.{ltb}
 use lib.Pow.{pow-pos}
 use borrow.Author.Tests.{ltb-true}
 use Rattle.bits.specs.Layout.{Fit}
-use Rattle.rows.specs.declared.slot.SlotKind.{SlotKind}
-use Rattle.rows.specs.Layout.{Span, _to_, Rule, among, rising, spare, Row, Layout, common, ending, slotCount, slotFirst, slotBits, slotRows, slotsRows, allRows, allBelow, fitting, allFit}
+use Rattle.rows.specs.Layout.{Span, _to_, Rule, among, rising, spare, Row, Layout, common, ending, slotRows, slotsRows, allRows, allBelow, fitting, allFit, Slots}
 use Rattle.rows.specs.Values.{Values, joined, flat, widths}
 use Rattle.rows.specs.Kept.{In, Keeps, Kept, Empty, AllEmpty, LaterKept, SlotsKept, Holds}
 use Rattle.rows.proofs.Rules.Outcomes.{and-both, both-and}
@@ -28,20 +27,20 @@ in-below n ((lo to hi) ∷ ss) v b h =
 zero-below : (w v : ℕ) → v ≡ 0 → v < 2 ^ w
 zero-below w v e = subst (λ (x : ℕ). x < 2 ^ w) (sym e) (pow-pos w)
 
-keeps-below : (r : Rule) (w before v : ℕ) → fitting r w ≡ true → Keeps r before v → v < 2 ^ w
-keeps-below (among ss) w before v b h = in-below (2 ^ w) ss v b h
-keeps-below (rising hi) w before v b h = lt-of-le-of-lt (h .1) (ltb-true hi (2 ^ w) b)
-keeps-below spare w before v b h = zero-below w v h
+keeps-below : (r : Rule) (w : ℕ) (past : List ℕ) (v : ℕ) (next : List ℕ) → fitting r w ≡ true → Keeps r past v next → v < 2 ^ w
+keeps-below (among ss) w past v next b h = in-below (2 ^ w) ss v b h
+keeps-below (rising hi) w past v next b h = lt-of-le-of-lt (h .1) (ltb-true hi (2 ^ w) b)
+keeps-below spare w past v next b h = zero-below w v h
 
 -- ---- fields one behind the other
 
-kept-fit : (before : ℕ) (rs : List Row) (vs : List ℕ) → length vs ≡ length rs → allFit rs ≡ true → Kept before rs vs → Fit (widths rs) vs
-kept-fit before [] [] l b h = tt
-kept-fit before [] (v ∷ vs) l b h = absurd (suc-ne-zero (length vs) l)
-kept-fit before (r ∷ rs) [] l b h = absurd (suc-ne-zero (length rs) (sym l))
-kept-fit before (r ∷ rs) (v ∷ vs) l b h =
+kept-fit : (past : List ℕ) (rs : List Row) (vs : List ℕ) → length vs ≡ length rs → allFit rs ≡ true → Kept past rs vs → Fit (widths rs) vs
+kept-fit past [] [] l b h = tt
+kept-fit past [] (v ∷ vs) l b h = absurd (suc-ne-zero (length vs) l)
+kept-fit past (r ∷ rs) [] l b h = absurd (suc-ne-zero (length rs) (sym l))
+kept-fit past (r ∷ rs) (v ∷ vs) l b h =
     let q = and-both (fitting (r .rule) (r .width)) (allFit rs) b in
-    (keeps-below (r .rule) (r .width) before v (q .0) (h .0), kept-fit v rs vs (suc-inj l) (q .1) (h .1))
+    (keeps-below (r .rule) (r .width) past v vs (q .0) (h .0), kept-fit (v ∷ past) rs vs (suc-inj l) (q .1) (h .1))
 
 empty-fit : (rs : List Row) (vs : List ℕ) → length vs ≡ length rs → Empty vs → Fit (widths rs) vs
 empty-fit [] [] l h = tt
@@ -69,45 +68,48 @@ all-fit-both (r ∷ rs) qs b =
 -- ---- slots
 
 -- the rows of all slots from the bit `at` on
-abbrev rowsFrom : SlotKind → ℕ → List (List ℕ) → List Row
+abbrev rowsFrom : Slots → ℕ → List (List ℕ) → List Row
 rowsFrom k at vs = slotsRows k (length vs) at
 
-all-empty-fit : (k : SlotKind) (at : ℕ) (vs : List (List ℕ)) → SlotsFilled k at vs → AllEmpty vs → Fit (widths (rowsFrom k at vs)) (joined vs)
+all-empty-fit : (k : Slots) (at : ℕ) (vs : List (List ℕ)) → SlotsFilled k at vs → AllEmpty vs → Fit (widths (rowsFrom k at vs)) (joined vs)
 all-empty-fit k at [] l h = tt
 all-empty-fit k at (v ∷ vs) l h =
-    behind-fit (slotRows k at) (rowsFrom k (at + slotBits k) vs) v (joined vs) (empty-fit (slotRows k at) v (l .0) (h .0))
-    (all-empty-fit k (at + slotBits k) vs (l .1) (h .1))
+    behind-fit (slotRows k at) (rowsFrom k (at + k .bits) vs) v (joined vs) (empty-fit (slotRows k at) v (l .0) (h .0))
+    (all-empty-fit k (at + k .bits) vs (l .1) (h .1))
 
-later-fit : (k : SlotKind) (at : ℕ) (vs : List (List ℕ)) → SlotsFilled k at vs → allFit (rowsFrom k at vs) ≡ true → LaterKept k at vs
+later-fit : (k : Slots) (at : ℕ) (vs : List (List ℕ)) → SlotsFilled k at vs → allFit (rowsFrom k at vs) ≡ true → LaterKept k at vs
     → Fit (widths (rowsFrom k at vs)) (joined vs)
 later-fit k at [] l b h = tt
 later-fit k at (v ∷ vs) l b h =
-    let q = all-fit-both (slotRows k at) (rowsFrom k (at + slotBits k) vs) b in
+    let q = all-fit-both (slotRows k at) (rowsFrom k (at + k .bits) vs) b in
     ⊎-elim (λ e. all-empty-fit k at (v ∷ vs) l e)
-    (λ u. behind-fit (slotRows k at) (rowsFrom k (at + slotBits k) vs) v (joined vs) (kept-fit 0 (slotRows k at) v (l .0) (q .0) (u .1 .0))
-    (later-fit k (at + slotBits k) vs (l .1) (q .1) (u .1 .1)))
+    (λ u. behind-fit (slotRows k at) (rowsFrom k (at + k .bits) vs) v (joined vs) (kept-fit [] (slotRows k at) v (l .0) (q .0) (u .1 .0))
+    (later-fit k (at + k .bits) vs (l .1) (q .1) (u .1 .1)))
     h
 
-slots-fit : (k : SlotKind) (vs : List (List ℕ)) → SlotsFilled k (slotFirst k) vs → allFit (rowsFrom k (slotFirst k) vs) ≡ true → SlotsKept k vs
-    → Fit (widths (rowsFrom k (slotFirst k) vs)) (joined vs)
+slots-fit : (k : Slots) (vs : List (List ℕ)) → SlotsFilled k (k .first) vs → allFit (rowsFrom k (k .first) vs) ≡ true → SlotsKept k vs
+    → Fit (widths (rowsFrom k (k .first) vs)) (joined vs)
 slots-fit k [] l b h = tt
 slots-fit k (v ∷ vs) l b h =
-    let at = slotFirst k in
-    let q = all-fit-both (slotRows k at) (rowsFrom k (at + slotBits k) vs) b in
-    behind-fit (slotRows k at) (rowsFrom k (at + slotBits k) vs) v (joined vs) (kept-fit 0 (slotRows k at) v (l .0) (q .0) (h .0))
-    (later-fit k (at + slotBits k) vs (l .1) (q .1) (h .1))
+    let at = k .first in
+    let q = all-fit-both (slotRows k at) (rowsFrom k (at + k .bits) vs) b in
+    behind-fit (slotRows k at) (rowsFrom k (at + k .bits) vs) v (joined vs) (kept-fit [] (slotRows k at) v (l .0) (q .0) (h .0))
+    (later-fit k (at + k .bits) vs (l .1) (q .1) (h .1))
 
 -- ---- all of them
 
 pub holds-fit : (l : Layout) (v : Values) → Filled l v → allFit (allRows l) ≡ true → Holds l v → Fit (widths (allRows l)) (flat v)
 holds-fit l v f b h =
     let k = l .slots in
-    let rs = slotsRows k (slotCount k) (slotFirst k) in
-    let p = all-fit-both (common l) (l .body ++ (rs ++ ending l)) b in
-    let q = all-fit-both (l .body) (rs ++ ending l) (p .1) in
-    let t = all-fit-both rs (ending l) (q .1) in
+    let rs = slotsRows k (k .count) (k .first) in
+    let p = all-fit-both (common l) (l .front ++ (rs ++ (l .behind ++ ending))) b in
+    let q = all-fit-both (l .front) (rs ++ (l .behind ++ ending)) (p .1) in
+    let t = all-fit-both rs (l .behind ++ ending) (q .1) in
+    let u = all-fit-both (l .behind) ending (t .1) in
     let s : Fit (widths rs) (joined (v .slots)) = rw (f .slots) at (slots-fit k (v .slots) (f .fields) (rw (f .slots) (t .0)) (h .slots)) in
-    let us = joined (v .slots) ++ v .last in
-    behind-fit (common l) (l .body ++ (rs ++ ending l)) (v .head) (v .body ++ us) (kept-fit 0 (common l) (v .head) (f .head) (p .0) (h .head))
-    (behind-fit (l .body) (rs ++ ending l) (v .body) us (kept-fit 0 (l .body) (v .body) (f .body) (q .0) (h .body))
-    (behind-fit rs (ending l) (joined (v .slots)) (v .last) s (kept-fit 0 (ending l) (v .last) (f .last) (t .1) (h .last))))
+    let ends = l .behind ++ ending in
+    let us = v .behind ++ v .last in
+    behind-fit (common l) (l .front ++ (rs ++ ends)) (v .head) (v .front ++ (joined (v .slots) ++ us)) (kept-fit [] (common l) (v .head) (f .head) (p .0) (h .head))
+    (behind-fit (l .front) (rs ++ ends) (v .front) (joined (v .slots) ++ us) (kept-fit [] (l .front) (v .front) (f .front) (q .0) (h .front))
+    (behind-fit rs ends (joined (v .slots)) us s
+    (behind-fit (l .behind) ending (v .behind) (v .last) (kept-fit [] (l .behind) (v .behind) (f .behind) (u .0) (h .behind)) (kept-fit [] ending (v .last) (f .last) (u .1) (h .last)))))

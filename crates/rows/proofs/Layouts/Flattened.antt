@@ -5,8 +5,7 @@ use native.Mathlib.Nat.{suc-ne-zero, suc-inj}
 use mathlib.Core.List.{List, [], _∷_, _++_, append-assoc}
 use lib.ListN.{length, take, drop}
 use lib.Seq.{take-at, drop-at}
-use Rattle.rows.specs.declared.slot.SlotKind.{SlotKind}
-use Rattle.rows.specs.Layout.{Layout, slotFirst, slotBits}
+use Rattle.rows.specs.Layout.{Layout, Slots}
 use Rattle.rows.specs.Values.{Values, joined, flat}
 use Rattle.rows.proofs.Layouts.Lengths.{SlotsFilled, Filled}
 
@@ -18,19 +17,22 @@ front-same xs ys us vs l e = (
 )
 
 -- the same of slots
-slots-same : (k : SlotKind) (at : ℕ) (xs ys : List (List ℕ)) (us vs : List ℕ) → SlotsFilled k at xs → SlotsFilled k at ys → length xs ≡ length ys
+slots-same : (k : Slots) (at : ℕ) (xs ys : List (List ℕ)) (us vs : List ℕ) → SlotsFilled k at xs → SlotsFilled k at ys → length xs ≡ length ys
     → joined xs ++ us ≡ joined ys ++ vs → (xs ≡ ys) × (us ≡ vs)
 slots-same k at [] [] us vs f g n e = (refl, e)
 slots-same k at [] (y ∷ ys) us vs f g n e = absurd (suc-ne-zero (length ys) (sym n))
 slots-same k at (x ∷ xs) [] us vs f g n e = absurd (suc-ne-zero (length xs) n)
 slots-same k at (x ∷ xs) (y ∷ ys) us vs f g n e =
     let q = front-same x y (joined xs ++ us) (joined ys ++ vs) (f .0 ∙ sym (g .0)) (sym (append-assoc x (joined xs) us) ∙ e ∙ append-assoc y (joined ys) vs) in
-    let t = slots-same k (at + slotBits k) xs ys us vs (f .1) (g .1) (suc-inj n) (q .1) in
+    let t = slots-same k (at + k .bits) xs ys us vs (f .1) (g .1) (suc-inj n) (q .1) in
     (ap₂ (λ (a : List ℕ) (b : List (List ℕ)). a ∷ b) (q .0) (t .0), t .1)
 
 pub flat-same : (l : Layout) (v w : Values) → Filled l v → Filled l w → flat v ≡ flat w → v ≡ w
 flat-same l v w f g e =
-    let a = front-same (v .head) (w .head) (v .body ++ (joined (v .slots) ++ v .last)) (w .body ++ (joined (w .slots) ++ w .last)) (f .head ∙ sym (g .head)) e in
-    let b = front-same (v .body) (w .body) (joined (v .slots) ++ v .last) (joined (w .slots) ++ w .last) (f .body ∙ sym (g .body)) (a .1) in
-    let c = slots-same (l .slots) (slotFirst (l .slots)) (v .slots) (w .slots) (v .last) (w .last) (f .fields) (g .fields) (f .slots ∙ sym (g .slots)) (b .1) in
-    λ i. record { head = a .0 i; body = b .0 i; slots = c .0 i; last = c .1 i }
+    let vs = v .behind ++ v .last in
+    let ws = w .behind ++ w .last in
+    let a = front-same (v .head) (w .head) (v .front ++ (joined (v .slots) ++ vs)) (w .front ++ (joined (w .slots) ++ ws)) (f .head ∙ sym (g .head)) e in
+    let b = front-same (v .front) (w .front) (joined (v .slots) ++ vs) (joined (w .slots) ++ ws) (f .front ∙ sym (g .front)) (a .1) in
+    let c = slots-same (l .slots) (l .slots .first) (v .slots) (w .slots) vs ws (f .fields) (g .fields) (f .slots ∙ sym (g .slots)) (b .1) in
+    let d = front-same (v .behind) (w .behind) (v .last) (w .last) (f .behind ∙ sym (g .behind)) (c .1) in
+    λ i. record { head = a .0 i; front = b .0 i; slots = c .0 i; behind = d .0 i; last = d .1 i }

@@ -1,48 +1,46 @@
--- What reading a frame answers, and what the frame is.
-use mathlib.Core.Path.{_≡_, refl, ap, _∙_}
+-- Each row of a table has its value.
+use mathlib.Core.Path.{sym, _≡_, refl, ap, _∙_}
 use Prim.Native.Nat.{ℕ, zero, suc, _+_}
 use mathlib.Core.List.{List, [], _∷_}
 use lib.ListN.{length, length-map}
-use Rattle.rows.specs.Layout.{Layout, slotCount, common, ending, slotFirst, slotBits, slotRows}
+use Rattle.rows.specs.Layout.{shifted, Row, Layout, common, ending, slotRows, Slots}
 use Rattle.rows.specs.Values.{Values, each, valuesOf, cut}
-use Rattle.rows.specs.declared.slot.SlotKind.{SlotKind}
-use Rattle.rows.specs.declared.slot.SlotKind.the-variants.{NoSlots, Prefectures, Places}
 
 pub length-each : {A : Type 0} (n : ℕ) (f : ℕ → A) → length (each n f) ≡ n
 length-each zero f = refl
 length-each (suc n) f = ap suc (length-each n (λ i. f (suc i)))
 
 -- a value for each row of each slot, from the bit `at` on
-abbrev pub SlotsFilled : SlotKind → ℕ → List (List ℕ) → Type 0
+abbrev pub SlotsFilled : Slots → ℕ → List (List ℕ) → Type 0
 SlotsFilled k at [] = Unit
-SlotsFilled k at (v ∷ vs) = (length v ≡ length (slotRows k at)) × SlotsFilled k (at + slotBits k) vs
+SlotsFilled k at (v ∷ vs) = (length v ≡ length (slotRows k at)) × SlotsFilled k (at + k .bits) vs
 
 -- a value for each row of the layout
 pub record Filled (l : Layout) (v : Values) : Type 0 where
   pub head : length (v .head) ≡ length (common l)
-  pub body : length (v .body) ≡ length (l .body)
-  pub slots : length (v .slots) ≡ slotCount (l .slots)
-  pub fields : SlotsFilled (l .slots) (slotFirst (l .slots)) (v .slots)
-  pub last : length (v .last) ≡ length (ending l)
+  pub front : length (v .front) ≡ length (l .front)
+  pub slots : length (v .slots) ≡ l .slots .count
+  pub fields : SlotsFilled (l .slots) (l .slots .first) (v .slots)
+  pub behind : length (v .behind) ≡ length (l .behind)
+  pub last : length (v .last) ≡ length ending
 
 -- a slot has as many rows wherever it stands
-as-many : (k : SlotKind) (a b : ℕ) → length (slotRows k a) ≡ length (slotRows k b)
-as-many NoSlots a b = refl
-as-many Prefectures a b = refl
-as-many Places a b = refl
+pub length-shifted : (a : ℕ) (rs : List Row) → length (shifted a rs) ≡ length rs
+length-shifted a [] = refl
+length-shifted a (r ∷ rs) = ap suc (length-shifted a rs)
 
-each-filled : (k : SlotKind) (at n : ℕ) (f : ℕ → List ℕ)
-    → ((i : ℕ) → length (f i) ≡ length (slotRows k 0)) → SlotsFilled k at (each n f)
+each-filled : (k : Slots) (at n : ℕ) (f : ℕ → List ℕ) → ((i : ℕ) → length (f i) ≡ length (k .rows)) → SlotsFilled k at (each n f)
 each-filled k at zero f h = tt
-each-filled k at (suc n) f h = (h 0 ∙ as-many k 0 at, each-filled k (at + slotBits k) n (λ i. f (suc i)) (λ i. h (suc i)))
+each-filled k at (suc n) f h = (h 0 ∙ sym (length-shifted at (k .rows)), each-filled k (at + k .bits) n (λ i. f (suc i)) (λ i. h (suc i)))
 
 pub frame-filled : (s : List ℕ) (l : Layout) → Filled l (valuesOf s l)
 unfolding valuesOf
 frame-filled s l = record {
   head = length-map (common l) (cut s);
-  body = length-map (l .body) (cut s);
-  slots = length-each (slotCount (l .slots)) _;
-  fields = each-filled (l .slots) (slotFirst (l .slots)) (slotCount (l .slots)) _
-      (λ i. length-map (slotRows (l .slots) _) (cut s) ∙ as-many (l .slots) _ 0);
-  last = length-map (ending l) (cut s);
+  front = length-map (l .front) (cut s);
+  slots = length-each (l .slots .count) _;
+  fields = each-filled (l .slots) (l .slots .first) (l .slots .count) _
+      (λ i. length-map (slotRows (l .slots) _) (cut s) ∙ length-shifted _ (l .slots .rows));
+  behind = length-map (l .behind) (cut s);
+  last = length-map ending (cut s);
 }

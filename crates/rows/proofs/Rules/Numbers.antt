@@ -9,10 +9,9 @@ use Rattle.rows.specs.declared.refusal.Verdict.{Verdict}
 use Rattle.rows.specs.declared.refusal.Verdict.the-variants.{Fine, Refused}
 use Rattle.rows.specs.declared.refusal.Refusal.{Refusal}
 use Rattle.rows.specs.declared.refusal.Refusal.the-variants.{Length, Padding, Preamble, Parity, Message, Version, Category, Range, Spare, Gap, Unused, NoPage, OtherBulletin, Unsound, NotHeld, Short, Line}
-use Rattle.rows.specs.declared.slot.SlotKind.{SlotKind}
 use Rattle.rows.specs.Refusals.{Said, says, answers}
 use Rattle.rows.specs.Runs.Questions.{_then_, unless}
-use Rattle.rows.specs.Layout.{Rule, among, rising, spare, Row, Layout, common, ending, slotFirst, slotBits, slotRows}
+use Rattle.rows.specs.Layout.{Rule, among, rising, spare, Row, Layout, common, ending, slotRows, Slots}
 use Rattle.rows.specs.Values.{Values}
 use Rattle.rows.specs.Runs.Verdict.{judge, walk, empty, later, slotsVerdict, verdict}
 
@@ -78,32 +77,33 @@ pub cond-ten : (b : Bool) (v w : Verdict) → UpToTen v → UpToTen w → UpToTe
 cond-ten true v w h k = h
 cond-ten false v w h k = k
 
-judge-ten : (r : Rule) (at before v : ℕ) → UpToTen (judge r at before v)
+judge-ten : (r : Rule) (at : ℕ) (past : List ℕ) (v : ℕ) (next : List ℕ) → UpToTen (judge r at past v next)
 unfolding judge
-judge-ten (among ss) at before v = unless-ten _ (Range at) (lit≤ tt)
-judge-ten (rising hi) at before v = unless-ten _ (Range at) (lit≤ tt)
-judge-ten spare at before v = unless-ten _ (Spare at) (lit≤ tt)
+judge-ten (among ss) at past v next = unless-ten _ (Range at) (lit≤ tt)
+judge-ten (rising hi) at past v next = unless-ten _ (Range at) (lit≤ tt)
+judge-ten spare at past v next = unless-ten _ (Spare at) (lit≤ tt)
 
-pub walk-ten : (before : ℕ) (rs : List Row) (vs : List ℕ) → UpToTen (walk before rs vs)
+pub walk-ten : (past : List ℕ) (rs : List Row) (vs : List ℕ) → UpToTen (walk past rs vs)
 unfolding walk
-walk-ten before [] vs = lit≤ tt
-walk-ten before (r ∷ rs) [] = lit≤ tt
-walk-ten before (r ∷ rs) (v ∷ vs) = then-ten _ _ (judge-ten (r .rule) (r .first) before v) (walk-ten v rs vs)
+walk-ten past [] vs = lit≤ tt
+walk-ten past (r ∷ rs) [] = lit≤ tt
+walk-ten past (r ∷ rs) (v ∷ vs) = then-ten _ _ (judge-ten (r .rule) (r .first) past v vs) (walk-ten (v ∷ past) rs vs)
 
-later-ten : (k : SlotKind) (gap : Bool) (at : ℕ) (vs : List (List ℕ)) → UpToTen (later k gap at vs)
+later-ten : (k : Slots) (gap : Bool) (at : ℕ) (vs : List (List ℕ)) → UpToTen (later k gap at vs)
 unfolding later
 later-ten k gap at [] = lit≤ tt
 later-ten k gap at (v ∷ vs) =
-    cond-ten (empty v) _ _ (later-ten k true (at + slotBits k) vs)
-    (then-ten _ _ (unless-ten (not gap) (Gap at) (lit≤ tt)) (then-ten _ _ (walk-ten 0 (slotRows k at) v) (later-ten k gap (at + slotBits k) vs)))
+    cond-ten (empty v) _ _ (later-ten k true (at + k .bits) vs)
+    (then-ten _ _ (unless-ten (not gap) (Gap at) (lit≤ tt)) (then-ten _ _ (walk-ten [] (slotRows k at) v) (later-ten k gap (at + k .bits) vs)))
 
-slots-ten : (k : SlotKind) (vs : List (List ℕ)) → UpToTen (slotsVerdict k vs)
+slots-ten : (k : Slots) (vs : List (List ℕ)) → UpToTen (slotsVerdict k vs)
 unfolding slotsVerdict
 slots-ten k [] = lit≤ tt
-slots-ten k (v ∷ vs) = then-ten _ _ (walk-ten 0 (slotRows k (slotFirst k)) v) (later-ten k false (slotFirst k + slotBits k) vs)
+slots-ten k (v ∷ vs) = then-ten _ _ (walk-ten [] (slotRows k (k .first)) v) (later-ten k false (k .first + k .bits) vs)
 
 pub verdict-ten : (l : Layout) (v : Values) → UpToTen (verdict l v)
 unfolding verdict
 verdict-ten l v =
-    then-ten _ _ (walk-ten 0 (common l) (v .head))
-    (then-ten _ _ (walk-ten 0 (l .body) (v .body)) (then-ten _ _ (slots-ten (l .slots) (v .slots)) (walk-ten 0 (ending l) (v .last))))
+    then-ten _ _ (walk-ten [] (common l) (v .head))
+    (then-ten _ _ (walk-ten [] (l .front) (v .front))
+    (then-ten _ _ (slots-ten (l .slots) (v .slots)) (then-ten _ _ (walk-ten [] (l .behind) (v .behind)) (walk-ten [] ending (v .last)))))

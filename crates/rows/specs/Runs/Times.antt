@@ -1,9 +1,9 @@
--- What reading, laying and judging a time give wherever it is said to stand: at a bit that leaves it room those of its rows.
+-- What reading and judging a time give wherever it is said to stand: at a bit that leaves it room those of its rows.
 use Prim.Native.Nat.{ℕ, _+_}
 use mathlib.Core.Bool.{cond}
-use mathlib.Core.List.{List}
+use mathlib.Core.List.{List, []}
 use lib.Dec.{leb}
-use Rattle.bits.specs.Frame.{fieldIn, placedIn}
+use Rattle.bits.specs.Frame.{fieldIn}
 use Rattle.rows.specs.declared.time.Time.{Time}
 use Rattle.rows.specs.Layout.{time}
 use Rattle.rows.specs.Runs.Verdict.{walk}
@@ -14,8 +14,5 @@ use Rattle.rows.specs.Values.{timeValues}
 abbrev pub timeIn : List ℕ → ℕ → Time
 timeIn s a = record { day = fieldIn 8 s a 5; hour = fieldIn 8 s (a + 5) 5; minute = fieldIn 8 s (a + 10) 6 }
 
-abbrev pub timeLaid : List ℕ → ℕ → Time → List ℕ
-timeLaid s a t = placedIn (placedIn (placedIn s a 5 (t .day)) (a + 5) 5 (t .hour)) (a + 10) 6 (t .minute)
-
 abbrev pub timeVerdict : ℕ → Time → Verdict
-timeVerdict a t = cond (leb a 240) (walk 0 (time a) (timeValues t)) Fine
+timeVerdict a t = cond (leb a 240) (walk [] (time a) (timeValues t)) Fine

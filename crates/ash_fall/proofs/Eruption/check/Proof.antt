@@ -6,6 +6,9 @@ use borrow.Author.Needs.{needs}
 use Rattle.ash_fall.proofs.Eruption.check.Statement.{statement}
 use Rattle.ash_fall.proofs.Eruption.check.Tie as tie
 
+spare-requires : tie.Need-spare-requires
+spare-requires c κs = search needs
+
 time-requires : tie.Need-time-requires
 time-requires c κs = search needs
 
@@ -27,6 +30,7 @@ returns c = simp (
   c .within2 .ensures,
   c .before .before .within .ensures,
   c .before .before .before .before .time2 .ensures,
+  c .before .before .before .before .before .spare .ensures,
   then-assoc,
   then-fine,
   allowed-one,
@@ -35,4 +39,4 @@ returns c = simp (
 pub check-spec : {M : Type 1} → statement M
 check-spec =
     tie.close
-    (tie.spec time-requires cast-within within-requires cast-within-2 within-requires-2 returns)
+    (tie.spec spare-requires time-requires cast-within within-requires cast-within-2 within-requires-2 returns)

@@ -8,6 +8,9 @@ use borrow.Author.Needs.{needs}
 use Rattle.hypocenter.proofs.Quake.check.Statement.{statement}
 use Rattle.hypocenter.proofs.Quake.check.Tie as tie
 
+spare-requires : tie.Need-spare-requires
+spare-requires c κs = search needs
+
 is-notification-requires : tie.Need-is-notification-requires
 is-notification-requires c κs = search needs
 
@@ -55,7 +58,9 @@ check-requires-2 c κs = search needs
 
 returns : tie.Need-returns
 returns c =
-    link _ _ _ _ _ (asked _ _ _ _ _ (c .before .before .before .before .before .before .before .before .before .before .before .before .before .unless .ensures) (c .before .before .before .before .before .before .before .before .before .before .before .before .before .before .is-notification .ensures))
+    let s = c .before .before .before .before .before .before .before .before .before .before .before .before .before .before .before .before .before .before .before in
+    link _ _ _ _ _ (c .before .before .before .before .before .before .before .before .before .before .before .before .before .before .before .spare .ensures)
+    (link _ _ _ _ _ (asked _ _ _ _ _ (c .before .before .before .before .before .before .before .before .before .before .before .before .before .unless .ensures) (c .before .before .before .before .before .before .before .before .before .before .before .before .before .before .is-notification .ensures))
     (link _ _ _ _ _ (asked _ _ _ _ _ (c .before .before .before .before .before .before .before .before .before .before .before .unless2 .ensures) (c .before .before .before .before .before .before .before .before .before .before .before .before .is-notification2 .ensures))
     (link _ _ _ _ _ (asked _ _ _ _ _ (c .before .before .before .before .before .before .before .before .before .unless3 .ensures) (c .before .before .before .before .before .before .before .before .before .before .is-notification3 .ensures))
     (link _ _ _ _ _ (c .before .before .before .before .before .before .before .before .time2 .ensures)
@@ -63,13 +68,14 @@ returns c =
     (link _ _ _ _ _ (asked _ _ _ _ _ (c .before .before .before .before .unless5 .ensures) (c .before .before .before .before .before .is-magnitude .ensures))
     (link _ _ _ _ _ (c .before .before .within .ensures)
     (link _ _ _ _ _ (c .before .check .ensures)
-    (c .check2 .ensures))))))))
-    ∙ sym (ap (λ (v : Verdict). c .before .before .before .before .before .before .before .before .before .before .before .before .before .before .before .before .before .before .args .found then v) (quake-walk (c .before .before .before .before .before .before .before .before .before .before .before .before .before .before .before .before .before .before .args .self)))
+    (c .check2 .ensures)))))))))
+    ∙ sym (ap (λ (v : Verdict). s .args .found then v) (quake-walk (s .args .self) (s .args .spare)))
 
 pub check-spec : {M : Type 1} → statement M
 check-spec =
     tie.close
     (tie.spec
+    spare-requires
     is-notification-requires
     unless-requires
     is-notification-requires-2

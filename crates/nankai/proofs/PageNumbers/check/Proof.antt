@@ -5,6 +5,9 @@ use borrow.Author.Needs.{needs}
 use Rattle.nankai.proofs.PageNumbers.check.Statement.{statement}
 use Rattle.nankai.proofs.PageNumbers.check.Tie as tie
 
+spare-requires : tie.Need-spare-requires
+spare-requires c κs = search needs
+
 cast-within : tie.Need-cast-within
 cast-within c = search needs
 
@@ -27,12 +30,15 @@ within-requires-3 : tie.Need-within-requires-3
 within-requires-3 c κs = search needs
 
 returns : tie.Need-returns
-returns c = simp (c .within3 .ensures, c .before .before .before .within2 .ensures, c .before .before .before .before .before .within .ensures, then-assoc, numbers-walk (c .before .before .before .before .before .before .before .args .self))
+returns c =
+    let s = c .before .before .before .before .before .before .before .before in
+    simp (c .within3 .ensures, c .before .before .before .within2 .ensures, c .before .before .before .before .before .within .ensures, c .before .before .before .before .before .before .before .spare .ensures, then-assoc, numbers-walk (s .args .self) (s .args .spare))
 
 pub check-spec : {M : Type 1} → statement M
 check-spec =
     tie.close
     (tie.spec
+    spare-requires
     cast-within
     within-requires
     cast-within-2

@@ -6,7 +6,7 @@ use Rattle.slots.proofs.Used.{unmapped}
 use Rattle.rows.specs.Layout.{slotsRows, slotCount, slotFirst}
 use Rattle.slots.specs.Slots.{slotValues}
 use Rattle.rows.specs.Values.{widths, joined}
-use Rattle.rows.specs.declared.slot.SlotKind.{SlotKind}
+use Rattle.slots.specs.declared.kind.SlotKind.{SlotKind}
 use borrow.Author.Needs.{needs, length-unmapped}
 use lib.ListN.{take}
 use mathlib.Core.List.{map}

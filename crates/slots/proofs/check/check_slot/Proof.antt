@@ -2,6 +2,7 @@
 use Rattle.rows.proofs.Rules.Outcomes.{then-assoc, then-fine}
 use Rattle.rows.proofs.Rules.Spans.{allowed-one}
 use Rattle.rows.specs.Runs.Verdict.{walk, judge}
+use native.Mathlib.Nat.{add-zero}
 use borrow.Author.Needs.{needs}
 use Rattle.slots.proofs.check.check_slot.Statement.{statement}
 use Rattle.slots.proofs.check.check_slot.Tie as tie
@@ -54,7 +55,7 @@ returns c = simp (c .enum-told .given .1, then-fine)
 
 returns-2 : tie.Need-returns-2
 unfolding walk judge
-returns-2 c = simp (c .within2 .ensures, c .before .within .ensures, c .before .before .before .enum-told2 .given .1, then-assoc, then-fine, allowed-one)
+returns-2 c = simp (c .within2 .ensures, c .before .within .ensures, c .before .before .before .enum-told2 .given .1, then-assoc, then-fine, allowed-one, add-zero)
 
 returns-3 : tie.Need-returns-3
 unfolding walk judge
@@ -66,6 +67,7 @@ returns-3 c = simp (
   then-assoc,
   then-fine,
   allowed-one,
+  add-zero,
 )
 
 pub check-slot-spec : {M : Type 1} → statement M

@@ -5,10 +5,11 @@ use Prim.Native.Nat.{ℕ, _+_, _-_, _*_, _≤_, _<_}
 use native.Mathlib.Omega.{arith}
 use mathlib.Core.Bool.{false}
 use lib.ListN.{length, getD, take, drop}
+use mathlib.Core.List.{[]}
 use borrow.Author.Needs.{needs}
-use Rattle.rows.specs.Layout.{slotCount, slotFirst, slotBits, slotRows}
+use Rattle.rows.specs.Layout.{slotRows}
 use Rattle.rows.specs.Runs.Questions.{_then_}
-use Rattle.slots.specs.Slots.{noSlot, slotValues}
+use Rattle.slots.specs.Slots.{slotTable, noSlot, slotValues}
 use Rattle.slots.specs.Steps.{laterRun}
 use Rattle.rows.specs.Runs.Verdict.{walk}
 use Rattle.slots.proofs.SlotLoop.{at-most-sixteen, slot-place, first-place, start-place, next-place, same-place, onward, turn, done, whole, no-slots}
@@ -19,8 +20,8 @@ abbrev Inv-loop : tie.InvT-loop
 Inv-loop kind slots count bits at₀ run₀ k₀ at run k =
     (1 ≤ k)
     × ((k ≤ count)
-    × ((at ≡ slotFirst kind + slotBits kind * (k - 1))
-    × (onward kind run (at + slotBits kind) (drop k (take (slotCount kind) slots)) ≡ onward kind run₀ (slotFirst kind + slotBits kind) (drop 1 (take (slotCount kind) slots)))))
+    × ((at ≡ slotTable kind .first + slotTable kind .bits * (k - 1))
+    × (onward kind run (at + slotTable kind .bits) (drop k (take (slotTable kind .count) slots)) ≡ onward kind run₀ (slotTable kind .first + slotTable kind .bits) (drop 1 (take (slotTable kind .count) slots)))))
 
 abbrev μ-loop : tie.MeasureT-loop
 μ-loop kind slots count bits at₀ run₀ k₀ at run k = count - k
@@ -57,7 +58,7 @@ loop-holds c =
         omega (arith, f .before .before .if1 .left),
         (
           start-place (a .kind) (f .first .result) (f .first .ensures),
-          ap (λ (at : ℕ). onward (a .kind) (record { verdict = c .check-slot .result; gap = false }) (at + slotBits (a .kind)) (drop 1 (take (slotCount (a .kind)) (a .t3)))) (f .first .ensures),
+          ap (λ (at : ℕ). onward (a .kind) (record { verdict = c .check-slot .result; gap = false }) (at + slotTable (a .kind) .bits) (drop 1 (take (slotTable (a .kind) .count) (a .t3)))) (f .first .ensures),
         ),
       ),
     )
@@ -70,13 +71,13 @@ module _ (c : tie.In-loop Inv-loop μ-loop) where
   abbrev s : tie.Start Inv-loop μ-loop
   s = c .before .before .before .before .before .before .before .before
 
-  there : l .loop .k < slotCount (s .args .kind)
+  there : l .loop .k < slotTable (s .args .kind) .count
   there = omega (arith, c .loop-test .taken, l .before .before .before .before .before .before .count .ensures)
 
-  place : l .loop .at + slotBits (s .args .kind) ≡ slotFirst (s .args .kind) + slotBits (s .args .kind) * l .loop .k
+  place : l .loop .at + slotTable (s .args .kind) .bits ≡ slotTable (s .args .kind) .first + slotTable (s .args .kind) .bits * l .loop .k
   place = next-place (s .args .kind) (l .loop .k) (l .loop .at) (l .loop .inv .0) (l .loop .inv .1 .1 .0)
 
-  bits : l .before .before .before .before .bits .result ≡ slotBits (s .args .kind)
+  bits : l .before .before .before .before .bits .result ≡ slotTable (s .args .kind) .bits
   bits = l .before .before .before .before .bits .ensures
 
   low : l .loop .at + l .before .before .before .before .bits .result ≤ 204
@@ -105,14 +106,14 @@ loop-again c =
     let i = c .before .before in
     let g = l i .loop in
     let a = s i .args in
-    let next : g .at + l i .before .before .before .before .bits .result ≡ g .at + slotBits (a .kind) = ap (λ (x : ℕ). g .at + x) (bits i) in (
+    let next : g .at + l i .before .before .before .before .bits .result ≡ g .at + slotTable (a .kind) .bits = ap (λ (x : ℕ). g .at + x) (bits i) in (
       omega arith,
       (
         omega arith,
         (
           same-place (a .kind) (g .k) _ (next ∙ place i),
-          ap (λ (at : ℕ). onward (a .kind) (c .later .result) (at + slotBits (a .kind)) (drop (g .k + 1) (take (slotCount (a .kind)) (a .t3)))) next
-              ∙ turn (a .kind) (a .t3) (sixteen (s i)) (g .run) (c .later .result) (g .k) (g .at + slotBits (a .kind)) (there i)
+          ap (λ (at : ℕ). onward (a .kind) (c .later .result) (at + slotTable (a .kind) .bits) (drop (g .k + 1) (take (slotTable (a .kind) .count) (a .t3)))) next
+              ∙ turn (a .kind) (a .t3) (sixteen (s i)) (g .run) (c .later .result) (g .k) (g .at + slotTable (a .kind) .bits) (there i)
               (c .later .ensures ∙ ap (λ (at : ℕ). laterRun (a .kind) (g .run) at (slotValues (a .kind) (getD (a .t3) (g .k) noSlot))) next)
               ∙ g .inv .1 .1 .1,
         ),
@@ -124,11 +125,11 @@ returns-2 c =
     let l = c .before in
     let t = l .before .before .before .before .before .before in
     let a = t .before .args in
-    let some : 0 < slotCount (a .kind) = omega (arith, t .count .ensures, l .before .before .before .before .before .if1 .left) in
-    let over : slotCount (a .kind) ≤ l .loop .k = omega (arith, t .count .ensures) in
+    let some : 0 < slotTable (a .kind) .count = omega (arith, t .count .ensures, l .before .before .before .before .before .if1 .left) in
+    let over : slotTable (a .kind) .count ≤ l .loop .k = omega (arith, t .count .ensures) in
     whole (a .kind) (a .t3) (sixteen (t .before)) (a .found) (l .before .check-slot .result) (l .loop .run .verdict) some
-    (l .before .check-slot .ensures ∙ ap (λ (at : ℕ). a .found then walk 0 (slotRows (a .kind) at) (slotValues (a .kind) (getD (a .t3) 0 noSlot))) (l .before .before .before .first .ensures))
-    (done (a .kind) (a .t3) (sixteen (t .before)) (l .loop .run) (l .loop .k) (l .loop .at + slotBits (a .kind)) over ∙ l .loop .inv .1 .1 .1)
+    (l .before .check-slot .ensures ∙ ap (λ (at : ℕ). a .found then walk [] (slotRows (slotTable (a .kind)) at) (slotValues (a .kind) (getD (a .t3) 0 noSlot))) (l .before .before .before .first .ensures))
+    (done (a .kind) (a .t3) (sixteen (t .before)) (l .loop .run) (l .loop .k) (l .loop .at + slotTable (a .kind) .bits) over ∙ l .loop .inv .1 .1 .1)
 
 pub check-slots-spec : {M : Type 1} → statement M
 check-slots-spec =

@@ -3,6 +3,7 @@ use mathlib.Core.Path.{_∙_}
 use Prim.Native.Nat.{_+_}
 use native.Mathlib.Omega.{arith}
 use Rattle.bits.proofs.Inside.{field-in}
+use native.Mathlib.Nat.{add-zero}
 use borrow.Author.Needs.{needs}
 use Rattle.slots.proofs.decode.slot_at.Statement.{statement}
 use Rattle.slots.proofs.decode.slot_at.Tie as tie
@@ -47,6 +48,7 @@ returns-2 : tie.Need-returns-2
 returns-2 c =
     let a = c .before .before .before .before .args in
     simp (
+      add-zero,
       c .before .before .enum-told2 .given .1,
       c .field32 .ensures .0 ∙ field-in 32 (a .f) (a .at + 3) 6 (omega arith) (omega arith),
       c .before .field8 .ensures .0 ∙ field-in 8 (a .f) (a .at) 3 (omega arith) (omega arith),
@@ -56,6 +58,7 @@ returns-3 : tie.Need-returns-3
 returns-3 c =
     let a = c .before .before .before .before .before .args in
     simp (
+      add-zero,
       c .before .before .before .enum-told3 .given .1,
       c .field322 .ensures .0 ∙ field-in 32 (a .f) (a .at + 6) 23 (omega arith) (omega arith),
       c .before .field83 .ensures .0 ∙ field-in 8 (a .f) (a .at + 3) 3 (omega arith) (omega arith),

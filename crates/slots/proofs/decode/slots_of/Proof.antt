@@ -3,11 +3,10 @@ use Prim.Native.Nat.{ℕ, _+_, _-_, _*_, _≤_, _<_}
 use borrow.Author.Needs.{needs}
 use Rattle.rows.proofs.Layouts.Filling.{fill}
 use Rattle.slots.proofs.SlotLoop.{at-most-sixteen, slot-place, start-place, more-place}
-use Rattle.rows.specs.Layout.{slotCount, slotFirst, slotBits}
 use Rattle.rows.specs.Values.{each}
-use Rattle.slots.specs.Slots.{noSlot, slotOf, slotsOf}
+use Rattle.slots.specs.Slots.{slotTable, noSlot, slotOf, slotsOf}
 use Rattle.slots.specs.declared.slot.Slot.{Slot}
-use Rattle.rows.specs.declared.slot.SlotKind.{SlotKind}
+use Rattle.slots.specs.declared.kind.SlotKind.{SlotKind}
 use lib.ListN.{length, replicate, length-set}
 use mathlib.Core.List.{List, _++_}
 use mathlib.Core.Path.{_≡_, refl, ap, _∙_}
@@ -17,12 +16,12 @@ use Rattle.slots.proofs.decode.slots_of.Tie as tie
 
 -- slot i of a frame
 abbrev nth : List ℕ → SlotKind → ℕ → Slot
-nth f k i = slotOf k f (slotFirst k + slotBits k * i)
+nth f k i = slotOf k f (slotTable k .first + slotTable k .bits * i)
 
 abbrev Inv-loop : tie.InvT-loop
 Inv-loop f kind slots₀ count bits at₀ k₀ slots at k =
     (k ≤ count)
-    × ((at ≡ slotFirst kind + slotBits kind * k) × ((length slots ≡ 16) × (slots ≡ each k (nth f kind) ++ replicate (16 - k) noSlot)))
+    × ((at ≡ slotTable kind .first + slotTable kind .bits * k) × ((length slots ≡ 16) × (slots ≡ each k (nth f kind) ++ replicate (16 - k) noSlot)))
 
 abbrev μ-loop : tie.MeasureT-loop
 μ-loop f kind slots₀ count bits at₀ k₀ slots at k = count - k
@@ -31,7 +30,7 @@ abbrev μ-loop : tie.MeasureT-loop
 kind : tie.In-loop Inv-loop μ-loop → SlotKind
 kind c = c .before .before .before .before .before .args .kind
 
-there : (c : tie.In-loop Inv-loop μ-loop) → c .before .loop .k < slotCount (kind c)
+there : (c : tie.In-loop Inv-loop μ-loop) → c .before .loop .k < slotTable (kind c) .count
 unfolding kind
 there c = omega (arith, c .loop-test .taken, c .before .before .before .before .count .ensures)
 
@@ -80,7 +79,7 @@ loop-again c =
     let i = c .before in
     let l = i .before .loop in
     let a = i .before .before .before .before .before .args in
-    let b : i .before .before .before .bits .result ≡ slotBits (a .kind) = i .before .before .before .bits .ensures in (
+    let b : i .before .before .before .bits .result ≡ slotTable (a .kind) .bits = i .before .before .before .bits .ensures in (
       omega arith,
       (
         ap (λ (x : ℕ). l .at + x) b ∙ more-place (a .kind) (l .k) (l .at) (l .inv .1 .0),
@@ -98,7 +97,7 @@ returns c =
     let l = c .before .loop in
     let t = c .before .before .before .before in
     let a = t .before .args in
-    let last : l .k ≡ slotCount (a .kind) = omega (arith, t .count .ensures) in
+    let last : l .k ≡ slotTable (a .kind) .count = omega (arith, t .count .ensures) in
     l .inv .1 .1 .1 ∙ ap (λ (k : ℕ). each k (nth (a .f) (a .kind)) ++ replicate (16 - k) noSlot) last
 
 pub slots-of-spec : {M : Type 1} → statement M

@@ -3,10 +3,10 @@ use Prim.Native.Nat.{ℕ, _+_, _-_, _*_, _≤_, _<_}
 use Rattle.bits.specs.Frame.{laid}
 use Rattle.slots.proofs.Laying.{runs, slots-widths, slot-more}
 use Rattle.slots.proofs.SlotLoop.{at-most-sixteen, slot-place, start-place, more-place}
-use Rattle.rows.specs.Layout.{slotCount, slotFirst, slotBits, slotRows}
-use Rattle.slots.specs.Slots.{noSlot, slotValues}
+use Rattle.rows.specs.Layout.{slotRows}
+use Rattle.slots.specs.Slots.{slotTable, noSlot, slotValues}
 use Rattle.rows.specs.Values.{widths, joined}
-use Rattle.rows.specs.declared.slot.SlotKind.{SlotKind}
+use Rattle.slots.specs.declared.kind.SlotKind.{SlotKind}
 use borrow.Author.Needs.{needs}
 use lib.ListN.{length, getD, take}
 use mathlib.Core.List.{List, map}
@@ -18,7 +18,7 @@ use Rattle.slots.proofs.encode.lay_slots.Tie as tie
 abbrev Inv-loop : tie.InvT-loop
 Inv-loop kind slots count bits next₀ at₀ k₀ next at k =
     (k ≤ count)
-    × ((at ≡ slotFirst kind + slotBits kind * k) × (next ≡ laid next₀ (slotFirst kind) (runs kind k) (joined (map (slotValues kind) (take k slots)))))
+    × ((at ≡ slotTable kind .first + slotTable kind .bits * k) × (next ≡ laid next₀ (slotTable kind .first) (runs kind k) (joined (map (slotValues kind) (take k slots)))))
 
 abbrev μ-loop : tie.MeasureT-loop
 μ-loop kind slots count bits next₀ at₀ k₀ next at k = count - k
@@ -30,7 +30,7 @@ sixteen c = c .good .1 .1 .0 .1 .0 .1
 kind : tie.In-loop Inv-loop μ-loop → SlotKind
 kind c = c .before .before .before .before .before .args .kind
 
-there : (c : tie.In-loop Inv-loop μ-loop) → c .before .loop .k < slotCount (kind c)
+there : (c : tie.In-loop Inv-loop μ-loop) → c .before .loop .k < slotTable (kind c) .count
 unfolding kind
 there c = omega (arith, c .loop-test .taken, c .before .before .before .before .count .ensures)
 
@@ -80,12 +80,12 @@ loop-again c =
     let l = i .before .loop in
     let s = i .before .before .before .before .before in
     let a = s .args in
-    let b : i .before .before .before .bits .result ≡ slotBits (a .kind) = i .before .before .before .bits .ensures in (
+    let b : i .before .before .before .bits .result ≡ slotTable (a .kind) .bits = i .before .before .before .bits .ensures in (
       omega arith,
       (
         ap (λ (x : ℕ). l .at + x) b ∙ more-place (a .kind) (l .k) (l .at) (l .inv .1 .0),
-        slot-more (a .f) (c .lay-slot .result) (a .kind) (a .t3) (slotFirst (a .kind)) (l .k) (l .at) (omega (arith, sixteen s, there i, at-most-sixteen (a .kind))) (l .inv .1 .0)
-            (c .lay-slot .ensures ∙ ap (λ (f : List ℕ). laid f (l .at) (widths (slotRows (a .kind) (l .at))) (slotValues (a .kind) (getD (a .t3) (l .k) noSlot))) (l .inv .1 .1)),
+        slot-more (a .f) (c .lay-slot .result) (a .kind) (a .t3) (slotTable (a .kind) .first) (l .k) (l .at) (omega (arith, sixteen s, there i, at-most-sixteen (a .kind))) (l .inv .1 .0)
+            (c .lay-slot .ensures ∙ ap (λ (f : List ℕ). laid f (l .at) (widths (slotRows (slotTable (a .kind)) (l .at))) (slotValues (a .kind) (getD (a .t3) (l .k) noSlot))) (l .inv .1 .1)),
       ),
     )
 
@@ -94,10 +94,10 @@ returns c =
     let l = c .before .loop in
     let t = c .before .before .before .before in
     let a = t .before .args in
-    let last : l .k ≡ slotCount (a .kind) = omega (arith, t .count .ensures) in
+    let last : l .k ≡ slotTable (a .kind) .count = omega (arith, t .count .ensures) in
     l .inv .1 .1
-    ∙ ap (λ (k : ℕ). laid (a .f) (slotFirst (a .kind)) (runs (a .kind) k) (joined (map (slotValues (a .kind)) (take k (a .t3))))) last
-    ∙ ap (λ (ws : List ℕ). laid (a .f) (slotFirst (a .kind)) ws (joined (map (slotValues (a .kind)) (take (slotCount (a .kind)) (a .t3))))) (sym (slots-widths (a .kind) (slotCount (a .kind)) (slotFirst (a .kind))))
+    ∙ ap (λ (k : ℕ). laid (a .f) (slotTable (a .kind) .first) (runs (a .kind) k) (joined (map (slotValues (a .kind)) (take k (a .t3))))) last
+    ∙ ap (λ (ws : List ℕ). laid (a .f) (slotTable (a .kind) .first) ws (joined (map (slotValues (a .kind)) (take (slotTable (a .kind) .count) (a .t3))))) (sym (slots-widths (a .kind) (slotTable (a .kind) .count) (slotTable (a .kind) .first)))
 
 pub lay-slots-spec : {M : Type 1} → statement M
 lay-slots-spec =

@@ -2,8 +2,7 @@
 use Prim.Native.Nat.{_+_, _-_, _≤_, _<_}
 use Rattle.slots.proofs.SlotLoop.{at-most-sixteen}
 use Rattle.slots.proofs.Used.{used-more, used-end, used-all}
-use Rattle.rows.specs.Layout.{slotCount}
-use Rattle.slots.specs.Slots.{slotValues, usedAmong}
+use Rattle.slots.specs.Slots.{slotTable, slotValues, usedAmong}
 use borrow.Author.Needs.{needs}
 use mathlib.Core.List.{map}
 use lib.ListN.{length, take, drop}
@@ -14,7 +13,7 @@ use Rattle.slots.proofs.silence.used.Statement.{statement}
 use Rattle.slots.proofs.silence.used.Tie as tie
 
 abbrev Inv-loop : tie.InvT-loop
-Inv-loop kind slots count k₀ k = (k ≤ count) × (k + usedAmong (map (slotValues kind) (drop k (take (slotCount kind) slots))) ≡ usedAmong (map (slotValues kind) (take (slotCount kind) slots)))
+Inv-loop kind slots count k₀ k = (k ≤ count) × (k + usedAmong (map (slotValues kind) (drop k (take (slotTable kind .count) slots))) ≡ usedAmong (map (slotValues kind) (take (slotTable kind .count) slots)))
 
 abbrev μ-loop : tie.MeasureT-loop
 μ-loop kind slots count k₀ k = count - k
@@ -23,7 +22,7 @@ sixteen : (c : tie.Start Inv-loop μ-loop) → length (c .args .t2) ≡ 16
 sixteen c = c .good .1 .0 .1 .0 .1
 
 -- in the loop there is such a slot
-there : (c : tie.In-loop Inv-loop μ-loop) → c .before .loop .k < slotCount (c .before .before .before .args .kind)
+there : (c : tie.In-loop Inv-loop μ-loop) → c .before .loop .k < slotTable (c .before .before .before .args .kind) .count
 there c = omega (arith, c .loop-test .taken, c .before .before .count .ensures)
 
 count-requires : tie.Need-count-requires Inv-loop μ-loop
@@ -69,7 +68,7 @@ returns-2 : tie.Need-returns-2 Inv-loop μ-loop
 returns-2 c =
     let l = c .before in
     let s = l .before .before in
-    let over : slotCount (s .args .kind) ≤ l .loop .k = omega (arith, l .before .count .ensures) in
+    let over : slotTable (s .args .kind) .count ≤ l .loop .k = omega (arith, l .before .count .ensures) in
     let none = used-all (s .args .kind) (s .args .t2) (sixteen s) (l .loop .k) over in
     omega (arith, l .loop .inv .1, none)
 

@@ -3,7 +3,7 @@ use Rattle.report.specs.Layout.{layout}
 use Rattle.rows.specs.Layout.{slotCount}
 use Rattle.slots.specs.Slots.{tidySlots}
 use Rattle.report.specs.Runs.Writing.{tidyText}
-use Rattle.rows.specs.declared.slot.SlotKind.{SlotKind}
+use Rattle.slots.specs.declared.kind.SlotKind.{SlotKind}
 use borrow.Author.Needs.{needs}
 use mathlib.Core.Bool.{Bool, _&&_}
 use mathlib.Core.Path.{_≡_, sym, ap, _∙_}

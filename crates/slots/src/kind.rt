@@ -2,7 +2,7 @@
 ghost use mathlib.Core.Path.{_≡_};
 ghost use mathlib.Core.Bool.{cond};
 ghost use lib.Dec.{ltb};
-ghost use Rattle.rows.specs.Layout.{slotCount, slotFirst, slotBits};
+ghost use Rattle.slots.specs.Slots.{slotTable};
 
 pub enum SlotKind {
     NoSlots,
@@ -13,7 +13,7 @@ pub enum SlotKind {
 impl SlotKind {
     // How many slots there are.
     pub fn count(self) -> usize
-        ensures { λ r. ⌜ r ≡ slotCount self ⌝ }
+        ensures { λ r. ⌜ r ≡ slotTable self .count ⌝ }
     {
         match self {
             SlotKind::NoSlots => 0,
@@ -24,7 +24,7 @@ impl SlotKind {
 
     // The first bit of the first one.
     pub fn first(self) -> u8
-        ensures { λ r. ⌜ r ≡ slotFirst self ⌝ }
+        ensures { λ r. ⌜ r ≡ slotTable self .first ⌝ }
     {
         match self {
             SlotKind::NoSlots => 0,
@@ -35,7 +35,7 @@ impl SlotKind {
 
     // How wide each is.
     pub fn bits(self) -> u8
-        ensures { λ r. ⌜ r ≡ slotBits self ⌝ }
+        ensures { λ r. ⌜ r ≡ slotTable self .bits ⌝ }
     {
         match self {
             SlotKind::NoSlots => 0,
@@ -46,7 +46,7 @@ impl SlotKind {
 
     // What slot i lists: past the category's slots, nothing.
     pub fn of_slot(self, i: usize) -> SlotKind
-        ensures { λ r. ⌜ r ≡ cond (ltb i (slotCount self)) self SlotKind.NoSlots ⌝ }
+        ensures { λ r. ⌜ r ≡ cond (ltb i (slotTable self .count)) self SlotKind.NoSlots ⌝ }
     {
         if i < self.count() {
             return self;
