@@ -14,7 +14,7 @@ use Rattle.report.specs.declared.record.Body.{Body}
 use Rattle.report.specs.declared.record.Record.{Record}
 use Rattle.rows.specs.Refusals.{says, answers}
 use Rattle.report.specs.Layout.{layout}
-use Rattle.rows.specs.Layout.{slotCount, allRows, tiles, allFit}
+use Rattle.rows.specs.Layout.{allRows, tiles, allFit}
 use Rattle.report.specs.Records.{bodyOf, recordOf, zeros, values}
 use Rattle.rows.specs.Values.{valuesOf}
 use Rattle.rows.specs.Runs.Verdict.{empty}
@@ -104,7 +104,7 @@ unfolding usedOf
 counted-slots-are-used r i h = counted-used (slotsOfCategory r) i h
 
 -- "After an empty slot every slot is empty": in a frame that is read, none behind the counted ones has.
-pub other-slots-are-empty : (s : List ℕ) → Conforms s → (i : ℕ) → usedOf (recordOf s) ≤ i → i < slotCount (layoutOf s .slots)
+pub other-slots-are-empty : (s : List ℕ) → Conforms s → (i : ℕ) → usedOf (recordOf s) ≤ i → i < layoutOf s .slots .count
     → empty (getD (slotsOfCategory (recordOf s)) i []) ≡ true
 other-slots-are-empty s c i u l = others-empty s c i u l
 

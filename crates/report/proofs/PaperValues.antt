@@ -1,4 +1,5 @@
 -- "Values to prove" of document 01 in one table: sample records with one field changed, and what the paper says of each.
+use Rattle.intensity.specs.Intensity.{prefectures}
 use mathlib.Core.Path.{_≡_, refl}
 use mathlib.Core.List.{List, [], _∷_, _++_, map}
 use Prim.Native.Nat.{ℕ}
@@ -15,7 +16,7 @@ use Rattle.ash_fall.specs.declared.meaning.Prefecture.the-variants.{Number, Now
 use Rattle.ash_fall.specs.Meaning.{prefectureOf}
 use Rattle.rows.specs.Refusals.{Said, plain, at, answers}
 use Rattle.rows.specs.Runs.Questions.{_then_, unless}
-use Rattle.rows.specs.Layout.{Row, slotFirst, slotRows}
+use Rattle.rows.specs.Layout.{Row}
 use Rattle.report.specs.Layout.{layout}
 use Rattle.rows.specs.Runs.Verdict.{allowed, judge, walk, empty, later, slotsVerdict, verdict}
 use Rattle.slots.specs.Slots.{noSlot, slotValues}
@@ -84,7 +85,7 @@ secondSlot s = said (judged (Intensity (record { time = sampleTime })) (slot 4 4
 
 -- the nine bits of a slot of category 3 as one number, in the widths of the table
 abbrev pub slotValue : Slot → Outcome
-slotValue s = number (encode (map (λ (r : Row). r .width) (slotRows Prefectures (slotFirst Prefectures))) (slotValues Prefectures s))
+slotValue s = number (encode (map (λ (r : Row). r .width) (prefectures .rows)) (slotValues Prefectures s))
 
 -- "A place divided by 100000, remainder dropped, is its prefecture"
 abbrev pub numbered : Prefecture → Outcome
@@ -142,5 +143,5 @@ abbrev pub expected : Value → Outcome
 expected (a gives b) = b
 
 pub every-row : map found paperValues ≡ map expected paperValues
-unfolding _then_ unless allowed judge walk empty later slotsVerdict verdict layout bodyValues values prefectureOf
+unfolding _then_ unless allowed judge walk empty later slotsVerdict verdict bodyValues values prefectureOf
 every-row = refl

@@ -1,4 +1,5 @@
 -- The record of a frame (document 01, "The record"), and the values of a frame and of a record, in the order of the frame.
+use Rattle.slots.specs.declared.slot.Slot.{Slot}
 use Prim.Native.Nat.{ℕ}
 use mathlib.Core.Bool.{cond}
 use mathlib.Core.List.{List, [], _∷_, map}

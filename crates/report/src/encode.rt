@@ -2,10 +2,11 @@
 // Nothing is refused here; what may be written is asked before.
 ghost use mathlib.Core.Path.{_≡_};
 ghost use mathlib.Core.Bool.{true};
+ghost use mathlib.Core.List.{_++_};
 ghost use Rattle.bits.specs.Frame.{laid, bytesOf};
-ghost use Rattle.report.specs.Layout.{layout};
+ghost use Rattle.report.specs.Layout.{layout, firstBit};
 ghost use Rattle.rows.specs.Layout.{common, ending};
-ghost use Rattle.report.specs.Records.{headValues, bodyValues};
+ghost use Rattle.report.specs.Records.{headValues, bodyValues, behindValues};
 ghost use Rattle.rows.specs.Values.{lastValues, widths};
 ghost use Rattle.report.specs.Runs.Writing.{known, frontWidths, frontValues, frame, Valid};
 use crate::record::Body;

@@ -12,7 +12,7 @@ use Rattle.rows.specs.declared.refusal.Verdict.{Verdict}
 use Rattle.rows.specs.declared.refusal.Verdict.the-variants.{Fine, Refused}
 use Rattle.rows.specs.declared.refusal.Refusal.{Refusal}
 use Rattle.rows.specs.declared.refusal.Refusal.the-variants.{Length, Padding, Preamble, Parity, Message, Version, Category, Range, Gap}
-use Rattle.rows.specs.Layout.{Layout, slotCount}
+use Rattle.rows.specs.Layout.{Layout}
 use Rattle.report.specs.Layout.{layout, preambles, categories}
 use Rattle.rows.specs.Values.{Values, valuesOf}
 use Rattle.rows.specs.Runs.Verdict.{allowed}
@@ -41,7 +41,7 @@ frameValues s = valuesOf s (layoutOf s)
 
 inner : (s : List ℕ) → JudgesAll (layoutOf s) (frameValues s)
 unfolding valuesOf
-inner s = whole (bodyOf s) (frameValues s) (length-each (slotCount (layoutOf s .slots)) _)
+inner s = whole (bodyOf s) (frameValues s) (length-each (layoutOf s .slots .count) _)
 
 lowest : (s : List ℕ) (x : Refusal) → innerOf s ≡ Refused x → Lowest (layoutOf s) (frameValues s) x
 lowest s x e = record { there = inner s .found x e; lowest = λ y f. turn-place x y (inner s .earliest x y e f) }

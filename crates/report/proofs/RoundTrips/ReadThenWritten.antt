@@ -1,9 +1,9 @@
 -- What is read and then written is the frame.
-use mathlib.Core.Path.{_≡_, refl, sym, ap, _∙_, subst}
-use Prim.Native.Nat.{ℕ, _+_, _*_, _/_, _%_, _^_, _≤_, _<_}
+use mathlib.Core.Bool.{true}
+use mathlib.Core.Path.{ap₂, _≡_, refl, sym, ap, _∙_, subst}
+use Prim.Native.Nat.{ℕ, _+_, _*_, _/_, _%_, _^_, _<_}
 use native.Mathlib.Nat.{mod-eq-of-lt}
-use native.Mathlib.Omega.{arith}
-use mathlib.Core.List.{List, _∷_}
+use mathlib.Core.List.{map, [], List, _∷_}
 use lib.ListN.{length}
 use lib.Pow.{shr-lt}
 use Rattle.bits.specs.Layout.{encode}
@@ -16,47 +16,54 @@ use Rattle.parity.proofs.Front.{parity-of-front}
 use Rattle.rows.specs.declared.refusal.Verdict.{Verdict}
 use Rattle.rows.specs.declared.refusal.Verdict.the-variants.{Fine, Refused}
 use Rattle.report.specs.declared.record.Body.{Body}
-use Rattle.report.specs.declared.record.Body.the-variants.{NoCategory}
+use Rattle.report.specs.declared.record.Body.the-variants.{NoCategory, Hypocenter, Intensity, Nankai, AshFall}
 use Rattle.report.specs.declared.record.Record.{Record}
 use Rattle.report.specs.Layout.{layout}
 use Rattle.report.specs.Records.{bodyOf, recordAs, recordOf, values}
-use Rattle.rows.specs.Values.{valuesOf, flat}
+use Rattle.rows.specs.Values.{cut, valuesOf, flat}
 use Rattle.report.specs.Runs.Reading.{readAnswer, reading, readOf}
 use Rattle.report.specs.Conforms.{Conforms}
-use Rattle.rows.specs.Kept.{Holds}
-use Rattle.report.specs.Runs.Writing.{frontWidths, front, frame, written, writeAnswer, writeOf, Valid}
+use Rattle.rows.specs.Kept.{Kept, Holds}
+use Rattle.report.specs.Runs.Writing.{known, frontWidths, front, frame, written, writeAnswer, writeOf, Valid}
 use Rattle.report.specs.Rules.{KeepsRules}
-use Rattle.report.proofs.Reading.Agree.{Outer, suits, agree}
+use Rattle.report.proofs.Reading.Agree.{spareBehind, spareFront, Outer, suits, agree}
 use Rattle.report.proofs.Reading.Frames.{layoutOf, frameValues, fine-conforming}
 use Rattle.report.proofs.Tables.Shapes.{frame-shaped}
 use Rattle.report.proofs.Tables.Rows.{front-total, front-fields}
 use Rattle.rows.proofs.Layouts.Rows.{values-flat}
 use Rattle.report.proofs.Writing.Unused.{is-tidy, frame-tidy}
-use Rattle.report.proofs.Writing.Validity.{keeps-valid}
+use Rattle.report.proofs.Writing.Validity.{is-known, keeps-valid}
 use Rattle.report.proofs.Writing.Ends.{ended-again}
+use Rattle.rows.proofs.Rules.Outcomes.{false-not-true}
 
 -- ---- the values of the record are those of the frame, for the frame's spares are zero
 
 outer-of : (s : List ℕ) → Conforms s → Outer s
 outer-of s c = record { message = c .message; version = c .version; category = c .category }
 
-zero-spares : (s : List ℕ) → Conforms s → (fieldOf s 43 10 ≡ 0) × (fieldOf s (layoutOf s .spareFirst) (layoutOf s .spareWidth) ≡ 0)
-unfolding valuesOf
-zero-spares s c = (c .rows .head .1 .1 .1 .1 .1 .1 .1 .1 .0, c .rows .last .0)
+-- the spare in front is the first row of every table, so a frame that conforms has zero there, and so it has behind the slots
+first-zero : (s : List ℕ) (b : Body) → Kept [] (layout b .front) (map (cut s) (layout b .front)) → spareFront s (layout b) ≡ 0
+first-zero s NoCategory k = k .0
+first-zero s (Hypocenter q) k = k .0
+first-zero s (Intensity t) k = k .0
+first-zero s (Nankai p) k = k .0
+first-zero s (AshFall e) k = k .0
+
+behind-zero : (s : List ℕ) (b : Body) → known b ≡ true → Kept [] (layout b .behind) (map (cut s) (layout b .behind)) → spareBehind s (layout b) ≡ 0
+behind-zero s NoCategory h k = absurd (false-not-true h)
+behind-zero s (Hypocenter q) h k = k .0
+behind-zero s (Intensity t) h k = k .0
+behind-zero s (Nankai p) h k = k .0
+behind-zero s (AshFall e) h k = k .0
 
 pub same-values : (s : List ℕ) → Conforms s → values (recordOf s) 0 0 ≡ frameValues s
+unfolding valuesOf
 same-values s c =
-    let z = zero-spares s c in
-    ap (λ (x : ℕ). values (recordOf s) x 0) (sym (z .0)) ∙ agree s (outer-of s c) 0 (sym (z .1))
+    let known = suits s (fieldOf s 17 4) (c .category) .known in
+    ap₂ (values (recordOf s)) (sym (first-zero s (bodyOf s) (c .rows .front))) (sym (behind-zero s (bodyOf s) known (c .rows .behind)))
+    ∙ agree s (outer-of s c)
 
 -- ---- so it is valid
-
-not-nothing : (b : Body) → layout b .spareWidth ≤ 57 → b ≡ NoCategory → ⊥
-unfolding layout
-not-nothing b h e = wide (subst (λ (b : Body). layout b .spareWidth ≤ 57) e h)
-  where
-    wide : 161 ≤ 57 → ⊥
-    wide h = omega arith
 
 pub frame-keeps : (s : List ℕ) → Conforms s → KeepsRules (recordOf s)
 unfolding recordAs
@@ -64,7 +71,7 @@ frame-keeps s c =
     let t = is-tidy (recordOf s) (frame-tidy s (bodyOf s)) in
     record {
       preamble = c .preamble;
-      category = not-nothing (bodyOf s) (suits s (fieldOf s 17 4) (c .category) .narrow);
+      category = is-known (bodyOf s) (suits s (fieldOf s 17 4) (c .category) .known);
       slots = t .slots;
       others = t .others;
       text = t .text;

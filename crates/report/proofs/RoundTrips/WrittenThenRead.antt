@@ -16,8 +16,8 @@ use Rattle.rows.specs.declared.refusal.Verdict.the-variants.{Fine}
 use Rattle.report.specs.declared.record.Body.{Body}
 use Rattle.report.specs.declared.record.Body.the-variants.{NoCategory, Hypocenter, Intensity, Nankai, AshFall}
 use Rattle.report.specs.declared.record.Record.{Record}
-use Rattle.report.specs.Layout.{layout, preambles, categories}
-use Rattle.rows.specs.Layout.{allRows, slotCount}
+use Rattle.report.specs.Layout.{slotKind, layout, preambles, categories}
+use Rattle.rows.specs.Layout.{allRows}
 use Rattle.rows.specs.Values.{Values, cut, valuesOf}
 use Rattle.report.specs.Records.{bodyOf, recordAs, recordOf, values}
 use Rattle.slots.specs.Slots.{slotsOf, tidySlots}
@@ -28,9 +28,8 @@ use Rattle.report.specs.Runs.Writing.{frontValues, frontWidths, tidyText
 use Rattle.report.specs.Rules.{KeepsRules}
 use Rattle.rows.proofs.Rules.Outcomes.{and-both}
 use Rattle.report.proofs.Reading.Frames.{conforming-fine}
-use Rattle.slots.proofs.Agree.{slots-agree}
 use Rattle.rows.proofs.Layouts.Lengths.{frame-filled}
-use Rattle.report.proofs.Tables.Lengths.{record-filled}
+use Rattle.report.proofs.Tables.Lengths.{kind-table, record-filled}
 use Rattle.report.proofs.Tables.Shapes.{Shaped, frame-shaped}
 use Rattle.report.proofs.Tables.Rows.{fits-all, front-total, front-fields}
 use Rattle.rows.proofs.Layouts.Rows.{values-flat}
@@ -43,6 +42,7 @@ use Rattle.slots.proofs.Tidy.{frame-slots-tidy}
 use Rattle.report.proofs.Writing.Validity.{valid-keeps}
 use Rattle.report.proofs.Writing.Ends.{parity-lt, ended-lt, ended-front, ended-parity, ended-padding}
 use Rattle.report.proofs.RoundTrips.ReadThenWritten.{valid-written}
+use Rattle.report.proofs.Reading.Agree.{body-slots}
 
 -- ---- the number that is written
 
@@ -107,25 +107,26 @@ seen : (r : Record) (s : List ℕ) → Shaped r → KeepsRules r → Wrote r s �
 unfolding valuesOf values recordAs
 seen r s h keeps w =
     let l = layout (r .body) in
-    let k = l .slots in
+    let k = slotKind (r .body) in
+    let n = l .slots .count in
     let e = w .same in
     -- the value i of the head, and of the last fields
     let head : (i : ℕ) → getD (valuesOf s l .head) i 0 ≡ getD (values r 0 0 .head) i 0 = λ i. ap (λ (v : Values). getD (v .head) i 0) e in
     let last : (i : ℕ) → getD (valuesOf s l .last) i 0 ≡ getD (values r 0 0 .last) i 0 = λ i. ap (λ (v : Values). getD (v .last) i 0) e in
-    let t = and-both (tidySlots k (slotCount k) (r .slots)) (tidyText (r .body) (r .text)) (tidy-is r (record { slots = keeps .slots; others = keeps .others; text = keeps .text })) in
+    let t = and-both (tidySlots k n (r .slots)) (tidyText (r .body) (r .text)) (tidy-is r (record { slots = keeps .slots; others = keeps .others; text = keeps .text })) in
     let slots : slotsOf s k ≡ r .slots =
-    same-slots k (slotCount k) (slotsOf s k) (r .slots) (frame-shaped s (r .body) .slots ∙ sym (h .slots)) (frame-slots-tidy s k) (t .0)
-    (slots-agree s k ∙ ap (λ (v : Values). v .slots) e)
+    same-slots k n (slotsOf s k) (r .slots) (frame-shaped s (r .body) .slots ∙ sym (h .slots)) (rw (kind-table (r .body)) at (frame-slots-tidy s k)) (t .0)
+    (body-slots s (r .body) ∙ ap (λ (v : Values). v .slots) e)
     in
-    let text = same-text s (r .body) (r .text) (h .text) (t .1) (ap (λ (v : Values). v .body) e) in
+    let text = same-text s (r .body) (r .text) 0 (h .text) (t .1) (ap (λ (v : Values). v .front) e) in
     record {
       message = head 0;
-      version = last 1;
+      version = last 0;
       code = head 2;
-      body = same-body s (r .body) (r .text) (h .text) (head 2) (ap (λ (v : Values). v .body) e);
+      body = same-body s (r .body) (r .text) 0 (h .text) (head 2) (ap (λ (v : Values). v .front) e);
       whole = λ i. record {
         preamble = w .preamble i;
-        reserved = last 2 i;
+        reserved = last 1 i;
         common = record { rc = head 1 i; month = head 3 i; day = head 4 i; hour = head 5 i; minute = head 6 i; it = head 7 i };
         body = r .body;
         slots = slots i;
@@ -136,7 +137,6 @@ seen r s h keeps w =
 -- ---- so it conforms
 
 known-category : (b : Body) → (b ≡ NoCategory → ⊥) → In categories (layout b .code)
-unfolding layout
 known-category NoCategory h = absurd (h refl)
 known-category (Hypocenter q) h = inl (omega arith, omega arith)
 known-category (Intensity t) h = inr (inl (omega arith, omega arith))

@@ -6,9 +6,9 @@ use lib.ListN.{length}
 use Rattle.report.specs.declared.record.Body.{Body}
 use Rattle.report.specs.declared.record.Body.the-variants.{NoCategory, Hypocenter, Intensity, Nankai, AshFall}
 use Rattle.report.specs.declared.record.Record.{Record}
-use Rattle.report.specs.Layout.{layout}
 use Rattle.report.specs.Records.{textOf, recordAs}
 use Rattle.slots.proofs.Lengths.{slots-sixteen}
+use Rattle.report.specs.Layout.{slotKind}
 
 -- what an array of the code tells by its type
 pub record Shaped (r : Record) : Type 0 where
@@ -27,4 +27,4 @@ text-eighteen s (AshFall e) = refl
 
 pub frame-shaped : (s : List ℕ) (b : Body) → Shaped (recordAs s b)
 unfolding recordAs
-frame-shaped s b = record { slots = slots-sixteen s (layout b .slots); text = text-eighteen s b }
+frame-shaped s b = record { slots = slots-sixteen s (slotKind b); text = text-eighteen s b }

@@ -1,11 +1,12 @@
 -- The pieces that are laid, one behind the other, are the front of the frame; with the parity behind them they are the frame.
+use Rattle.slots.specs.declared.slot.Slot.{Slot}
 use mathlib.Core.Path.{_≡_, refl, sym, ap, ap₂, _∙_, subst}
 use Prim.Native.Nat.{ℕ, _+_, _-_, _*_, _/_, _%_, _^_, _≤_, _<_}
 use native.Mathlib.Nat.{zero-add, mul-mod-left}
 use native.Mathlib.Omega.{arith}
 use mathlib.Core.Bool.{true}
-use mathlib.Core.List.{List, _++_, map, map-append}
-use lib.ListN.{length, replicate, take, length-map}
+use mathlib.Core.List.{List, _++_, map-append}
+use lib.ListN.{length, replicate, length-map}
 use lib.Dec.{lit<, lit≤}
 use lib.Pow.{shl-shr}
 use Rattle.bits.specs.Layout.{total, encode}
@@ -18,42 +19,40 @@ use Rattle.parity.proofs.Front.{parity-of-front}
 use Rattle.report.specs.declared.record.Body.{Body}
 use Rattle.report.specs.declared.record.Body.the-variants.{NoCategory, Hypocenter, Intensity, Nankai, AshFall}
 use Rattle.report.specs.declared.record.Record.{Record}
-use Rattle.rows.specs.Layout.{Row, Layout, common, ending, slotsRows, slotCount, slotFirst}
-use Rattle.report.specs.Layout.{layout}
-use Rattle.report.specs.Records.{headValues, bodyValues, values}
-use Rattle.slots.specs.Slots.{slotValues}
+use Rattle.rows.specs.Layout.{Row, Layout, common, ending, slotsRows}
+use Rattle.report.specs.Layout.{slotKind, firstBit, layout}
+use Rattle.report.specs.Records.{behindValues, slotsValues, headValues, bodyValues, values}
 use Rattle.rows.specs.Values.{lastValues, widths, joined}
 use Rattle.report.specs.Runs.Writing.{known, writeAnswer, frontValues, frontWidths, front, frame, Valid}
 use Rattle.rows.proofs.Rules.Outcomes.{fine-both, unless-fine}
 use Rattle.slots.proofs.Laying.{runs-length, slots-widths}
-use Rattle.report.proofs.Tables.Lengths.{record-filled}
+use Rattle.report.proofs.Tables.Lengths.{kind-table, record-filled}
 use Rattle.report.proofs.Tables.Rows.{front-total}
 use Rattle.report.proofs.Tables.Shapes.{Shaped}
 use Rattle.slots.proofs.SlotLoop.{at-most-sixteen}
 use Rattle.report.proofs.Writing.Validity.{valid-keeps}
 use Rattle.report.proofs.RoundTrips.WrittenThenRead.{front-fit}
+use Rattle.slots.specs.Slots.{slotTable}
 
 -- ---- the pieces
 
-abbrev slotsWidths : Layout → List ℕ
-slotsWidths l = widths (slotsRows (l .slots) (slotCount (l .slots)) (slotFirst (l .slots)))
+abbrev pub slotsWidths : Layout → List ℕ
+slotsWidths l = widths (slotsRows (l .slots) (l .slots .count) (l .slots .first))
 
--- the slots start where the fields end, if there are any
-slots-start : (b : Body) (f vs : List ℕ) → laid f (53 + total (widths (layout b .body))) (slotsWidths (layout b)) vs ≡ laid f (slotFirst (layout b .slots)) (slotsWidths (layout b)) vs
-unfolding layout
+-- the slots start where the rows in front end, if there are any
+slots-start : (b : Body) (f vs : List ℕ) → laid f (43 + total (widths (layout b .front))) (slotsWidths (layout b)) vs ≡ laid f (layout b .slots .first) (slotsWidths (layout b)) vs
 slots-start NoCategory f vs = refl
 slots-start (Hypocenter q) f vs = refl
 slots-start (Intensity t) f vs = refl
 slots-start (Nankai p) f vs = refl
 slots-start (AshFall e) f vs = refl
 
-spare-starts : (b : Body) → 53 + total (widths (layout b .body)) + total (slotsWidths (layout b)) ≡ layout b .spareFirst
-unfolding layout
-spare-starts NoCategory = refl
-spare-starts (Hypocenter q) = refl
-spare-starts (Intensity t) = refl
-spare-starts (Nankai p) = refl
-spare-starts (AshFall e) = refl
+behind-starts : (b : Body) → 43 + total (widths (layout b .front)) + total (slotsWidths (layout b)) ≡ firstBit (layout b .behind ++ ending)
+behind-starts NoCategory = refl
+behind-starts (Hypocenter q) = refl
+behind-starts (Intensity t) = refl
+behind-starts (Nankai p) = refl
+behind-starts (AshFall e) = refl
 
 -- four runs of fields, the second and third of which may stand at other names of their places
 module _ (f : List ℕ) (wc wb ws we vc vb vs ve : List ℕ) (lc : length wc ≡ length vc) (lb : length wb ≡ length vb) (ls : length ws ≡ length vs) where
@@ -70,34 +69,39 @@ widths-four a b c d = simp map-append
 many : (rs : List Row) (vs : List ℕ) → length vs ≡ length rs → length (widths rs) ≡ length vs
 many rs vs e = length-map rs (λ r. r .width) ∙ sym e
 
+slots-many : (b : Body) (ss : List Slot) → length ss ≡ 16 → length (slotsWidths (layout b)) ≡ length (joined (slotsValues b ss))
+slots-many b ss n =
+    let k = slotKind b in
+    let enough : slotTable k .count ≤ length ss = omega (arith, n, at-most-sixteen k) in
+    rw (kind-table b) at (ap length (slots-widths k (slotTable k .count) (slotTable k .first)) ∙ runs-length k (slotTable k .count) ss enough)
+
 pub all-laid : (r : Record) → Shaped r → (z f g h i j : List ℕ) → let l = layout (r .body) in (
     f ≡ placed z 0 8 (r .preamble)
-    → g ≡ laid f 8 (widths (common l)) (headValues (r .common) (l .code) 0)
-    → h ≡ laid g 53 (widths (l .body)) (bodyValues (r .body) (r .text))
-    → i ≡ laid h (slotFirst (l .slots)) (slotsWidths l) (joined (map (slotValues (l .slots)) (take (slotCount (l .slots)) (r .slots))))
-    → j ≡ laid i (l .spareFirst) (widths ending) (lastValues 0 (r .reserved))
+    → g ≡ laid f 8 (widths (common l)) (headValues (r .common) (l .code))
+    → h ≡ laid g 43 (widths (l .front)) (bodyValues (r .body) (r .text) 0)
+    → i ≡ laid h (l .slots .first) (slotsWidths l) (joined (slotsValues (r .body) (r .slots)))
+    → j ≡ laid i (firstBit (l .behind ++ ending)) (widths (l .behind ++ ending)) (behindValues l 0 ++ lastValues (r .reserved))
     → j ≡ laid z 0 (frontWidths l) (frontValues r)
     )
 unfolding values
 all-laid r s z f g h i j ef eg eh ei ej =
     let l = layout (r .body) in
-    let k = l .slots in
-    let wb = widths (l .body) in
-    let we = widths ending in
-    let vb = bodyValues (r .body) (r .text) in
-    let vs = joined (map (slotValues k) (take (slotCount k) (r .slots))) in
-    let ve = lastValues 0 (r .reserved) in
+    let k = slotKind (r .body) in
+    let wb = widths (l .front) in
+    let we = widths (l .behind ++ ending) in
+    let vb = bodyValues (r .body) (r .text) 0 in
+    let vs = joined (slotsValues (r .body) (r .slots)) in
+    let ve = behindValues l 0 ++ lastValues (r .reserved) in
     let first = placed z 0 8 (r .preamble) in
-    let head = headValues (r .common) (l .code) 0 in
-    let enough : slotCount k ≤ length (r .slots) = omega (arith, s .slots, at-most-sixteen k) in
-    let many-slots = ap length (slots-widths k (slotCount k) (slotFirst k)) ∙ runs-length k (slotCount k) (r .slots) enough in
+    let head = headValues (r .common) (l .code) in
+    let filled = record-filled r 0 0 (s .slots) (s .text) in
     ej
-    ∙ ap (λ (a : ℕ). laid i a we ve) (sym (spare-starts (r .body)))
-    ∙ ap (λ (x : List ℕ). laid x (53 + total wb + total (slotsWidths l)) we ve)
+    ∙ ap (λ (a : ℕ). laid i a we ve) (sym (behind-starts (r .body)))
+    ∙ ap (λ (x : List ℕ). laid x (43 + total wb + total (slotsWidths l)) we ve)
     (ei ∙ sym (slots-start (r .body) h vs)
-    ∙ ap (λ (x : List ℕ). laid x (53 + total wb) (slotsWidths l) vs) (eh ∙ ap (λ (x : List ℕ). laid x 53 wb vb) (eg ∙ ap (λ (x : List ℕ). laid x 8 (widths (common l)) head) ef)))
-    ∙ sym (in-four first (widths (common l)) wb (slotsWidths l) we head vb vs ve refl (many (l .body) vb (record-filled r 0 0 (s .slots) (s .text) .body)) many-slots)
-    ∙ ap (λ (ws : List ℕ). laid first 8 ws (head ++ (vb ++ (vs ++ ve)))) (sym (widths-four (common l) (l .body) (slotsRows k (slotCount k) (slotFirst k)) ending))
+    ∙ ap (λ (x : List ℕ). laid x (43 + total wb) (slotsWidths l) vs) (eh ∙ ap (λ (x : List ℕ). laid x 43 wb vb) (eg ∙ ap (λ (x : List ℕ). laid x 8 (widths (common l)) head) ef)))
+    ∙ sym (in-four first (widths (common l)) wb (slotsWidths l) we head vb vs ve refl (many (l .front) vb (filled .front)) (slots-many (r .body) (r .slots) (s .slots)))
+    ∙ ap (λ (ws : List ℕ). laid first 8 ws (head ++ (vb ++ (vs ++ ve)))) (sym (widths-four (common l) (l .front) (slotsRows (l .slots) (l .slots .count) (l .slots .first)) (l .behind ++ ending)))
 
 -- ---- the parity behind them
 

@@ -6,8 +6,7 @@ use mathlib.Core.List.{List}
 use Rattle.report.specs.declared.record.Body.{Body}
 use Rattle.report.specs.declared.record.Body.the-variants.{NoCategory, Hypocenter, Intensity, Nankai, AshFall}
 use Rattle.report.specs.declared.record.Record.{Record}
-use Rattle.report.specs.Layout.{layout}
-use Rattle.rows.specs.Layout.{slotCount}
+use Rattle.report.specs.Layout.{slotKind, layout}
 use Rattle.rows.specs.Runs.Verdict.{empty}
 use Rattle.slots.specs.Slots.{slotsOf, tidySlots}
 use Rattle.report.specs.Records.{textOf, recordAs}
@@ -16,6 +15,7 @@ use Rattle.report.specs.Rules.{TextUnused, Tidy}
 use Rattle.rows.proofs.Rules.Outcomes.{and-both, both-and}
 use Rattle.rows.proofs.Rules.JudgedSlots.{empty-is, is-empty}
 use Rattle.slots.proofs.Tidy.{others-tidy, frame-slots-tidy, slots-tidy, first-tidy}
+use Rattle.report.proofs.Tables.Lengths.{kind-table}
 
 -- ---- slots
 
@@ -41,14 +41,16 @@ unused-text (AshFall v) text h = is-empty text h
 
 pub is-tidy : (r : Record) → tidy r ≡ true → Tidy r
 is-tidy r e =
-    let k = layout (r .body) .slots in
-    let q = and-both (tidySlots k (slotCount k) (r .slots)) (tidyText (r .body) (r .text)) e in
-    record { slots = first-tidy k (slotCount k) (r .slots) (q .0); others = others-tidy k (slotCount k) (r .slots) (q .0); text = text-unused (r .body) (r .text) (q .1) }
+    let k = slotKind (r .body) in
+    let n = layout (r .body) .slots .count in
+    let q = and-both (tidySlots k n (r .slots)) (tidyText (r .body) (r .text)) e in
+    record { slots = first-tidy k n (r .slots) (q .0); others = others-tidy k n (r .slots) (q .0); text = text-unused (r .body) (r .text) (q .1) }
 
 pub tidy-is : (r : Record) → Tidy r → tidy r ≡ true
 tidy-is r h =
-    let k = layout (r .body) .slots in
-    both-and (tidySlots k (slotCount k) (r .slots)) (tidyText (r .body) (r .text)) (slots-tidy k (slotCount k) (r .slots) (h .slots) (h .others))
+    let k = slotKind (r .body) in
+    let n = layout (r .body) .slots .count in
+    both-and (tidySlots k n (r .slots)) (tidyText (r .body) (r .text)) (slots-tidy k n (r .slots) (h .slots) (h .others))
     (unused-text (r .body) (r .text) (h .text))
 
 -- ---- the record of a frame is tidy
@@ -64,5 +66,5 @@ frame-text-tidy s (AshFall e) = refl
 pub frame-tidy : (s : List ℕ) (b : Body) → tidy (recordAs s b) ≡ true
 unfolding recordAs
 frame-tidy s b =
-    let k = layout b .slots in
-    both-and (tidySlots k (slotCount k) (slotsOf s k)) (tidyText b (textOf s b)) (frame-slots-tidy s k) (frame-text-tidy s b)
+    let k = slotKind b in
+    both-and (tidySlots k (layout b .slots .count) (slotsOf s k)) (tidyText b (textOf s b)) (rw (kind-table b) at (frame-slots-tidy s k)) (frame-text-tidy s b)

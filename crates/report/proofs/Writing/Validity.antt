@@ -12,11 +12,11 @@ use Rattle.rows.specs.declared.refusal.Refusal.the-variants.{Length, Preamble, 
 use Rattle.report.specs.declared.record.Body.{Body}
 use Rattle.report.specs.declared.record.Body.the-variants.{NoCategory, Hypocenter, Intensity, Nankai, AshFall}
 use Rattle.report.specs.declared.record.Record.{Record}
-use Rattle.rows.specs.Layout.{Layout, slotCount}
-use Rattle.report.specs.Layout.{layout, preambles}
+use Rattle.rows.specs.Layout.{Layout}
+use Rattle.report.specs.Layout.{slotKind, layout, preambles}
 use Rattle.rows.specs.Values.{Values}
 use Rattle.rows.specs.Runs.Verdict.{allowed, verdict}
-use Rattle.slots.specs.Slots.{slotValues}
+use Rattle.slots.specs.Slots.{slotTable, slotValues}
 use Rattle.report.specs.Records.{values}
 use Rattle.rows.specs.Kept.{In}
 use Rattle.rows.specs.Faults.{Lowest}
@@ -32,6 +32,7 @@ use Rattle.rows.proofs.Rules.Ordered.{Met, Answers, unquestioned, question}
 use Rattle.slots.proofs.SlotLoop.{taken}
 use Rattle.report.proofs.Tables.Shapes.{Shaped}
 use Rattle.report.proofs.Writing.Unused.{is-tidy, tidy-is}
+use Rattle.report.proofs.Tables.Lengths.{kind-table}
 
 -- ---- 8, 10
 
@@ -48,12 +49,12 @@ innerWrite r = verdict (recordLayout r) (recordValues r)
 pub judged-record : (r : Record) → length (r .slots) ≡ 16 → JudgesAll (recordLayout r) (recordValues r)
 unfolding values
 judged-record r n =
-    let k = layout (r .body) .slots in
-    whole (r .body) (recordValues r) (length-map (take (slotCount k) (r .slots)) (slotValues k) ∙ taken k (r .slots) n)
+    let k = slotKind (r .body) in
+    whole (r .body) (recordValues r) (rw (kind-table (r .body)) at (length-map (take (slotTable k .count) (r .slots)) (slotValues k) ∙ taken k (r .slots) n))
 
 -- ---- 1, 3, 7, 11
 
-is-known : (b : Body) → known b ≡ true → b ≡ NoCategory → ⊥
+pub is-known : (b : Body) → known b ≡ true → b ≡ NoCategory → ⊥
 is-known b e n = false-not-true (sym (ap known n) ∙ e)
 
 known-is : (b : Body) → (b ≡ NoCategory → ⊥) → known b ≡ true

@@ -1,9 +1,13 @@
 -- The numbers that writing answers.
-use mathlib.Core.Path.{_≡_, refl}
+use Rattle.ash_fall.specs.AshFall.{ashFall, eruptionValues}
+use Rattle.intensity.specs.Intensity.{intensity, shakingValues}
+use Rattle.hypocenter.specs.Hypocenter.{hypocenter, quakeValues}
+use lib.ListN.{drop}
+use mathlib.Core.Path.{ap, _≡_, refl, _∙_}
 use mathlib.Core.Bool.{Bool, true, false, not, cond, _&&_}
 use mathlib.Core.Logic.{inl, inr}
 use Prim.Native.Nat.{ℕ, _+_}
-use mathlib.Core.List.{List, [], _∷_}
+use mathlib.Core.List.{map, List, [], _∷_}
 use lib.Dec.{eqb}
 use types.Run.{OneOf}
 use borrow.Author.Tests.{eq-eqb}
@@ -13,17 +17,18 @@ use Rattle.rows.specs.declared.refusal.Refusal.{Refusal}
 use Rattle.rows.specs.declared.refusal.Refusal.the-variants.{Length, Preamble, Category, Range, Spare, Gap, Unused}
 use Rattle.report.specs.declared.record.Body.{Body}
 use Rattle.report.specs.declared.record.Body.the-variants.{NoCategory, Hypocenter, Intensity, Nankai, AshFall}
-use Rattle.slots.specs.declared.kind.SlotKind.{SlotKind}
-use Rattle.slots.specs.declared.kind.SlotKind.the-variants.{NoSlots, Prefectures, Places}
 use Rattle.report.specs.declared.record.Record.{Record}
 use Rattle.rows.specs.Refusals.{says, answers}
 use Rattle.rows.specs.Runs.Questions.{_then_, unless}
-use Rattle.rows.specs.Layout.{Rule, among, rising, spare, Row, common, ending, slotFirst, slotBits, slotRows}
+use Rattle.rows.specs.Layout.{Slots, shifted, Rule, among, rising, spare, Row, common, ending, slotRows}
 use Rattle.report.specs.Layout.{layout}
 use Rattle.rows.specs.Runs.Verdict.{judge, walk, empty, later, slotsVerdict, verdict}
-use Rattle.report.specs.Records.{values}
+use Rattle.report.specs.Records.{bodyValues, values}
 use Rattle.report.specs.Runs.Writing.{writeAnswer}
 use Rattle.rows.proofs.Rules.Outcomes.{false-not-true, and-both, unless-true}
+use Rattle.report.proofs.Tables.Tables.{layouts, all}
+use Rattle.report.proofs.Tables.Rows.{listed}
+use Rattle.nankai.specs.Nankai.{nankai, pageValues}
 
 abbrev pub writeNumbers : List ℕ
 writeNumbers = 0 ∷ 1 ∷ 3 ∷ 7 ∷ 8 ∷ 10 ∷ 11 ∷ []
@@ -59,17 +64,17 @@ AllSpared [] vs = Unit
 AllSpared (r ∷ rs) [] = Unit
 AllSpared (r ∷ rs) (v ∷ vs) = Spared (r .rule) v × AllSpared rs vs
 
-judge-numbered : (r : Rule) (at before v : ℕ) → Spared r v → Numbered (judge r at before v)
+judge-numbered : (r : Rule) (at : ℕ) (past : List ℕ) (v : ℕ) (next : List ℕ) → Spared r v → Numbered (judge r at past v next)
 unfolding judge
-judge-numbered (among ss) at before v h = unless-numbered _ (Range at) (inr (inr (inr (inr (inl refl)))))
-judge-numbered (rising hi) at before v h = unless-numbered _ (Range at) (inr (inr (inr (inr (inl refl)))))
-judge-numbered spare at before v h = rw (unless-true (eqb v 0) (Spare at) (eq-eqb v 0 h)) (inl refl)
+judge-numbered (among ss) at past v next h = unless-numbered _ (Range at) (inr (inr (inr (inr (inl refl)))))
+judge-numbered (rising hi) at past v next h = unless-numbered _ (Range at) (inr (inr (inr (inr (inl refl)))))
+judge-numbered spare at past v next h = rw (unless-true (eqb v 0) (Spare at) (eq-eqb v 0 h)) (inl refl)
 
-walk-numbered : (before : ℕ) (rs : List Row) (vs : List ℕ) → AllSpared rs vs → Numbered (walk before rs vs)
+walk-numbered : (past : List ℕ) (rs : List Row) (vs : List ℕ) → AllSpared rs vs → Numbered (walk past rs vs)
 unfolding walk
-walk-numbered before [] vs h = inl refl
-walk-numbered before (r ∷ rs) [] h = inl refl
-walk-numbered before (r ∷ rs) (v ∷ vs) h = then-numbered _ _ (judge-numbered (r .rule) (r .first) before v (h .0)) (walk-numbered v rs vs (h .1))
+walk-numbered past [] vs h = inl refl
+walk-numbered past (r ∷ rs) [] h = inl refl
+walk-numbered past (r ∷ rs) (v ∷ vs) h = then-numbered _ _ (judge-numbered (r .rule) (r .first) past v vs (h .0)) (walk-numbered (v ∷ past) rs vs (h .1))
 
 -- rows without a spare
 abbrev ruled : Rule → Bool
@@ -93,36 +98,50 @@ all-spared (r ∷ rs) (v ∷ vs) e =
     let q = and-both (ruled (r .rule)) (allRuled rs) e in
     (rule-spared (r .rule) v (q .0), all-spared rs vs (q .1))
 
-body-ruled : (b : Body) → allRuled (layout b .body) ≡ true
-unfolding layout
-body-ruled NoCategory = refl
-body-ruled (Hypocenter q) = refl
-body-ruled (Intensity t) = refl
-body-ruled (Nankai p) = refl
-body-ruled (AshFall e) = refl
+-- a spare of zero
+zero-spared : (r : Rule) → Spared r 0
+zero-spared (among ss) = tt
+zero-spared (rising hi) = tt
+zero-spared spare = refl
 
-slot-ruled : (k : SlotKind) (at : ℕ) → allRuled (slotRows k at) ≡ true
-slot-ruled NoSlots at = refl
-slot-ruled Prefectures at = refl
-slot-ruled Places at = refl
+zeros-spared : (rs : List Row) → AllSpared rs (map (λ r. 0) rs)
+zeros-spared [] = tt
+zeros-spared (r ∷ rs) = (zero-spared (r .rule), zeros-spared rs)
+
+-- the spare in front is zero, and the rows behind it have rules
+body-spared : (b : Body) (text : List ℕ) → AllSpared (layout b .front) (bodyValues b text 0)
+unfolding bodyValues
+body-spared NoCategory text = (refl, tt)
+body-spared (Hypocenter q) text = (refl, all-spared (drop 1 (hypocenter .front)) (drop 1 (quakeValues q 0)) refl)
+body-spared (Intensity t) text = (refl, all-spared (drop 1 (intensity .front)) (drop 1 (shakingValues t 0)) refl)
+body-spared (Nankai p) text = (refl, all-spared (drop 1 (nankai .front)) (drop 1 (pageValues p text 0)) refl)
+body-spared (AshFall e) text = (refl, all-spared (drop 1 (ashFall .front)) (drop 1 (eruptionValues e 0)) refl)
+
+shifted-ruled : (a : ℕ) (rs : List Row) → allRuled (shifted a rs) ≡ allRuled rs
+shifted-ruled a [] = refl
+shifted-ruled a (r ∷ rs) = ap (λ (b : Bool). ruled (r .rule) && b) (shifted-ruled a rs)
+
+slots-ruled : all (λ l. allRuled (l .slots .rows)) layouts ≡ true
+slots-ruled = refl
 
 -- ---- slots
 
-slot-numbered : (k : SlotKind) (at : ℕ) (v : List ℕ) → Numbered (walk [] (slotRows k at) v)
-slot-numbered k at v = walk-numbered 0 (slotRows k at) v (all-spared (slotRows k at) v (slot-ruled k at))
+module _ (k : Slots) (plain : allRuled (k .rows) ≡ true) where
+  slot-numbered : (at : ℕ) (v : List ℕ) → Numbered (walk [] (slotRows k at) v)
+  slot-numbered at v = walk-numbered [] (slotRows k at) v (all-spared (slotRows k at) v (shifted-ruled at (k .rows) ∙ plain))
 
-later-numbered : (k : SlotKind) (gap : Bool) (at : ℕ) (vs : List (List ℕ)) → Numbered (later k gap at vs)
-unfolding later
-later-numbered k gap at [] = inl refl
-later-numbered k gap at (v ∷ vs) =
-    cond-numbered (empty v) _ _ (later-numbered k true (at + slotBits k) vs)
-    (then-numbered _ _ (unless-numbered (not gap) (Gap at) (inr (inr (inr (inr (inr (inl refl)))))))
-    (then-numbered _ _ (slot-numbered k at v) (later-numbered k gap (at + slotBits k) vs)))
+  later-numbered : (gap : Bool) (at : ℕ) (vs : List (List ℕ)) → Numbered (later k gap at vs)
+  unfolding later
+  later-numbered gap at [] = inl refl
+  later-numbered gap at (v ∷ vs) =
+      cond-numbered (empty v) _ _ (later-numbered true (at + k .bits) vs)
+      (then-numbered _ _ (unless-numbered (not gap) (Gap at) (inr (inr (inr (inr (inr (inl refl)))))))
+      (then-numbered _ _ (slot-numbered at v) (later-numbered gap (at + k .bits) vs)))
 
-slots-numbered : (k : SlotKind) (vs : List (List ℕ)) → Numbered (slotsVerdict k vs)
-unfolding slotsVerdict
-slots-numbered k [] = inl refl
-slots-numbered k (v ∷ vs) = then-numbered _ _ (slot-numbered k (slotFirst k) v) (later-numbered k false (slotFirst k + slotBits k) vs)
+  slots-numbered : (vs : List (List ℕ)) → Numbered (slotsVerdict k vs)
+  unfolding slotsVerdict
+  slots-numbered [] = inl refl
+  slots-numbered (v ∷ vs) = then-numbered _ _ (slot-numbered (k .first) v) (later-numbered false (k .first + k .bits) vs)
 
 -- ---- all of it
 
@@ -130,9 +149,10 @@ inner-numbered : (r : Record) → Numbered (verdict (layout (r .body)) (values r
 unfolding verdict values
 inner-numbered r =
     let l = layout (r .body) in
-    then-numbered _ _ (walk-numbered 0 (common l) (values r 0 0 .head) (tt, (tt, (tt, (tt, (tt, (tt, (tt, (tt, (refl, tt))))))))))
-    (then-numbered _ _ (walk-numbered 0 (l .body) (values r 0 0 .body) (all-spared (l .body) _ (body-ruled (r .body))))
-    (then-numbered _ _ (slots-numbered (l .slots) (values r 0 0 .slots)) (walk-numbered 0 ending (values r 0 0 .last) (refl, (tt, (tt, tt))))))
+    then-numbered _ _ (walk-numbered [] (common l) (values r 0 0 .head) (tt, (tt, (tt, (tt, (tt, (tt, (tt, (tt, tt)))))))))
+    (then-numbered _ _ (walk-numbered [] (l .front) (values r 0 0 .front) (body-spared (r .body) (r .text)))
+    (then-numbered _ _ (slots-numbered (l .slots) (listed (λ l. allRuled (l .slots .rows)) slots-ruled (r .body)) (values r 0 0 .slots))
+    (then-numbered _ _ (walk-numbered [] (l .behind) (values r 0 0 .behind) (zeros-spared (l .behind))) (walk-numbered [] ending (values r 0 0 .last) (tt, (tt, tt))))))
 
 pub write-numbered : (r : Record) (size : ℕ) → OneOf writeNumbers (answers (writeAnswer r size) .number)
 unfolding writeAnswer

@@ -14,7 +14,7 @@ use Rattle.rows.specs.declared.refusal.Refusal.the-variants.{Range, Gap}
 use Rattle.report.specs.declared.record.Record.{Record}
 use Rattle.rows.specs.Refusals.{says}
 use Rattle.rows.specs.Runs.Questions.{_then_, unless}
-use Rattle.rows.specs.Layout.{Layout, common, ending}
+use Rattle.rows.specs.Layout.{common, ending}
 use Rattle.report.specs.Layout.{layout}
 use Rattle.rows.specs.Runs.Verdict.{allowed, judge, walk, slotsVerdict, verdict}
 use Rattle.rows.specs.Values.{lastValues}
@@ -59,25 +59,26 @@ no-gap r size p s e f = late (judged-record r (s .slots) .earliest (Range p) (Ga
 abbrev pub reserving : Record → ℕ → Record
 reserving r n = record { preamble = r .preamble; reserved = n; common = r .common; body = r .body; slots = r .slots; text = r .text }
 
-above : (l : Layout) (n : ℕ) → 63 < n → walk [] ending (lastValues 0 n) ≡ Refused (Range 220)
+above : (n : ℕ) → 63 < n → walk [] ending (lastValues n) ≡ Refused (Range 220)
 unfolding walk judge allowed unless _then_
-above l n h = simp (le-leb 0 n (omega arith), lt-leb n 63 h)
+above n h = simp (le-leb 0 n (omega arith), lt-leb n 63 h)
 
-behind-fine : (a b c d : Verdict) (x : Refusal) → a then b then c then d ≡ Fine → (e : Verdict) → e ≡ Refused x → a then b then c then e ≡ Refused x
+behind-fine : (a b c d z : Verdict) (x : Refusal) → a then b then c then d then z ≡ Fine → (e : Verdict) → e ≡ Refused x → a then b then c then d then e ≡ Refused x
 unfolding _then_
-behind-fine a b c d x f e g =
-    let p = fine-both a (b then c then d) f in
-    let q = fine-both b (c then d) (p .1) in
-    let t = fine-both c d (q .1) in
-    simp (p .0, q .0, t .0, g)
+behind-fine a b c d z x f e g =
+    let p = fine-both a (b then c then d then z) f in
+    let q = fine-both b (c then d then z) (p .1) in
+    let t = fine-both c (d then z) (q .1) in
+    let u = fine-both d z (t .1) in
+    simp (p .0, q .0, t .0, u .0, g)
 
 above-inner : (r : Record) (n : ℕ) → 63 < n → innerWrite r ≡ Fine → innerWrite (reserving r n) ≡ Refused (Range 220)
 unfolding verdict values
 above-inner r n h e =
     let l = layout (r .body) in
     let v = values r 0 0 in
-    behind-fine (walk [] (common l) (v .head)) (walk [] (l .body) (v .body)) (slotsVerdict (l .slots) (v .slots)) (walk [] ending (v .last)) (Range 220) e
-    (walk [] ending (lastValues 0 n)) (above l n h)
+    behind-fine (walk [] (common l) (v .head)) (walk [] (l .front) (v .front)) (slotsVerdict (l .slots) (v .slots)) (walk [] (l .behind) (v .behind)) (walk [] ending (v .last)) (Range 220) e
+    (walk [] ending (lastValues n)) (above n h)
 
 pub above-63 : (r : Record) (n : ℕ) → Valid r → 63 < n → writeAnswer (reserving r n) 32 ≡ Refused (Range 220)
 above-63 r n v h =

@@ -2,7 +2,6 @@
 use Rattle.report.specs.declared.record.Body.{Body}
 use Rattle.report.specs.declared.record.Body.the-variants.{NoCategory, Hypocenter, Intensity, Nankai, AshFall}
 use Rattle.rows.specs.declared.refusal.Verdict.{Verdict}
-use Rattle.rows.specs.declared.refusal.Verdict.the-variants.{Fine}
 use Rattle.hypocenter.specs.Hypocenter.{hypocenter, quakeValues}
 use Rattle.intensity.specs.Intensity.{intensity, shakingValues}
 use Rattle.nankai.specs.Nankai.{numbered, numberValues}

@@ -2,7 +2,7 @@
 use Rattle.bits.specs.Frame.{Bytes}
 use Rattle.rows.proofs.Rules.Outcomes.{then-assoc, fine-then}
 use Rattle.report.specs.Records.{values}
-use Rattle.report.proofs.Tables.Walks.{body-walk}
+use Rattle.report.proofs.Tables.Walks.{body-walk, slots-verdict, last-walk}
 use Rattle.rows.specs.Runs.Verdict.{verdict}
 use borrow.Author.Needs.{elem-fits-field, length-unmapped, needs}
 use lib.ListN.{length}
@@ -14,8 +14,8 @@ use Rattle.report.proofs.check.check.Tie as tie
 common-requires : tie.Need-common-requires
 common-requires c κs = search needs
 
-body-requires : tie.Need-body-requires
-body-requires c κs = search needs
+front-requires : tie.Need-front-requires
+front-requires c κs = search needs
 
 slot-kind-requires : tie.Need-slot-kind-requires
 slot-kind-requires c κs = search needs
@@ -23,24 +23,34 @@ slot-kind-requires c κs = search needs
 check-slots-requires : tie.Need-check-slots-requires
 check-slots-requires c κs = search needs
 
-last-requires : tie.Need-last-requires
-last-requires c κs = search needs
+behind-requires : tie.Need-behind-requires
+behind-requires c κs = search needs
+
+cast-within : tie.Need-cast-within
+cast-within c = search needs
+
+within-requires : tie.Need-within-requires
+within-requires c κs = search needs
 
 returns : tie.Need-returns
 unfolding verdict values
 returns c =
-    let s = c .before .before .before .before .before .before .before in
-    let text = s .args .r .text in
+    let s = c .before .before .before .before .before .before .before .before .before in
+    let r = s .args .r in
+    let text = r .text in
     let good = s .good .0 .1 .1 .1 .1 .1 .1 .1 .0 in
     let l : length text ≡ 18 = length-unmapped _ text 18 (good .1 .0 .1) in
     let b : Bytes text = λ i. elem-fits-field w8 w8 text _ i (good .1 .1) tt .fits in
     simp (
-      c .last .ensures,
-      c .before .check-slots .ensures,
-      c .before .before .slot-kind .ensures,
-      c .before .before .before .body .ensures,
-      body-walk (s .args .r .body) text b l,
-      c .before .before .before .before .common .ensures,
+      c .within .ensures,
+      c .before .before .behind .ensures,
+      c .before .before .before .check-slots .ensures,
+      c .before .before .before .before .slot-kind .ensures,
+      c .before .before .before .before .before .front .ensures,
+      body-walk (r .body) text (s .args .spare1) b l,
+      c .before .before .before .before .before .before .common .ensures,
+      slots-verdict (r .body) (r .slots),
+      last-walk (r .reserved),
       then-assoc,
       fine-then,
     )
@@ -50,8 +60,10 @@ check-spec =
     tie.close
     (tie.spec
     common-requires
-    body-requires
+    front-requires
     slot-kind-requires
     check-slots-requires
-    last-requires
+    behind-requires
+    cast-within
+    within-requires
     returns)

@@ -9,8 +9,8 @@ use borrow.Author.Needs.{needs}
 use Rattle.report.proofs.check.common.Statement.{statement}
 use Rattle.report.proofs.check.common.Tie as tie
 
-is-classification-requires : tie.Need-is-classification-requires
-is-classification-requires c κs = search needs
+has-classification-requires : tie.Need-has-classification-requires
+has-classification-requires c κs = search needs
 
 unless-requires : tie.Need-unless-requires
 unless-requires c κs = search needs
@@ -45,26 +45,22 @@ has-type-requires c κs = search needs
 unless-requires-2 : tie.Need-unless-requires-2
 unless-requires-2 c κs = search needs
 
-spare-requires : tie.Need-spare-requires
-spare-requires c κs = search needs
-
 returns : tie.Need-returns
 returns c =
-    let a = c .before .before .before .before .before .before .before .before .before .before .before .before .before .args in
-    link _ _ _ _ _ (asked _ _ _ _ _ (c .before .before .before .before .before .before .before .before .before .before .before .unless .ensures) (c .before .before .before .before .before .before .before .before .before .before .before .before .is-classification .ensures))
-    (link _ _ _ _ _ (c .before .before .before .before .before .before .before .before .before .within .ensures)
-    (link _ _ _ _ _ (c .before .before .before .before .before .before .before .within2 .ensures)
-    (link _ _ _ _ _ (c .before .before .before .before .before .within3 .ensures)
-    (link _ _ _ _ _ (c .before .before .before .within4 .ensures)
-    (link _ _ _ _ _ (asked _ _ _ _ _ (c .before .unless2 .ensures) (c .before .before .has-type .ensures))
-    (c .spare .ensures))))))
-    ∙ sym (ap (λ (v : Verdict). a .found then v) (common-walk (layout (a .b)) (a .c) (a .spare)))
+    let a = c .before .before .before .before .before .before .before .before .before .before .before .before .args in
+    link _ _ _ _ _ (asked _ _ _ _ _ (c .before .before .before .before .before .before .before .before .before .before .unless .ensures) (c .before .before .before .before .before .before .before .before .before .before .before .has-classification .ensures))
+    (link _ _ _ _ _ (c .before .before .before .before .before .before .before .before .within .ensures)
+    (link _ _ _ _ _ (c .before .before .before .before .before .before .within2 .ensures)
+    (link _ _ _ _ _ (c .before .before .before .before .within3 .ensures)
+    (link _ _ _ _ _ (c .before .before .within4 .ensures)
+    (asked _ _ _ _ _ (c .unless2 .ensures) (c .before .has-type .ensures))))))
+    ∙ sym (ap (λ (v : Verdict). a .found then v) (common-walk (layout (a .b)) (a .c)))
 
 pub common-spec : {M : Type 1} → statement M
 common-spec =
     tie.close
     (tie.spec
-    is-classification-requires
+    has-classification-requires
     unless-requires
     cast-within
     within-requires
@@ -76,5 +72,4 @@ common-spec =
     within-requires-4
     has-type-requires
     unless-requires-2
-    spare-requires
     returns)

@@ -51,21 +51,17 @@ cast-put-7 c = search needs
 put-requires-8 : tie.Need-put-requires-8
 put-requires-8 c κs = search needs
 
-put-requires-9 : tie.Need-put-requires-9
-put-requires-9 c κs = search needs
-
 returns : tie.Need-returns
 returns c = simp (
-  c .put9 .ensures,
-  c .before .put8 .ensures,
-  c .before .before .before .put7 .ensures,
-  c .before .before .before .before .before .put6 .ensures,
-  c .before .before .before .before .before .before .before .put5 .ensures,
-  c .before .before .before .before .before .before .before .before .before .put4 .ensures,
-  c .before .before .before .before .before .before .before .before .before .before .before .put3 .ensures,
-  c .before .before .before .before .before .before .before .before .before .before .before .before .code .ensures,
-  c .before .before .before .before .before .before .before .before .before .before .before .before .before .put2 .ensures,
-  c .before .before .before .before .before .before .before .before .before .before .before .before .before .before .before .put .ensures,
+  c .put8 .ensures,
+  c .before .before .put7 .ensures,
+  c .before .before .before .before .put6 .ensures,
+  c .before .before .before .before .before .before .put5 .ensures,
+  c .before .before .before .before .before .before .before .before .put4 .ensures,
+  c .before .before .before .before .before .before .before .before .before .before .put3 .ensures,
+  c .before .before .before .before .before .before .before .before .before .before .before .code .ensures,
+  c .before .before .before .before .before .before .before .before .before .before .before .before .put2 .ensures,
+  c .before .before .before .before .before .before .before .before .before .before .before .before .before .before .put .ensures,
 )
 
 pub lay-common-spec : {M : Type 1} → statement M
@@ -88,5 +84,4 @@ lay-common-spec =
     put-requires-7
     cast-put-7
     put-requires-8
-    put-requires-9
     returns)

@@ -1,10 +1,12 @@
 -- `report::encode::lay_front` meets its contract.
+use Rattle.report.proofs.Tables.Lengths.{kind-table}
+use Rattle.report.specs.Layout.{slotKind}
 use Rattle.bits.specs.Frame.{laid}
 use Rattle.report.proofs.Writing.Encoding.{all-laid}
 use Rattle.report.proofs.Tables.Shapes.{Shaped}
 use Rattle.slots.proofs.Used.{unmapped}
-use Rattle.rows.specs.Layout.{slotsRows, slotCount, slotFirst}
-use Rattle.slots.specs.Slots.{slotValues}
+use Rattle.rows.specs.Layout.{slotsRows, Slots}
+use Rattle.slots.specs.Slots.{slotValues, slotTable}
 use Rattle.rows.specs.Values.{widths, joined}
 use Rattle.slots.specs.declared.kind.SlotKind.{SlotKind}
 use borrow.Author.Needs.{needs, length-unmapped}
@@ -52,8 +54,9 @@ returns c =
     all-laid r (shaped s) (s .args .f) (p .put .result) (b .before .lay-common .result) (b .lay-body .result) (c .before .lay-slots .result) (c .lay-last .result)
     (p .put .ensures) (b .before .lay-common .ensures) (b .lay-body .ensures)
     (c .before .lay-slots .ensures
-    ∙ ap (λ (x : SlotKind). laid (b .lay-body .result) (slotFirst x) (widths (slotsRows x (slotCount x) (slotFirst x))) (joined (map (slotValues x) (take (slotCount x) (r .slots)))))
-    (k .slot-kind .ensures))
+    ∙ ap (λ (x : SlotKind). laid (b .lay-body .result) (slotTable x .first) (widths (slotsRows (slotTable x) (slotTable x .count) (slotTable x .first))) (joined (map (slotValues x) (take (slotTable x .count) (r .slots)))))
+    (k .slot-kind .ensures)
+    ∙ ap (λ (t : Slots). laid (b .lay-body .result) (t .first) (widths (slotsRows t (t .count) (t .first))) (joined (map (slotValues (slotKind (r .body))) (take (t .count) (r .slots))))) (kind-table (r .body)))
     (c .lay-last .ensures)
 
 pub lay-front-spec : {M : Type 1} → statement M

@@ -1,6 +1,5 @@
 -- `report::record::Body::has_type` meets its contract.
 use Rattle.rows.proofs.Rules.Spans.{allowed-one}
-use Rattle.report.specs.Layout.{layout}
 use borrow.Author.Needs.{needs}
 use mathlib.Core.Bool.{Bool, _&&_}
 use mathlib.Core.Path.{_∙_, sym, ap}
@@ -36,23 +35,18 @@ enum-told-5 : tie.Need-enum-told-5
 enum-told-5 c = search needs
 
 returns : tie.Need-returns
-unfolding layout
 returns c = simp (c .before .enum-told .given .1, c .is-uncorrected .ensures)
 
 returns-2 : tie.Need-returns-2
-unfolding layout
 returns-2 c = simp (c .before .enum-told2 .given .1, c .is-uncorrected2 .ensures)
 
 returns-3 : tie.Need-returns-3
-unfolding layout
 returns-3 c = simp (c .before .enum-told3 .given .1, c .is-uncorrected3 .ensures)
 
 returns-4 : tie.Need-returns-4
-unfolding layout
 returns-4 c = simp (c .before .enum-told4 .given .1, c .is-uncorrected4 .ensures)
 
 returns-5 : tie.Need-returns-5
-unfolding layout
 returns-5 c =
     let v = c .before .before .args .v in
     simp (c .enum-told5 .given .1) (sym (allowed-one 0 2 v ∙ ap (λ (b : Bool). b && leb v 2) (leb·zero v)))

@@ -1,7 +1,8 @@
 -- `report::record::Record::is_tidy` meets its contract.
-use Rattle.report.specs.Layout.{layout}
-use Rattle.rows.specs.Layout.{slotCount}
-use Rattle.slots.specs.Slots.{tidySlots}
+use Rattle.report.specs.Layout.{layout, slotKind}
+use Rattle.rows.specs.Layout.{Slots}
+use Rattle.report.proofs.Tables.Lengths.{kind-table}
+use Rattle.slots.specs.Slots.{tidySlots, slotTable}
 use Rattle.report.specs.Runs.Writing.{tidyText}
 use Rattle.slots.specs.declared.kind.SlotKind.{SlotKind}
 use borrow.Author.Needs.{needs}
@@ -11,10 +12,13 @@ use Rattle.report.proofs.record.Record.is_tidy.Statement.{statement}
 use Rattle.report.proofs.record.Record.is_tidy.Tie as tie
 
 -- what was found of the slots
-found : (c : tie.After-are-tidy) → let r = c .before .before .before .before .args .self in (c .are-tidy .result ≡ tidySlots (layout (r .body) .slots) (slotCount (layout (r .body) .slots)) (r .slots))
+found : (c : tie.After-are-tidy)
+    → let r = c .before .before .before .before .args .self in (c .are-tidy .result ≡ tidySlots (slotKind (r .body)) (layout (r .body) .slots .count) (r .slots))
 found c =
+    let r = c .before .before .before .before .args .self in
     c .are-tidy .ensures
-    ∙ ap (λ (k : SlotKind). tidySlots k (slotCount k) (c .before .before .before .before .args .self .slots)) (c .before .slot-kind .ensures)
+    ∙ ap (λ (k : SlotKind). tidySlots k (slotTable k .count) (r .slots)) (c .before .slot-kind .ensures)
+    ∙ ap (λ (t : Slots). tidySlots (slotKind (r .body)) (t .count) (r .slots)) (kind-table (r .body))
 
 slot-kind-requires : tie.Need-slot-kind-requires
 slot-kind-requires c κs = search needs

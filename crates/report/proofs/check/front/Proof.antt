@@ -1,12 +1,15 @@
--- `report::check::body` meets its contract.
+-- `report::check::front` meets its contract.
 use Rattle.rows.proofs.Rules.Outcomes.{then-fine}
-use Rattle.report.specs.Runs.Steps.{bodyVerdict}
+use Rattle.rows.specs.Runs.Verdict.{walk, judge}
 use borrow.Author.Needs.{needs}
-use Rattle.report.proofs.check.body.Statement.{statement}
-use Rattle.report.proofs.check.body.Tie as tie
+use Rattle.report.proofs.check.front.Statement.{statement}
+use Rattle.report.proofs.check.front.Tie as tie
 
 enum-told : tie.Need-enum-told
 enum-told c = search needs
+
+spare-requires : tie.Need-spare-requires
+spare-requires c κs = search needs
 
 enum-known-b : tie.Need-enum-known-b
 enum-known-b c = search needs
@@ -33,30 +36,27 @@ check-requires-4 : tie.Need-check-requires-4
 check-requires-4 c κs = search needs
 
 returns : tie.Need-returns
-unfolding bodyVerdict
-returns c = simp (c .enum-told .given .1, then-fine)
+unfolding walk judge
+returns c = simp (c .before .enum-told .given .1, c .spare .ensures, then-fine)
 
 returns-2 : tie.Need-returns-2
-unfolding bodyVerdict
 returns-2 c = simp (c .before .before .b .given .1, c .check .ensures)
 
 returns-3 : tie.Need-returns-3
-unfolding bodyVerdict
 returns-3 c = simp (c .before .before .b2 .given .1, c .check2 .ensures)
 
 returns-4 : tie.Need-returns-4
-unfolding bodyVerdict
 returns-4 c = simp (c .before .before .b3 .given .1, c .check3 .ensures)
 
 returns-5 : tie.Need-returns-5
-unfolding bodyVerdict
 returns-5 c = simp (c .before .before .b4 .given .1, c .check4 .ensures)
 
-pub body-spec : {M : Type 1} → statement M
-body-spec =
+pub front-spec : {M : Type 1} → statement M
+front-spec =
     tie.close
     (tie.spec
     enum-told
+    spare-requires
     enum-known-b
     check-requires
     enum-known-b-2
