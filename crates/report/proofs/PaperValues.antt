@@ -13,7 +13,8 @@ use Rattle.rows.specs.declared.slot.SlotKind.the-variants.{Prefectures}
 use Rattle.ash_fall.specs.declared.meaning.Prefecture.{Prefecture}
 use Rattle.ash_fall.specs.declared.meaning.Prefecture.the-variants.{Number, Nowhere}
 use Rattle.ash_fall.specs.Meaning.{prefectureOf}
-use Rattle.rows.specs.Refusals.{Said, plain, at, answers}
+use Rattle.rows.specs.declared.refusal.Said.{Said}
+use Rattle.rows.specs.Refusals.{plain, at, answers}
 use Rattle.rows.specs.Runs.Questions.{_then_, unless}
 use Rattle.rows.specs.Layout.{Row, slotFirst, slotRows}
 use Rattle.report.specs.Layout.{layout}

@@ -3,6 +3,9 @@ use Rattle.rows.proofs as rows
 use Rattle.settled.specs.Settled.{Settled}
 use Rattle.settled.proofs.Law.{answer}
 
+pub Refusal-says-is-settled : Settled rows.refusal.Refusal.says.ended rows.refusal.Refusal.says.Reads.Post
+Refusal-says-is-settled κs a x y = answer
+
 pub Verdict-unless-is-settled : Settled rows.refusal.Verdict.unless.ended rows.refusal.Verdict.unless.Reads.Post
 Verdict-unless-is-settled κs a x y = answer
 
