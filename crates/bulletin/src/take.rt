@@ -1,7 +1,6 @@
 // Taking a record into a store.
 ghost use mathlib.Core.Path.{_≡_};
 ghost use Prim.Native.Nat.{_-_, _≤_};
-ghost use Rattle.report.specs.Runs.Writing.{writeAnswer};
 ghost use Rattle.bulletin.specs.Takings.{takingAnswer, pageNumberIn, putPage, takeOf};
 ghost use Rattle.bulletin.specs.Steps.{soundness, admissionVerdict, refusedTaking};
 use crate::store::Store;
@@ -9,6 +8,7 @@ use pages::name::Name;
 use pages::page::Page;
 use report::record::Body;
 use report::record::Record;
+use report::write::write_answer;
 use rows::refusal::Refusal;
 use rows::refusal::Verdict;
 
@@ -30,14 +30,6 @@ pub struct Taking {
 enum Admission {
     Number(u8),
     Refused(Refusal),
-}
-
-// What writing the record to 32 bytes would answer.
-fn writing(came: Record) -> Verdict
-    ensures { λ r. ⌜ r ≡ writeAnswer came 32 ⌝ }
-{
-    let mut frame = [0u8; 32];
-    report::write::write(came, &mut frame)
 }
 
 // What a taking answers, by the page before and after it.
@@ -124,7 +116,7 @@ impl Store {
         }
     }
 
-    // 14, then what writing refuses, then 12 and 13: a refusal goes out at once.
+    // 14, then what writing to 32 bytes refuses, then 12 and 13: a refusal goes out at once.
     pub fn take(self, came: Record) -> Taking
         ensures { λ r. ⌜ r ≡ takeOf self came ⌝ }
     {
@@ -134,7 +126,7 @@ impl Store {
         let Verdict::Fine = sound else {
             return self.refused(sound);
         };
-        let written = writing(came);
+        let written = write_answer(came, 32);
         let Verdict::Fine = written else {
             return self.refused(written);
         };

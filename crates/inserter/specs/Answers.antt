@@ -5,11 +5,12 @@ use mathlib.Core.List.{List, [], _∷_}
 use lib.ListN.{length}
 use lib.Dec.{eqb}
 use Rattle.parity.specs.Parity.{parityOf}
+use Rattle.rows.specs.declared.refusal.Said.{Said}
 use Rattle.rows.specs.declared.refusal.Verdict.{Verdict}
 use Rattle.rows.specs.declared.refusal.Verdict.the-variants.{Fine, Refused}
 use Rattle.report.specs.declared.record.Record.{Record}
 use Rattle.report.specs.declared.read.Reading.{Reading}
-use Rattle.rows.specs.Refusals.{Said, plain, says, answers}
+use Rattle.rows.specs.Refusals.{plain, says, answers}
 use Rattle.report.specs.Runs.Reading.{readOf}
 use Rattle.report.specs.Runs.Writing.{writeAnswer, writeOf}
 use Rattle.line.specs.Lines.{lineReading, lineAnswer, lineInto}

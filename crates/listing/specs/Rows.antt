@@ -1,17 +1,17 @@
 -- The lines of text of a listing (document 01, "The listing"): "line number from 1, answer (0 when read), first bit for 8, 9, 10, category, slots used in
 -- categories 3 and 9".
+use Rattle.rows.specs.Layout.{Slots}
 use Prim.Native.Nat.{ℕ}
 use mathlib.Core.Bool.{_&&_, cond}
 use mathlib.Core.List.{List, [], _∷_, _++_}
 use lib.ListN.{length, drop}
-use lib.Dec.{leb, ltb}
+use lib.Dec.{leb, ltb, eqb}
+use Rattle.rows.specs.declared.refusal.Said.{Said}
 use Rattle.rows.specs.declared.refusal.Verdict.{Verdict}
 use Rattle.rows.specs.declared.refusal.Verdict.the-variants.{Fine, Refused}
 use Rattle.report.specs.declared.record.Record.{Record}
-use Rattle.rows.specs.declared.slot.SlotKind.{SlotKind}
-use Rattle.rows.specs.declared.slot.SlotKind.the-variants.{NoSlots, Prefectures, Places}
 use Rattle.report.specs.declared.read.Reading.{Reading}
-use Rattle.rows.specs.Refusals.{Said, says}
+use Rattle.rows.specs.Refusals.{says}
 use Rattle.report.specs.Layout.{layout}
 use Rattle.report.specs.Meaning.{usedOf}
 use Rattle.listing.specs.declared.row.Entry.{Entry}
@@ -25,11 +25,9 @@ use Rattle.listing.specs.Decimal.{decimal}
 abbrev pub placeEntry : Said → Entry
 placeEntry a = cond (leb 8 (a .number) && leb (a .number) 10) (Number (a .place)) Dash
 
--- "slots used in categories 3 and 9"
-abbrev pub slotsEntry : SlotKind → ℕ → Entry
-slotsEntry NoSlots n = Dash
-slotsEntry Prefectures n = Number n
-slotsEntry Places n = Number n
+-- "slots used in categories 3 and 9": in those that have slots
+abbrev pub slotsEntry : Slots → ℕ → Entry
+slotsEntry k n = cond (eqb (k .count) 0) Dash (Number n)
 
 abbrev pub refusedRow : ℕ → Entry → Row
 refusedRow number place = record { answer = number; place = place; category = Dash; slots = Dash }

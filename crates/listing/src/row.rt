@@ -5,6 +5,7 @@ ghost use lib.ListN.{length};
 ghost use Rattle.rows.specs.Refusals.{says};
 ghost use Rattle.report.specs.Meaning.{usedOf};
 ghost use Rattle.rows.specs.declared.refusal.Verdict.the-variants.{Fine};
+ghost use Rattle.slots.specs.Slots.{slotTable};
 ghost use Rattle.listing.specs.Rows.{rowFor, rowOf, refusedRow, placeEntry, slotsEntry, entryText, rowText, headingText, cutText, filled, filledBy};
 ghost use Rattle.listing.specs.Pieces.{Wrote};
 use crate::text::put_byte;
@@ -13,8 +14,9 @@ use crate::text::put_text;
 use report::read::Reading;
 use report::record::Record;
 use rows::refusal::Refusal;
+use rows::refusal::Said;
 use rows::refusal::Verdict;
-use rows::slot::SlotKind;
+use slots::kind::SlotKind;
 
 // No line of a listing is longer: its heading is the longest.
 pub const LONGEST: usize = 27;
@@ -34,50 +36,37 @@ pub struct Row {
 }
 
 impl Row {
-    fn refused(number: u8, place: Entry) -> Row
-        ensures { λ r. ⌜ r ≡ refusedRow number place ⌝ }
+    // 8, 9 and 10 have a place to say.
+    fn place_entry(said: Said) -> Entry
+        ensures { λ r. ⌜ r ≡ placeEntry said ⌝ }
     {
+        if 8 <= said.number && said.number <= 10 {
+            return Entry::Number(said.place);
+        }
+        Entry::Dash
+    }
+
+    fn of_refusal(refusal: Refusal) -> Row
+        ensures { λ r. ⌜ r ≡ refusedRow (says refusal .number) (placeEntry (says refusal)) ⌝ }
+    {
+        let said = refusal.says();
+        let place = Row::place_entry(said);
         Row {
-            answer: number,
+            answer: said.number,
             place: place,
             category: Entry::Dash,
             slots: Entry::Dash,
         }
     }
 
-    fn of_refusal(refusal: Refusal) -> Row
-        ensures { λ r. ⌜ r ≡ refusedRow (says refusal .number) (placeEntry (says refusal)) ⌝ }
-    {
-        match refusal {
-            Refusal::Length => Row::refused(1, Entry::Dash),
-            Refusal::Padding => Row::refused(2, Entry::Dash),
-            Refusal::Preamble => Row::refused(3, Entry::Dash),
-            Refusal::Parity => Row::refused(4, Entry::Dash),
-            Refusal::Message => Row::refused(5, Entry::Dash),
-            Refusal::Version => Row::refused(6, Entry::Dash),
-            Refusal::Category => Row::refused(7, Entry::Dash),
-            Refusal::Range(place) => Row::refused(8, Entry::Number(place)),
-            Refusal::Spare(place) => Row::refused(9, Entry::Number(place)),
-            Refusal::Gap(place) => Row::refused(10, Entry::Number(place)),
-            Refusal::Unused => Row::refused(11, Entry::Dash),
-            Refusal::NoPage => Row::refused(12, Entry::Dash),
-            Refusal::OtherBulletin => Row::refused(13, Entry::Dash),
-            Refusal::Unsound => Row::refused(14, Entry::Dash),
-            Refusal::NotHeld { page: _, mark: _ } => Row::refused(15, Entry::Dash),
-            Refusal::Short => Row::refused(16, Entry::Dash),
-            Refusal::Line => Row::refused(17, Entry::Dash),
-        }
-    }
-
     // A category without slots has nothing to say of them.
     fn slots_entry(kind: SlotKind, found: Record) -> Entry
-        ensures { λ r. ⌜ r ≡ slotsEntry kind (usedOf found) ⌝ }
+        ensures { λ r. ⌜ r ≡ slotsEntry (slotTable kind) (usedOf found) ⌝ }
     {
-        match kind {
-            SlotKind::NoSlots => Entry::Dash,
-            SlotKind::Prefectures => Entry::Number(found.slots_used() as u8),
-            SlotKind::Places => Entry::Number(found.slots_used() as u8),
+        if kind.count() == 0 {
+            return Entry::Dash;
         }
+        Entry::Number(found.slots_used() as u8)
     }
 
     fn of_record(found: Record) -> Row

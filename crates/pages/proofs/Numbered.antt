@@ -23,14 +23,14 @@ pub record Numbered (p : PageNumbers) : Type 0 where
   pub high : p .number ≤ p .total
   pub most : p .total ≤ 63
 
-pub past-text : (n a b : ℕ) (text : List ℕ) (p : PageNumbers) → length text ≡ n → Kept b (bytes n a ++ pageRows) (text ++ p .number ∷ p .total ∷ []) → Numbered p
-past-text zero a b [] p l h = record { low = ⊎-elim (λ z. z .0) (λ z. absurd z) (h .0); high = h .1 .0 .0; most = h .1 .0 .1 }
-past-text zero a b (t ∷ text) p l h = absurd (suc-ne-zero (length text) l)
-past-text (suc n) a b [] p l h = absurd (suc-ne-zero n (sym l))
-past-text (suc n) a b (t ∷ text) p l h = past-text n (a + 8) t text p (suc-inj l) (h .1)
+pub past-text : (n a : ℕ) (past : List ℕ) (text : List ℕ) (p : PageNumbers) → length text ≡ n → Kept past (bytes n a ++ pageRows) (text ++ p .number ∷ p .total ∷ []) → Numbered p
+past-text zero a past [] p l h = record { low = ⊎-elim (λ z. z .0) (λ z. absurd z) (h .0); high = h .1 .0 .0; most = h .1 .0 .1 }
+past-text zero a past (t ∷ text) p l h = absurd (suc-ne-zero (length text) l)
+past-text (suc n) a past [] p l h = absurd (suc-ne-zero n (sym l))
+past-text (suc n) a past (t ∷ text) p l h = past-text n (a + 8) (t ∷ past) text p (suc-inj l) (h .1)
 
 pub numbered : (r : Record) (p : PageNumbers) → Shaped r → Valid r → r .body ≡ Nankai p → Numbered p
-unfolding values bodyValues layout
+unfolding values bodyValues
 numbered r p s v e =
-    past-text 18 57 (p .serial) (r .text) p (s .text)
-    (subst (λ (b : Body). Kept 0 (layout b .body) (bodyValues b (r .text))) e (valid-keeps-rules r s v .rows .body) .1)
+    past-text 18 57 (p .serial ∷ 0 ∷ []) (r .text) p (s .text)
+    (subst (λ (b : Body). Kept [] (layout b .front) (bodyValues b (r .text) 0)) e (valid-keeps-rules r s v .rows .front) .1 .1)

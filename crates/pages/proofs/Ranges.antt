@@ -1,4 +1,5 @@
 -- What a name in range tells, and one out of range.
+use mathlib.Core.List.{_∷_, []}
 use mathlib.Core.Path.{_≡_, refl}
 use mathlib.Core.Bool.{true}
 use Prim.Native.Nat.{_≤_}
@@ -24,7 +25,6 @@ is-fine (Refused x) e = absurd (false-not-true e)
 
 -- the name is fine where each value of its first page keeps its row's rule, and nowhere else
 judged : (n : Name) → JudgesAll nankai (values (firstPageOf n) 0 0)
-unfolding layout
 judged n = judged-record (firstPageOf n) refl
 
 pub fine-holds : (n : Name) → nameVerdict n ≡ Fine → Holds nankai (values (firstPageOf n) 0 0)
@@ -43,7 +43,7 @@ first-bad-value n x e = record { there = judged n .found x e; lowest = λ y f. t
 -- its first page is page 1 of a total from 1 to 63
 pub name-numbered : (n : Name) → nameVerdict n ≡ Fine → Numbered (record { serial = n .serial; number = 1; total = n .total })
 unfolding values bodyValues
-name-numbered n h = past-text 18 57 (n .serial) (firstPageOf n .text) _ refl (fine-holds n h .body .1)
+name-numbered n h = past-text 18 57 (n .serial ∷ 0 ∷ []) (firstPageOf n .text) _ refl (fine-holds n h .front .1 .1)
 
 pub total-most : (n : Name) → nameVerdict n ≡ Fine → n .total ≤ 63
 total-most n h = name-numbered n h .most

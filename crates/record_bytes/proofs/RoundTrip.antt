@@ -50,7 +50,7 @@ four-back v h = decoded-then-encoded (8 ∷ 8 ∷ 8 ∷ 8 ∷ []) v ∙ mod-eq-o
 -- ---- 9 to 30
 
 body-back : (r : Record) (b : Body) (rest : List ℕ) → BodyFits b → bodyOfCode (headBytes r ++ zeroFilled 22 (bodyBytes b) ++ rest) (layout b .code) ≡ b
-unfolding bodyOfCode bodyBytes layout
+unfolding bodyOfCode bodyBytes
 body-back r NoCategory rest h = refl
 body-back r (Hypocenter q) rest h =
     ap Hypocenter λ i. record {

@@ -14,7 +14,8 @@ use Rattle.slots.specs.declared.kind.SlotKind.the-variants.{Prefectures}
 use Rattle.ash_fall.specs.declared.meaning.Prefecture.{Prefecture}
 use Rattle.ash_fall.specs.declared.meaning.Prefecture.the-variants.{Number, Nowhere}
 use Rattle.ash_fall.specs.Meaning.{prefectureOf}
-use Rattle.rows.specs.Refusals.{Said, plain, at, answers}
+use Rattle.rows.specs.declared.refusal.Said.{Said}
+use Rattle.rows.specs.Refusals.{plain, at, answers}
 use Rattle.rows.specs.Runs.Questions.{_then_, unless}
 use Rattle.rows.specs.Layout.{Row}
 use Rattle.report.specs.Layout.{layout}

@@ -10,8 +10,9 @@ use crate::record::Record;
 use rows::refusal::Refusal;
 use rows::refusal::Verdict;
 
-// What writing answers, by the buffer's length. The spares are not in a record: they are zero.
-fn answer(r: Record, size: usize) -> Verdict
+// What writing a record to a buffer of this size answers. The spares are not in a record: they are
+// zero.
+pub fn write_answer(r: Record, size: usize) -> Verdict
     ensures { λ v. ⌜ v ≡ writeAnswer r size ⌝ }
 {
     let body = r.body;
@@ -28,7 +29,7 @@ fn answer(r: Record, size: usize) -> Verdict
 pub fn write(r: Record, frame: &mut [u8]) -> Verdict
     ensures { λ v. ⌜ (v ≡ writeAnswer r (length (now (frame .entry)))) × (now (frame .exit) ≡ writeOf r (now (frame .entry))) ⌝ }
 {
-    let found = answer(r, frame.len());
+    let found = write_answer(r, frame.len());
     match found {
         Verdict::Fine => {
             bits::copy_to(encode(r), frame);

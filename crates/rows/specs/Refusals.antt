@@ -2,16 +2,11 @@
 use Prim.Native.Nat.{ℕ}
 use Rattle.rows.specs.declared.refusal.Refusal.{Refusal}
 use Rattle.rows.specs.declared.refusal.Refusal.the-variants.{Length, Padding, Preamble, Parity, Message, Version, Category, Range, Spare, Gap, Unused, NoPage, OtherBulletin, Unsound, NotHeld, Short, Line}
+use Rattle.rows.specs.declared.refusal.Said.{Said}
 use Rattle.rows.specs.declared.refusal.Verdict.{Verdict}
 use Rattle.rows.specs.declared.refusal.Verdict.the-variants.{Fine, Refused}
 
 -- what the paper says of a refusal: "A place, page or mark that the refusal's row does not name is zero"
-pub record Said : Type 0 where
-  pub number : ℕ
-  pub place : ℕ
-  pub page : ℕ
-  pub mark : ℕ
-
 abbrev pub plain : ℕ → Said
 plain n = record { number = n; place = 0; page = 0; mark = 0 }
 

@@ -9,8 +9,8 @@ Eruption-of-is-settled κs a x y = answer
 pub Eruption-check-is-settled : Settled ash_fall.Eruption.check.ended ash_fall.Eruption.check.Reads.Post
 Eruption-check-is-settled κs a x y = answer
 
-pub Eruption-lay-is-settled : Settled ash_fall.Eruption.lay.ended ash_fall.Eruption.lay.Reads.Post
-Eruption-lay-is-settled κs a x y = answer
+pub Eruption-values-is-settled : Settled ash_fall.Eruption.values.ended ash_fall.Eruption.values.Reads.Post
+Eruption-values-is-settled κs a x y = answer
 
 pub Prefecture-of-is-settled : Settled ash_fall.meaning.Prefecture.of.ended ash_fall.meaning.Prefecture.of.Reads.Post
 Prefecture-of-is-settled κs a x y = answer

@@ -29,3 +29,6 @@ frame-of-is-settled κs a x y = answer
 
 pub copy-to-is-settled : Settled bits.copy_to.ended bits.copy_to.Reads.Post
 copy-to-is-settled κs a x y = buffer second
+
+pub lay-is-settled : Settled bits.lay.ended bits.lay.Reads.Post
+lay-is-settled κs a x y = answer

@@ -9,8 +9,8 @@ Quake-of-is-settled κs a x y = answer
 pub Quake-check-is-settled : Settled hypocenter.Quake.check.ended hypocenter.Quake.check.Reads.Post
 Quake-check-is-settled κs a x y = answer
 
-pub Quake-lay-is-settled : Settled hypocenter.Quake.lay.ended hypocenter.Quake.lay.Reads.Post
-Quake-lay-is-settled κs a x y = answer
+pub Quake-values-is-settled : Settled hypocenter.Quake.values.ended hypocenter.Quake.values.Reads.Post
+Quake-values-is-settled κs a x y = answer
 
 pub Depth-of-is-settled : Settled hypocenter.meaning.Depth.of.ended hypocenter.meaning.Depth.of.Reads.Post
 Depth-of-is-settled κs a x y = answer

@@ -9,5 +9,5 @@ Shaking-of-is-settled κs a x y = answer
 pub Shaking-check-is-settled : Settled intensity.Shaking.check.ended intensity.Shaking.check.Reads.Post
 Shaking-check-is-settled κs a x y = answer
 
-pub Shaking-lay-is-settled : Settled intensity.Shaking.lay.ended intensity.Shaking.lay.Reads.Post
-Shaking-lay-is-settled κs a x y = answer
+pub Shaking-values-is-settled : Settled intensity.Shaking.values.ended intensity.Shaking.values.Reads.Post
+Shaking-values-is-settled κs a x y = answer

@@ -21,5 +21,8 @@ check-is-settled κs a x y = answer
 pub read-is-settled : Settled report.read.read.ended report.read.read.Reads.Post
 read-is-settled κs a x y = answer
 
+pub write-answer-is-settled : Settled report.write.write_answer.ended report.write.write_answer.Reads.Post
+write-answer-is-settled κs a x y = answer
+
 pub write-is-settled : Settled report.write.write.ended report.write.write.Reads.Post
 write-is-settled κs a x y = both second

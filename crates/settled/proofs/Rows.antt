@@ -3,6 +3,9 @@ use Rattle.rows.proofs as rows
 use Rattle.settled.specs.Settled.{Settled}
 use Rattle.settled.proofs.Law.{answer}
 
+pub Refusal-says-is-settled : Settled rows.refusal.Refusal.says.ended rows.refusal.Refusal.says.Reads.Post
+Refusal-says-is-settled κs a x y = answer
+
 pub Verdict-unless-is-settled : Settled rows.refusal.Verdict.unless.ended rows.refusal.Verdict.unless.Reads.Post
 Verdict-unless-is-settled κs a x y = answer
 
@@ -18,20 +21,5 @@ Verdict-then-is-settled κs a x y = answer
 pub Verdict-time-is-settled : Settled rows.refusal.Verdict.time.ended rows.refusal.Verdict.time.Reads.Post
 Verdict-time-is-settled κs a x y = answer
 
-pub SlotKind-count-is-settled : Settled rows.slot.SlotKind.count.ended rows.slot.SlotKind.count.Reads.Post
-SlotKind-count-is-settled κs a x y = answer
-
-pub SlotKind-first-is-settled : Settled rows.slot.SlotKind.first.ended rows.slot.SlotKind.first.Reads.Post
-SlotKind-first-is-settled κs a x y = answer
-
-pub SlotKind-bits-is-settled : Settled rows.slot.SlotKind.bits.ended rows.slot.SlotKind.bits.Reads.Post
-SlotKind-bits-is-settled κs a x y = answer
-
-pub SlotKind-of-slot-is-settled : Settled rows.slot.SlotKind.of_slot.ended rows.slot.SlotKind.of_slot.Reads.Post
-SlotKind-of-slot-is-settled κs a x y = answer
-
 pub Time-at-is-settled : Settled rows.time.Time.at.ended rows.time.Time.at.Reads.Post
 Time-at-is-settled κs a x y = answer
-
-pub Time-lay-is-settled : Settled rows.time.Time.lay.ended rows.time.Time.lay.Reads.Post
-Time-lay-is-settled κs a x y = answer

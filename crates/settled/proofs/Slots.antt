@@ -17,3 +17,15 @@ used-is-settled κs a x y = answer
 
 pub are-tidy-is-settled : Settled slots.silence.are_tidy.ended slots.silence.are_tidy.Reads.Post
 are-tidy-is-settled κs a x y = answer
+
+pub SlotKind-count-is-settled : Settled slots.kind.SlotKind.count.ended slots.kind.SlotKind.count.Reads.Post
+SlotKind-count-is-settled κs a x y = answer
+
+pub SlotKind-first-is-settled : Settled slots.kind.SlotKind.first.ended slots.kind.SlotKind.first.Reads.Post
+SlotKind-first-is-settled κs a x y = answer
+
+pub SlotKind-bits-is-settled : Settled slots.kind.SlotKind.bits.ended slots.kind.SlotKind.bits.Reads.Post
+SlotKind-bits-is-settled κs a x y = answer
+
+pub SlotKind-of-slot-is-settled : Settled slots.kind.SlotKind.of_slot.ended slots.kind.SlotKind.of_slot.Reads.Post
+SlotKind-of-slot-is-settled κs a x y = answer

@@ -35,7 +35,6 @@ no-slots i = ⊎-elim (λ h. getD-replicate 16 i noSlot noSlot h) (λ h. List·g
 
 module _ (n : Name) (range : InRange n) (p : ℕ) (t : Text) (low : 1 ≤ p) (high : p ≤ n .total) (is : Bytes18 t) where
   keeps : KeepsRules (recordOf n p t)
-  unfolding layout
   keeps = record {
     preamble = inl (omega arith, omega arith);
     category = λ e. no-nankai e;
@@ -67,16 +66,16 @@ module _ (n : Name) (range : InRange n) (p : ℕ) (t : Text) (low : 1 ≤ p) (hi
 
 -- ---- what a frame brings
 
-kept-bytes : (k a before : ℕ) (t : Text) (rows : List Row) (more : List ℕ) → length t ≡ k → Kept before (bytes k a ++ rows) (t ++ more) → (j : ℕ) → getD t j 0 < 256
-kept-bytes zero a before [] rows more l h j = omega arith
-kept-bytes zero a before (x ∷ t) rows more l h j = absurd (suc-ne-zero (length t) l)
-kept-bytes (suc k) a before [] rows more l h j = absurd (suc-ne-zero k (sym l))
-kept-bytes (suc k) a before (x ∷ t) rows more l h zero = ⊎-elim (λ z. omega arith) (λ z. absurd z) (h .0)
-kept-bytes (suc k) a before (x ∷ t) rows more l h (suc j) = kept-bytes k (a + 8) x t rows more (suc-inj l) (h .1) j
+kept-bytes : (k a : ℕ) (past : List ℕ) (t : Text) (rows : List Row) (more : List ℕ) → length t ≡ k → Kept past (bytes k a ++ rows) (t ++ more) → (j : ℕ) → getD t j 0 < 256
+kept-bytes zero a past [] rows more l h j = omega arith
+kept-bytes zero a past (x ∷ t) rows more l h j = absurd (suc-ne-zero (length t) l)
+kept-bytes (suc k) a past [] rows more l h j = absurd (suc-ne-zero k (sym l))
+kept-bytes (suc k) a past (x ∷ t) rows more l h zero = ⊎-elim (λ z. omega arith) (λ z. absurd z) (h .0)
+kept-bytes (suc k) a past (x ∷ t) rows more l h (suc j) = kept-bytes k (a + 8) (x ∷ past) t rows more (suc-inj l) (h .1) j
 
 pub brings-bytes : (n : Name) (f : Frame) (p : ℕ) (t : Text) → Brings n (f .came) p t → Bytes18 t
-unfolding values bodyValues layout
+unfolding values bodyValues
 brings-bytes n f p t b =
     let r = f .came in
-    let kept = subst (λ (x : Body). Kept 0 (layout x .body) (bodyValues x (r .text))) (b .body) (valid-keeps-rules r (record { slots = f .slots; text = f .text }) (b .valid) .rows .body) in
-    subst Bytes18 (b .text) (record { long = f .text; bytes = kept-bytes 18 57 (n .serial) (r .text) pageRows (p ∷ n .total ∷ []) (f .text) (kept .1) })
+    let kept = subst (λ (x : Body). Kept [] (layout x .front) (bodyValues x (r .text) 0)) (b .body) (valid-keeps-rules r (record { slots = f .slots; text = f .text }) (b .valid) .rows .front) in
+    subst Bytes18 (b .text) (record { long = f .text; bytes = kept-bytes 18 57 (n .serial ∷ 0 ∷ []) (r .text) pageRows (p ∷ n .total ∷ []) (f .text) (kept .1 .1) })

@@ -46,13 +46,13 @@ only : (v : ℕ) → In (v to v ∷ []) v
 only v = inl (omega arith, omega arith)
 
 -- any bytes, and behind them the page number and the total
-kept-page : (k a before : ℕ) (t : Text) (p total : ℕ) → length t ≡ k → ((j : ℕ) → getD t j 0 < 256) → 1 ≤ p → p ≤ total → total ≤ 63
-    → Kept before (bytes k a ++ pageRows) (t ++ p ∷ total ∷ [])
-kept-page zero a before [] p total l b low high most = (inl (low, omega arith), ((high, most), tt))
-kept-page zero a before (x ∷ t) p total l b low high most = absurd (suc-ne-zero (length t) l)
-kept-page (suc k) a before [] p total l b low high most = absurd (suc-ne-zero k (sym l))
-kept-page (suc k) a before (x ∷ t) p total l b low high most =
-    (inl (omega arith, omega (arith, b 0)), kept-page k (a + 8) x t p total (suc-inj l) (λ j. b (suc j)) low high most)
+kept-page : (k a : ℕ) (past : List ℕ) (t : Text) (p total : ℕ) → length t ≡ k → ((j : ℕ) → getD t j 0 < 256) → 1 ≤ p → p ≤ total → total ≤ 63
+    → Kept past (bytes k a ++ pageRows) (t ++ p ∷ total ∷ [])
+kept-page zero a past [] p total l b low high most = (inl (low, omega arith), ((high, most), tt))
+kept-page zero a past (x ∷ t) p total l b low high most = absurd (suc-ne-zero (length t) l)
+kept-page (suc k) a past [] p total l b low high most = absurd (suc-ne-zero k (sym l))
+kept-page (suc k) a past (x ∷ t) p total l b low high most =
+    (inl (omega arith, omega (arith, b 0)), kept-page k (a + 8) (x ∷ past) t p total (suc-inj l) (λ j. b (suc j)) low high most)
 
 -- ---- the record of a page
 
@@ -69,7 +69,7 @@ pageRecord preamble n p slots t = record {
 
 pub page-holds : (preamble : ℕ) (n : Name) (p : ℕ) (slots : List Slot) (t : Text) → InRange n → 1 ≤ p → p ≤ n .total → Bytes18 t
     → Holds nankai (values (pageRecord preamble n p slots t) 0 0)
-unfolding values bodyValues layout
+unfolding values bodyValues
 page-holds preamble n p slots t range low high is = record {
   head = (
     only 43,
@@ -85,7 +85,7 @@ page-holds preamble n p slots t range low high is = record {
               inl (omega arith, range .hour),
               (
                 inl (omega arith, range .minute),
-                (codes-two 0 2 (n .common .it) (range .it), (refl, tt)),
+                (codes-two 0 2 (n .common .it) (range .it), tt),
               ),
             ),
           ),
@@ -93,7 +93,8 @@ page-holds preamble n p slots t range low high is = record {
       ),
     ),
   );
-  body = (inl (range .serial), kept-page 18 57 (n .serial) t p (n .total) (is .long) (is .bytes) low high (range .total .1));
+  front = (refl, (inl (range .serial), kept-page 18 57 (n .serial ∷ 0 ∷ []) t p (n .total) (is .long) (is .bytes) low high (range .total .1)));
   slots = tt;
-  last = (refl, (only 1, (inl (omega arith, omega arith), tt)));
+  behind = (refl, tt);
+  last = (only 1, (inl (omega arith, omega arith), tt));
 }

@@ -1,4 +1,5 @@
 -- A name is opened exactly where each of its values is in its range.
+use mathlib.Core.List.{_∷_, []}
 use mathlib.Core.Path.{_≡_, refl}
 use native.Mathlib.Omega.{arith}
 use lib.ListN.{replicate}
@@ -14,14 +15,14 @@ use Rattle.histories.specs.Soundness.{InRange}
 use Rattle.histories.proofs.Soundness.KeptRules.{all-alike, one-span, two-codes, page-holds}
 
 pub fine-in-range : (n : Name) → nameVerdict n ≡ Fine → InRange n
-unfolding values bodyValues layout
+unfolding values bodyValues
 fine-in-range n e =
     let c = n .common in
     let holds = fine-holds n e in
     let from-rc = holds .head .1 in
     let from-month = from-rc .1 .1 in
     let from-hour = from-month .1 .1 in
-    let numbers = past-text 18 57 (n .serial) (firstPageOf n .text) (record { serial = n .serial; number = 1; total = n .total }) refl (holds .body .1) in
+    let numbers = past-text 18 57 (n .serial ∷ 0 ∷ []) (firstPageOf n .text) (record { serial = n .serial; number = 1; total = n .total }) refl (holds .front .1 .1) in
     record {
       rc = two-codes 2 7 (c .rc) (from-rc .0);
       month = one-span 1 12 (c .month) (from-month .0);
@@ -29,7 +30,7 @@ fine-in-range n e =
       hour = one-span 0 23 (c .hour) (from-hour .0) .1;
       minute = one-span 0 59 (c .minute) (from-hour .1 .0) .1;
       it = two-codes 0 2 (c .it) (from-hour .1 .1 .0);
-      serial = one-span 1 15 (n .serial) (holds .body .0);
+      serial = one-span 1 15 (n .serial) (holds .front .1 .0);
       total = (numbers .high, numbers .most);
     }
 

@@ -1,4 +1,5 @@
 -- Something behind what the category has is refused, in its turn.
+use Rattle.report.proofs.Tables.Lengths.{kind-table}
 use mathlib.Core.Path.{_≡_, refl, ap, _∙_}
 use mathlib.Core.Bool.{Bool, true, false, _&&_}
 use Prim.Native.Nat.{ℕ, zero, suc, _+_, _*_, _≤_}
@@ -9,15 +10,14 @@ use Rattle.rows.specs.declared.refusal.Verdict.the-variants.{Refused}
 use Rattle.rows.specs.declared.refusal.Refusal.the-variants.{Unused}
 use Rattle.report.specs.declared.record.Body.{Body}
 use Rattle.slots.specs.declared.slot.Slot.{Slot}
-use Rattle.rows.specs.declared.slot.SlotKind.{SlotKind}
-use Rattle.rows.specs.declared.slot.SlotKind.the-variants.{NoSlots, Prefectures, Places}
+use Rattle.slots.specs.declared.kind.SlotKind.{SlotKind}
+use Rattle.slots.specs.declared.kind.SlotKind.the-variants.{NoSlots, Prefectures, Places}
 use Rattle.rows.specs.Runs.Questions.{_then_, unless}
-use Rattle.report.specs.Layout.{layout, preambles}
-use Rattle.rows.specs.Layout.{slotCount}
+use Rattle.report.specs.Layout.{layout, preambles, slotKind}
 use Rattle.rows.specs.Runs.Verdict.{allowed, empty}
 use Rattle.rows.specs.Values.{each}
 use Rattle.report.specs.Runs.Writing.{known, tidyText, tidy, writeAnswer}
-use Rattle.slots.specs.Slots.{unused, tidySlots}
+use Rattle.slots.specs.Slots.{unused, tidySlots, slotTable}
 use Rattle.record_bytes.specs.Unpacked.{slotAt, bodyFrom, stray, slotsFrom, misplaced, slotsOrMisplaced, textFrom, unpackedAs, unpacked}
 
 and-false : (a b : Bool) → b ≡ false → a && b ≡ false
@@ -40,7 +40,7 @@ among-prefectures (suc n) [] = refl
 among-prefectures zero (s ∷ ss) = and-false (empty (unused NoSlots s)) (tidySlots Prefectures zero (ss ++ misplaced ∷ [])) (among-prefectures zero ss)
 among-prefectures (suc n) (s ∷ ss) = and-false (empty (unused Prefectures s)) (tidySlots Prefectures n (ss ++ misplaced ∷ [])) (among-prefectures n ss)
 
-by-kind : (k : SlotKind) (ss : List Slot) → length ss ≡ 15 → tidySlots k (slotCount k) (ss ++ misplaced ∷ []) ≡ false
+by-kind : (k : SlotKind) (ss : List Slot) → length ss ≡ 15 → tidySlots k (slotTable k .count) (ss ++ misplaced ∷ []) ≡ false
 by-kind NoSlots ss h = behind-slots NoSlots 0 ss (omega arith)
 by-kind Prefectures ss h = among-prefectures 16 ss
 by-kind Places ss h = behind-slots Places 4 ss (omega (arith, h))
@@ -48,11 +48,11 @@ by-kind Places ss h = behind-slots Places 4 ss (omega (arith, h))
 untidy : (l : List ℕ) (b : Body) → stray b l ≡ true → tidy (unpackedAs l b) ≡ false
 unfolding unpackedAs
 untidy l b e =
-    let k : SlotKind = layout b .slots in
+    let k : SlotKind = slotKind b in
     let ss : List Slot = each 15 (λ i. slotAt l (31 + 6 * i)) in
     let last : slotsOrMisplaced (stray b l) (slotsFrom l) ≡ ss ++ misplaced ∷ [] = ap (λ (x : Bool). slotsOrMisplaced x (slotsFrom l)) e in
-    ap (λ (x : List Slot). tidySlots k (slotCount k) x && tidyText b (textFrom l)) last
-    ∙ ap (λ (x : Bool). x && tidyText b (textFrom l)) (by-kind k ss refl)
+    ap (λ (x : List Slot). tidySlots k (layout b .slots .count) x && tidyText b (textFrom l)) last
+    ∙ ap (λ (x : Bool). x && tidyText b (textFrom l)) (rw (kind-table b) at (by-kind k ss refl))
 
 pub stray-refused : (l : List ℕ) → stray (bodyFrom l) l ≡ true → allowed preambles (getD l 1 0) ≡ true → known (bodyFrom l) ≡ true → writeAnswer (unpacked l) 32 ≡ Refused Unused
 unfolding writeAnswer unpackedAs unless _then_

@@ -9,7 +9,8 @@ use Rattle.rows.specs.declared.refusal.Verdict.{Verdict}
 use Rattle.rows.specs.declared.refusal.Verdict.the-variants.{Fine, Refused}
 use Rattle.rows.specs.declared.refusal.Refusal.{Refusal}
 use Rattle.rows.specs.declared.refusal.Refusal.the-variants.{Length, Padding, Preamble, Parity, Message, Version, Category, Range, Spare, Gap, Unused, NoPage, OtherBulletin, Unsound, NotHeld, Short, Line}
-use Rattle.rows.specs.Refusals.{Said, says, answers}
+use Rattle.rows.specs.declared.refusal.Said.{Said}
+use Rattle.rows.specs.Refusals.{says, answers}
 use Rattle.rows.specs.Runs.Questions.{_then_, unless}
 use Rattle.rows.specs.Layout.{Rule, among, rising, spare, Row, Layout, common, ending, slotRows, Slots}
 use Rattle.rows.specs.Values.{Values}

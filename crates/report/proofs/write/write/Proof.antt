@@ -6,8 +6,8 @@ use mathlib.Core.Path.{sym, _∙_}
 use Rattle.report.proofs.write.write.Statement.{statement}
 use Rattle.report.proofs.write.write.Tie as tie
 
-answer-requires : tie.Need-answer-requires
-answer-requires c κs = search needs
+write-answer-requires : tie.Need-write-answer-requires
+write-answer-requires c κs = search needs
 
 enum-told : tie.Need-enum-told
 enum-told c = search needs
@@ -15,7 +15,7 @@ enum-told c = search needs
 encode-requires : tie.Need-encode-requires
 encode-requires c κs =
     let a = c .before .before in
-    fine-valid (a .before .before .args .r) _ (a .answer .result) (a .answer .ensures) (c .enum-told .given .1)
+    fine-valid (a .before .before .args .r) _ (a .write-answer .result) (a .write-answer .ensures) (c .enum-told .given .1)
 
 copy-to-requires : tie.Need-copy-to-requires
 copy-to-requires c κs = search needs
@@ -33,20 +33,20 @@ returns c =
     let k = n .before in
     let a = k .before .before in
     let s = a .before .before in
-    let size = fine-size (s .args .r) _ (sym (a .answer .ensures) ∙ k .enum-told .given .1) in
-    written-out (s .args .r) (s .args .frame .now) _ (a .answer .result) (a .answer .ensures) (k .enum-told .given .1) (p .copy-to .ensures ∙ right-size (s .args .frame .now) _ _ size ∙ n .encode .ensures)
+    let size = fine-size (s .args .r) _ (sym (a .write-answer .ensures) ∙ k .enum-told .given .1) in
+    written-out (s .args .r) (s .args .frame .now) _ (a .write-answer .result) (a .write-answer .ensures) (k .enum-told .given .1) (p .copy-to .ensures ∙ right-size (s .args .frame .now) _ _ size ∙ n .encode .ensures)
 
 returns-2 : tie.Need-returns-2
 returns-2 c =
     let a = c .before .before in
     let s = a .before .before in
-    left-alone (s .args .r) (s .args .frame .now) (a .answer .result) _ (a .answer .ensures) (c .enum-told2 .given .1)
+    left-alone (s .args .r) (s .args .frame .now) (a .write-answer .result) _ (a .write-answer .ensures) (c .enum-told2 .given .1)
 
 pub write-spec : {M : Type 1} → statement M
 write-spec =
     tie.close
     (tie.spec
-    answer-requires
+    write-answer-requires
     enum-told
     encode-requires
     copy-to-requires

@@ -32,8 +32,8 @@ returns c = let e = c .before in
     let s = e .before .before in
     taken-refused _ _ (s .soundness .result) _ _ (e .enum-told2 .given .1) (c .refused .ensures) (unsound-store _ _ _ _ (s .soundness .ensures) (e .enum-told2 .given .1))
 
-writing-requires : tie.Need-writing-requires
-writing-requires c κs = search needs
+write-answer-requires : tie.Need-write-answer-requires
+write-answer-requires c κs = search needs
 
 enum-told-3 : tie.Need-enum-told-3
 enum-told-3 c = search needs
@@ -49,7 +49,7 @@ returns-2 c = let e = c .before in
     let w = e .before .before in
     let f = w .before in
     let sound = sound-store _ _ (f .before .before .soundness .ensures) (f .enum-told .given .1) in
-    taken-refused _ _ (w .writing .result) _ _ (e .enum-told4 .given .1) (c .refused2 .ensures) (unwritable _ _ _ _ sound (w .writing .ensures) (e .enum-told4 .given .1))
+    taken-refused _ _ (w .write-answer .result) _ _ (e .enum-told4 .given .1) (c .refused2 .ensures) (unwritable _ _ _ _ sound (w .write-answer .ensures) (e .enum-told4 .given .1))
 
 admit-requires : tie.Need-admit-requires
 admit-requires c κs = search needs
@@ -72,7 +72,7 @@ admitted c = let f = c .before in
     let w = f .before .before in
     let g = w .before in
     let sound = sound-store _ _ (g .before .before .soundness .ensures) (g .enum-told .given .1) in
-    c .admit .ensures ∙ writable-record _ _ _ sound (w .writing .ensures) (f .enum-told3 .given .1)
+    c .admit .ensures ∙ writable-record _ _ _ sound (w .write-answer .ensures) (f .enum-told3 .given .1)
 
 returns-3 : tie.Need-returns-3
 returns-3 c = let v = c .before in
@@ -105,7 +105,7 @@ take-spec =
     enum-told-2
     refused-requires
     returns
-    writing-requires
+    write-answer-requires
     enum-told-3
     enum-told-4
     refused-requires-2

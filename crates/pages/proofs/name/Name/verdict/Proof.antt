@@ -16,7 +16,7 @@ check-requires : tie.Need-check-requires
 check-requires c κs = search needs
 
 returns : tie.Need-returns
-unfolding nameVerdict layout
+unfolding nameVerdict
 returns c = c .check .ensures ∙ ap (λ (r : Record). verdict (layout (r .body)) (values r 0 0)) (c .before .first-page .ensures)
 
 pub verdict-spec : {M : Type 1} → statement M

@@ -1,4 +1,4 @@
--- `report::write::answer` meets its contract.
+-- `report::write::write_answer` meets its contract.
 use Rattle.rows.proofs.Rules.Outcomes.{fine-then}
 use Rattle.rows.proofs.Rules.Walks.{asked, link}
 use Rattle.rows.specs.Runs.Questions.{_then_}
@@ -6,8 +6,8 @@ use Rattle.report.specs.Runs.Writing.{writeAnswer}
 use Rattle.rows.specs.declared.refusal.Verdict.{Verdict}
 use borrow.Author.Needs.{needs}
 use mathlib.Core.Path.{ap, _∙_}
-use Rattle.report.proofs.write.answer.Statement.{statement}
-use Rattle.report.proofs.write.answer.Tie as tie
+use Rattle.report.proofs.write.write_answer.Statement.{statement}
+use Rattle.report.proofs.write.write_answer.Tie as tie
 
 unless-requires : tie.Need-unless-requires
 unless-requires c κs = search needs
@@ -46,8 +46,8 @@ returns c =
     (c .then .ensures ∙ ap (λ (v : Verdict). c .before .before .unless4 .result then v) (c .before .check .ensures)))))
     ∙ fine-then _
 
-pub answer-spec : {M : Type 1} → statement M
-answer-spec =
+pub write-answer-spec : {M : Type 1} → statement M
+write-answer-spec =
     tie.close
     (tie.spec
     unless-requires

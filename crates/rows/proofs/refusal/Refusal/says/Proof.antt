@@ -1,0 +1,209 @@
+-- `rows::refusal::Refusal::says` meets its contract.
+use borrow.Author.Needs.{needs}
+use Rattle.rows.proofs.refusal.Refusal.says.Statement.{statement}
+use Rattle.rows.proofs.refusal.Refusal.says.Tie as tie
+
+enum-told : tie.Need-enum-told
+enum-told c = search needs
+
+plain-requires : tie.Need-plain-requires
+plain-requires c κs = search needs
+
+enum-told-2 : tie.Need-enum-told-2
+enum-told-2 c = search needs
+
+plain-requires-2 : tie.Need-plain-requires-2
+plain-requires-2 c κs = search needs
+
+enum-told-3 : tie.Need-enum-told-3
+enum-told-3 c = search needs
+
+plain-requires-3 : tie.Need-plain-requires-3
+plain-requires-3 c κs = search needs
+
+enum-told-4 : tie.Need-enum-told-4
+enum-told-4 c = search needs
+
+plain-requires-4 : tie.Need-plain-requires-4
+plain-requires-4 c κs = search needs
+
+enum-told-5 : tie.Need-enum-told-5
+enum-told-5 c = search needs
+
+plain-requires-5 : tie.Need-plain-requires-5
+plain-requires-5 c κs = search needs
+
+enum-told-6 : tie.Need-enum-told-6
+enum-told-6 c = search needs
+
+plain-requires-6 : tie.Need-plain-requires-6
+plain-requires-6 c κs = search needs
+
+enum-told-7 : tie.Need-enum-told-7
+enum-told-7 c = search needs
+
+plain-requires-7 : tie.Need-plain-requires-7
+plain-requires-7 c κs = search needs
+
+enum-known-self : tie.Need-enum-known-self
+enum-known-self c = search needs
+
+at-requires : tie.Need-at-requires
+at-requires c κs = search needs
+
+enum-known-self-2 : tie.Need-enum-known-self-2
+enum-known-self-2 c = search needs
+
+at-requires-2 : tie.Need-at-requires-2
+at-requires-2 c κs = search needs
+
+enum-known-self-3 : tie.Need-enum-known-self-3
+enum-known-self-3 c = search needs
+
+at-requires-3 : tie.Need-at-requires-3
+at-requires-3 c κs = search needs
+
+enum-told-8 : tie.Need-enum-told-8
+enum-told-8 c = search needs
+
+plain-requires-8 : tie.Need-plain-requires-8
+plain-requires-8 c κs = search needs
+
+enum-told-9 : tie.Need-enum-told-9
+enum-told-9 c = search needs
+
+plain-requires-9 : tie.Need-plain-requires-9
+plain-requires-9 c κs = search needs
+
+enum-told-10 : tie.Need-enum-told-10
+enum-told-10 c = search needs
+
+plain-requires-10 : tie.Need-plain-requires-10
+plain-requires-10 c κs = search needs
+
+enum-told-11 : tie.Need-enum-told-11
+enum-told-11 c = search needs
+
+plain-requires-11 : tie.Need-plain-requires-11
+plain-requires-11 c κs = search needs
+
+enum-known-self-4 : tie.Need-enum-known-self-4
+enum-known-self-4 c = search needs
+
+enum-told-12 : tie.Need-enum-told-12
+enum-told-12 c = search needs
+
+plain-requires-12 : tie.Need-plain-requires-12
+plain-requires-12 c κs = search needs
+
+enum-told-13 : tie.Need-enum-told-13
+enum-told-13 c = search needs
+
+plain-requires-13 : tie.Need-plain-requires-13
+plain-requires-13 c κs = search needs
+
+returns : tie.Need-returns
+returns c = simp (c .before .enum-told .given .1, c .plain .ensures)
+
+returns-2 : tie.Need-returns-2
+returns-2 c = simp (c .before .enum-told2 .given .1, c .plain2 .ensures)
+
+returns-3 : tie.Need-returns-3
+returns-3 c = simp (c .before .enum-told3 .given .1, c .plain3 .ensures)
+
+returns-4 : tie.Need-returns-4
+returns-4 c = simp (c .before .enum-told4 .given .1, c .plain4 .ensures)
+
+returns-5 : tie.Need-returns-5
+returns-5 c = simp (c .before .enum-told5 .given .1, c .plain5 .ensures)
+
+returns-6 : tie.Need-returns-6
+returns-6 c = simp (c .before .enum-told6 .given .1, c .plain6 .ensures)
+
+returns-7 : tie.Need-returns-7
+returns-7 c = simp (c .before .enum-told7 .given .1, c .plain7 .ensures)
+
+returns-8 : tie.Need-returns-8
+returns-8 c = simp (c .before .before .self .given .1, c .at .ensures)
+
+returns-9 : tie.Need-returns-9
+returns-9 c = simp (c .before .before .self2 .given .1, c .at2 .ensures)
+
+returns-10 : tie.Need-returns-10
+returns-10 c = simp (c .before .before .self3 .given .1, c .at3 .ensures)
+
+returns-11 : tie.Need-returns-11
+returns-11 c = simp (c .before .enum-told8 .given .1, c .plain8 .ensures)
+
+returns-12 : tie.Need-returns-12
+returns-12 c = simp (c .before .enum-told9 .given .1, c .plain9 .ensures)
+
+returns-13 : tie.Need-returns-13
+returns-13 c = simp (c .before .enum-told10 .given .1, c .plain10 .ensures)
+
+returns-14 : tie.Need-returns-14
+returns-14 c = simp (c .before .enum-told11 .given .1, c .plain11 .ensures)
+
+returns-15 : tie.Need-returns-15
+returns-15 c = simp (c .before .self4 .given .1)
+
+returns-16 : tie.Need-returns-16
+returns-16 c = simp (c .before .enum-told12 .given .1, c .plain12 .ensures)
+
+returns-17 : tie.Need-returns-17
+returns-17 c = simp (c .before .enum-told13 .given .1, c .plain13 .ensures)
+
+pub says-spec : {M : Type 1} → statement M
+says-spec =
+    tie.close
+    (tie.spec
+    enum-told
+    plain-requires
+    enum-told-2
+    plain-requires-2
+    enum-told-3
+    plain-requires-3
+    enum-told-4
+    plain-requires-4
+    enum-told-5
+    plain-requires-5
+    enum-told-6
+    plain-requires-6
+    enum-told-7
+    plain-requires-7
+    enum-known-self
+    at-requires
+    enum-known-self-2
+    at-requires-2
+    enum-known-self-3
+    at-requires-3
+    enum-told-8
+    plain-requires-8
+    enum-told-9
+    plain-requires-9
+    enum-told-10
+    plain-requires-10
+    enum-told-11
+    plain-requires-11
+    enum-known-self-4
+    enum-told-12
+    plain-requires-12
+    enum-told-13
+    plain-requires-13
+    returns
+    returns-2
+    returns-3
+    returns-4
+    returns-5
+    returns-6
+    returns-7
+    returns-8
+    returns-9
+    returns-10
+    returns-11
+    returns-12
+    returns-13
+    returns-14
+    returns-15
+    returns-16
+    returns-17)
