@@ -13,7 +13,6 @@ use crate::angle::Angle;
 use crate::codes::is_depth;
 use crate::codes::is_magnitude;
 use crate::codes::is_notification;
-use rows::refusal::Refusal;
 use rows::refusal::Verdict;
 use rows::time::Time;
 
@@ -60,12 +59,12 @@ impl Quake {
         let longitude = self.longitude;
         let front = found
             .spare(43, spare)
-            .unless(is_notification(self.notification1), Refusal::Range(53))
-            .unless(is_notification(self.notification2), Refusal::Range(62))
-            .unless(is_notification(self.notification3), Refusal::Range(71))
+            .ranged(53, is_notification(self.notification1))
+            .ranged(62, is_notification(self.notification2))
+            .ranged(71, is_notification(self.notification3))
             .time(80, time)
-            .unless(is_depth(self.depth), Refusal::Range(96))
-            .unless(is_magnitude(self.magnitude), Refusal::Range(105))
+            .ranged(96, is_depth(self.depth))
+            .ranged(105, is_magnitude(self.magnitude))
             .within(112, self.epicenter as u32, 11, 1000);
         longitude.check(latitude.check(front, 122, 7, 89), 142, 8, 179)
     }

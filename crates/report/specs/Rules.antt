@@ -29,7 +29,5 @@ pub record Tidy (r : Record) : Type 0 where
 pub record KeepsRules (r : Record) : Type 0 where
   pub preamble : In preambles (r .preamble)
   pub category : r .body ≡ NoCategory → ⊥
-  pub slots : (i : ℕ) → i < layout (r .body) .slots .count → Empty (unused (slotKind (r .body)) (getD (r .slots) i noSlot))
-  pub others : (i : ℕ) → layout (r .body) .slots .count ≤ i → Empty (unused NoSlots (getD (r .slots) i noSlot))
-  pub text : TextUnused (r .body) (r .text)
+  pub tidy : Tidy r
   pub rows : Holds (layout (r .body)) (values r 0 0)

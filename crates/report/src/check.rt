@@ -12,7 +12,6 @@ ghost use Rattle.report.specs.Runs.Steps.{bodyVerdict};
 use crate::record::Body;
 use crate::record::Common;
 use crate::record::Record;
-use rows::refusal::Refusal;
 use rows::refusal::Verdict;
 use slots::check::check_slots;
 
@@ -34,12 +33,12 @@ fn common(found: Verdict, c: Common, b: Body) -> Verdict
     ensures { λ r. ⌜ r ≡ found then walk [] (common (layout b)) (headValues c (layout b .code)) ⌝ }
 {
     found
-        .unless(b.has_classification(c.rc), Refusal::Range(14))
+        .ranged(14, b.has_classification(c.rc))
         .within(21, c.month as u32, 1, 12)
         .within(25, c.day as u32, 1, 31)
         .within(30, c.hour as u32, 0, 23)
         .within(35, c.minute as u32, 0, 59)
-        .unless(b.has_type(c.it), Refusal::Range(41))
+        .ranged(41, b.has_type(c.it))
 }
 
 // The rows behind the slots: a spare, where the category has one there.

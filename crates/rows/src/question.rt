@@ -3,6 +3,7 @@ ghost use mathlib.Core.Path.{_≡_};
 ghost use mathlib.Core.Bool.{_&&_};
 ghost use lib.Dec.{leb, eqb};
 ghost use Rattle.rows.specs.Runs.Questions.{_then_, unless};
+ghost use Rattle.rows.specs.Runs.Verdict.{ranged};
 use crate::refusal::Refusal;
 use crate::refusal::Verdict;
 
@@ -28,10 +29,17 @@ impl Verdict {
         }
     }
 
-    pub fn within(self, at: u8, v: u32, lo: u32, hi: u32) -> Verdict
-        ensures { λ r. ⌜ r ≡ self then unless (leb lo v && leb v hi) (Refusal.Range at) ⌝ }
+    // 8, unless the value of the field at this bit is allowed. No other function makes an 8.
+    pub fn ranged(self, at: u8, met: bool) -> Verdict
+        ensures { λ r. ⌜ r ≡ self then ranged met at ⌝ }
     {
-        self.unless(between(v, lo, hi), Refusal::Range(at))
+        self.unless(met, Refusal::Range(at))
+    }
+
+    pub fn within(self, at: u8, v: u32, lo: u32, hi: u32) -> Verdict
+        ensures { λ r. ⌜ r ≡ self then ranged (leb lo v && leb v hi) at ⌝ }
+    {
+        self.ranged(at, between(v, lo, hi))
     }
 
     pub fn spare(self, at: u8, v: u64) -> Verdict

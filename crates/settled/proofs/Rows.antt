@@ -23,3 +23,6 @@ Verdict-time-is-settled κs a x y = answer
 
 pub Time-at-is-settled : Settled rows.time.Time.at.ended rows.time.Time.at.Reads.Post
 Time-at-is-settled κs a x y = answer
+
+pub Verdict-ranged-is-settled : Settled rows.refusal.Verdict.ranged.ended rows.refusal.Verdict.ranged.Reads.Post
+Verdict-ranged-is-settled κs a x y = answer

@@ -38,9 +38,11 @@ module _ (n : Name) (range : InRange n) (p : ℕ) (t : Text) (low : 1 ≤ p) (hi
   keeps = record {
     preamble = inl (omega arith, omega arith);
     category = λ e. no-nankai e;
-    slots = λ i h. absurd (none h);
-    others = λ i h. let e = no-slots i in (ap (λ (x : Slot). x .hour) e, (ap (λ (x : Slot). x .strength) e, (ap (λ (x : Slot). x .place) e, tt)));
-    text = tt;
+    tidy = record {
+      slots = λ i h. absurd (none h);
+      others = λ i h. let e = no-slots i in (ap (λ (x : Slot). x .hour) e, (ap (λ (x : Slot). x .strength) e, (ap (λ (x : Slot). x .place) e, tt)));
+      text = tt;
+    };
     rows = page-holds 0x53 n p (replicate 16 noSlot) t range low high is;
   }
     where

@@ -68,13 +68,10 @@ same-values s c =
 pub frame-keeps : (s : List ℕ) → Conforms s → KeepsRules (recordOf s)
 unfolding recordAs
 frame-keeps s c =
-    let t = is-tidy (recordOf s) (frame-tidy s (bodyOf s)) in
     record {
       preamble = c .preamble;
       category = is-known (bodyOf s) (suits s (fieldOf s 17 4) (c .category) .known);
-      slots = t .slots;
-      others = t .others;
-      text = t .text;
+      tidy = is-tidy (recordOf s) (frame-tidy s (bodyOf s));
       rows = subst (Holds (layoutOf s)) (sym (same-values s c)) (c .rows);
     }
 

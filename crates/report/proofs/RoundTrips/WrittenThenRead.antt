@@ -113,7 +113,7 @@ seen r s h keeps w =
     -- the value i of the head, and of the last fields
     let head : (i : ℕ) → getD (valuesOf s l .head) i 0 ≡ getD (values r 0 0 .head) i 0 = λ i. ap (λ (v : Values). getD (v .head) i 0) e in
     let last : (i : ℕ) → getD (valuesOf s l .last) i 0 ≡ getD (values r 0 0 .last) i 0 = λ i. ap (λ (v : Values). getD (v .last) i 0) e in
-    let t = and-both (tidySlots k n (r .slots)) (tidyText (r .body) (r .text)) (tidy-is r (record { slots = keeps .slots; others = keeps .others; text = keeps .text })) in
+    let t = and-both (tidySlots k n (r .slots)) (tidyText (r .body) (r .text)) (tidy-is r (keeps .tidy)) in
     let slots : slotsOf s k ≡ r .slots =
     same-slots k n (slotsOf s k) (r .slots) (frame-shaped s (r .body) .slots ∙ sym (h .slots)) (rw (kind-table (r .body)) at (frame-slots-tidy s k)) (t .0)
     (body-slots s (r .body) ∙ ap (λ (v : Values). v .slots) e)

@@ -78,18 +78,15 @@ pub valid-keeps : (r : Record) → Shaped r → Valid r → KeepsRules r
 valid-keeps r s e =
     let a = answered r 32 .fine e in
     let m = a .0 in
-    let t = m .1 .1 .1 .0 in
     record {
       preamble = m .1 .0;
       category = m .1 .1 .0;
-      slots = t .slots;
-      others = t .others;
-      text = t .text;
+      tidy = m .1 .1 .1 .0;
       rows = judged-record r (s .slots) .passed (a .1);
     }
 
 pub met : (r : Record) → KeepsRules r → Met (writeQuestions r 32)
-met r k = (refl, (k .preamble, (k .category, (record { slots = k .slots; others = k .others; text = k .text }, tt))))
+met r k = (refl, (k .preamble, (k .category, (k .tidy, tt))))
 
 pub keeps-valid : (r : Record) → Shaped r → KeepsRules r → Valid r
 keeps-valid r s k = answered r 32 .met (met r k) ∙ judged-record r (s .slots) .passes (k .rows)

@@ -18,10 +18,14 @@ unfoldable pub allowed : List Span → ℕ → Bool
 allowed [] v = false
 allowed ((lo to hi) ∷ ss) v = leb lo v && leb v hi || allowed ss v
 
+-- 8 at the bit `at`, unless the value there is allowed
+abbrev pub ranged : Bool → ℕ → Verdict
+ranged met at = unless met (Range at)
+
 -- the value v at the bit `at`, behind the values `past`, the latest first, and before the values `next`
 unfoldable pub judge : Rule → ℕ → List ℕ → ℕ → List ℕ → Verdict
-judge (among ss) at past v next = unless (allowed ss v) (Range at)
-judge (rising hi) at past v next = unless (leb (latest past) v && leb v hi) (Range at)
+judge (among ss) at past v next = ranged (allowed ss v) at
+judge (rising hi) at past v next = ranged (leb (latest past) v && leb v hi) at
 judge spare at past v next = unless (eqb v 0) (Spare at)
 
 -- fields one behind the other; each row has its value (`values-never-run-short`)

@@ -14,20 +14,20 @@ spare-requires c κs = search needs
 is-notification-requires : tie.Need-is-notification-requires
 is-notification-requires c κs = search needs
 
-unless-requires : tie.Need-unless-requires
-unless-requires c κs = search needs
+ranged-requires : tie.Need-ranged-requires
+ranged-requires c κs = search needs
 
 is-notification-requires-2 : tie.Need-is-notification-requires-2
 is-notification-requires-2 c κs = search needs
 
-unless-requires-2 : tie.Need-unless-requires-2
-unless-requires-2 c κs = search needs
+ranged-requires-2 : tie.Need-ranged-requires-2
+ranged-requires-2 c κs = search needs
 
 is-notification-requires-3 : tie.Need-is-notification-requires-3
 is-notification-requires-3 c κs = search needs
 
-unless-requires-3 : tie.Need-unless-requires-3
-unless-requires-3 c κs = search needs
+ranged-requires-3 : tie.Need-ranged-requires-3
+ranged-requires-3 c κs = search needs
 
 time-requires : tie.Need-time-requires
 time-requires c κs = search needs
@@ -35,14 +35,14 @@ time-requires c κs = search needs
 is-depth-requires : tie.Need-is-depth-requires
 is-depth-requires c κs = search needs
 
-unless-requires-4 : tie.Need-unless-requires-4
-unless-requires-4 c κs = search needs
+ranged-requires-4 : tie.Need-ranged-requires-4
+ranged-requires-4 c κs = search needs
 
 is-magnitude-requires : tie.Need-is-magnitude-requires
 is-magnitude-requires c κs = search needs
 
-unless-requires-5 : tie.Need-unless-requires-5
-unless-requires-5 c κs = search needs
+ranged-requires-5 : tie.Need-ranged-requires-5
+ranged-requires-5 c κs = search needs
 
 cast-within : tie.Need-cast-within
 cast-within c = search needs
@@ -60,12 +60,12 @@ returns : tie.Need-returns
 returns c =
     let s = c .before .before .before .before .before .before .before .before .before .before .before .before .before .before .before .before .before .before .before in
     link _ _ _ _ _ (c .before .before .before .before .before .before .before .before .before .before .before .before .before .before .before .spare .ensures)
-    (link _ _ _ _ _ (asked _ _ _ _ _ (c .before .before .before .before .before .before .before .before .before .before .before .before .before .unless .ensures) (c .before .before .before .before .before .before .before .before .before .before .before .before .before .before .is-notification .ensures))
-    (link _ _ _ _ _ (asked _ _ _ _ _ (c .before .before .before .before .before .before .before .before .before .before .before .unless2 .ensures) (c .before .before .before .before .before .before .before .before .before .before .before .before .is-notification2 .ensures))
-    (link _ _ _ _ _ (asked _ _ _ _ _ (c .before .before .before .before .before .before .before .before .before .unless3 .ensures) (c .before .before .before .before .before .before .before .before .before .before .is-notification3 .ensures))
+    (link _ _ _ _ _ (asked _ _ _ _ _ (c .before .before .before .before .before .before .before .before .before .before .before .before .before .ranged .ensures) (c .before .before .before .before .before .before .before .before .before .before .before .before .before .before .is-notification .ensures))
+    (link _ _ _ _ _ (asked _ _ _ _ _ (c .before .before .before .before .before .before .before .before .before .before .before .ranged2 .ensures) (c .before .before .before .before .before .before .before .before .before .before .before .before .is-notification2 .ensures))
+    (link _ _ _ _ _ (asked _ _ _ _ _ (c .before .before .before .before .before .before .before .before .before .ranged3 .ensures) (c .before .before .before .before .before .before .before .before .before .before .is-notification3 .ensures))
     (link _ _ _ _ _ (c .before .before .before .before .before .before .before .before .time2 .ensures)
-    (link _ _ _ _ _ (asked _ _ _ _ _ (c .before .before .before .before .before .before .unless4 .ensures) (c .before .before .before .before .before .before .before .is-depth .ensures))
-    (link _ _ _ _ _ (asked _ _ _ _ _ (c .before .before .before .before .unless5 .ensures) (c .before .before .before .before .before .is-magnitude .ensures))
+    (link _ _ _ _ _ (asked _ _ _ _ _ (c .before .before .before .before .before .before .ranged4 .ensures) (c .before .before .before .before .before .before .before .is-depth .ensures))
+    (link _ _ _ _ _ (asked _ _ _ _ _ (c .before .before .before .before .ranged5 .ensures) (c .before .before .before .before .before .is-magnitude .ensures))
     (link _ _ _ _ _ (c .before .before .within .ensures)
     (link _ _ _ _ _ (c .before .check .ensures)
     (c .check2 .ensures)))))))))
@@ -77,16 +77,16 @@ check-spec =
     (tie.spec
     spare-requires
     is-notification-requires
-    unless-requires
+    ranged-requires
     is-notification-requires-2
-    unless-requires-2
+    ranged-requires-2
     is-notification-requires-3
-    unless-requires-3
+    ranged-requires-3
     time-requires
     is-depth-requires
-    unless-requires-4
+    ranged-requires-4
     is-magnitude-requires
-    unless-requires-5
+    ranged-requires-5
     cast-within
     within-requires
     check-requires

@@ -12,8 +12,8 @@ use Rattle.report.proofs.check.common.Tie as tie
 has-classification-requires : tie.Need-has-classification-requires
 has-classification-requires c κs = search needs
 
-unless-requires : tie.Need-unless-requires
-unless-requires c κs = search needs
+ranged-requires : tie.Need-ranged-requires
+ranged-requires c κs = search needs
 
 cast-within : tie.Need-cast-within
 cast-within c = search needs
@@ -42,18 +42,18 @@ within-requires-4 c κs = search needs
 has-type-requires : tie.Need-has-type-requires
 has-type-requires c κs = search needs
 
-unless-requires-2 : tie.Need-unless-requires-2
-unless-requires-2 c κs = search needs
+ranged-requires-2 : tie.Need-ranged-requires-2
+ranged-requires-2 c κs = search needs
 
 returns : tie.Need-returns
 returns c =
     let a = c .before .before .before .before .before .before .before .before .before .before .before .before .args in
-    link _ _ _ _ _ (asked _ _ _ _ _ (c .before .before .before .before .before .before .before .before .before .before .unless .ensures) (c .before .before .before .before .before .before .before .before .before .before .before .has-classification .ensures))
+    link _ _ _ _ _ (asked _ _ _ _ _ (c .before .before .before .before .before .before .before .before .before .before .ranged .ensures) (c .before .before .before .before .before .before .before .before .before .before .before .has-classification .ensures))
     (link _ _ _ _ _ (c .before .before .before .before .before .before .before .before .within .ensures)
     (link _ _ _ _ _ (c .before .before .before .before .before .before .within2 .ensures)
     (link _ _ _ _ _ (c .before .before .before .before .within3 .ensures)
     (link _ _ _ _ _ (c .before .before .within4 .ensures)
-    (asked _ _ _ _ _ (c .unless2 .ensures) (c .before .has-type .ensures))))))
+    (asked _ _ _ _ _ (c .ranged2 .ensures) (c .before .has-type .ensures))))))
     ∙ sym (ap (λ (v : Verdict). a .found then v) (common-walk (layout (a .b)) (a .c)))
 
 pub common-spec : {M : Type 1} → statement M
@@ -61,7 +61,7 @@ common-spec =
     tie.close
     (tie.spec
     has-classification-requires
-    unless-requires
+    ranged-requires
     cast-within
     within-requires
     cast-within-2
@@ -71,5 +71,5 @@ common-spec =
     cast-within-4
     within-requires-4
     has-type-requires
-    unless-requires-2
+    ranged-requires-2
     returns)

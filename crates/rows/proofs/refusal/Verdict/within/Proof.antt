@@ -6,14 +6,14 @@ use Rattle.rows.proofs.refusal.Verdict.within.Tie as tie
 between-requires : tie.Need-between-requires
 between-requires c κs = search needs
 
-unless-requires : tie.Need-unless-requires
-unless-requires c κs = search needs
+ranged-requires : tie.Need-ranged-requires
+ranged-requires c κs = search needs
 
 returns : tie.Need-returns
 returns c = simp (
-  c .unless .ensures,
+  c .ranged .ensures,
   c .before .between .ensures,
 )
 
 pub within-spec : {M : Type 1} → statement M
-within-spec = tie.close (tie.spec between-requires unless-requires returns)
+within-spec = tie.close (tie.spec between-requires ranged-requires returns)
