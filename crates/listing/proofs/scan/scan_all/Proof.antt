@@ -8,7 +8,8 @@ use lib.ListN.{length, take}
 use lib.Seq.{take-all}
 use Rattle.listing.specs.Rows.{cutText}
 use Rattle.listing.specs.Scanning.{begunIn, progressOf}
-use Rattle.listing.proofs.Texts.KeptBytes.{unmapped, begun-short}
+use Rattle.bits.proofs.Arrays.{unmapped}
+use Rattle.listing.proofs.Texts.KeptBytes.{begun-short}
 use Rattle.listing.proofs.Texts.Written.{nothing-written}
 use Rattle.listing.proofs.Chunks.ByteByByte.{limit-is}
 use Rattle.listing.proofs.Chunks.Chunks.{settled, cut-all, idle}

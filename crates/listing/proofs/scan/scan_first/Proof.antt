@@ -6,7 +6,8 @@ use native.Mathlib.Omega.{arith}
 use lib.ListN.{length, take}
 use lib.Seq.{length-take-le}
 use Rattle.listing.specs.Scanning.{begunIn}
-use Rattle.listing.proofs.Texts.KeptBytes.{unmapped, begun-short}
+use Rattle.bits.proofs.Arrays.{unmapped}
+use Rattle.listing.proofs.Texts.KeptBytes.{begun-short}
 use Rattle.listing.proofs.Texts.Written.{nothing-written}
 use Rattle.listing.proofs.Chunks.ByteByByte.{limit-is}
 use Rattle.listing.proofs.Lines.LineLoop.{row-said}

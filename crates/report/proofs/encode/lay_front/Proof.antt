@@ -2,7 +2,7 @@
 use Rattle.bits.specs.Frame.{laid}
 use Rattle.report.proofs.Writing.Encoding.{all-laid}
 use Rattle.report.proofs.Tables.Shapes.{Shaped}
-use Rattle.slots.proofs.Used.{unmapped}
+use Rattle.bits.proofs.Arrays.{unmapped}
 use Rattle.rows.specs.Layout.{slotsRows, slotCount, slotFirst}
 use Rattle.slots.specs.Slots.{slotValues}
 use Rattle.rows.specs.Values.{widths, joined}

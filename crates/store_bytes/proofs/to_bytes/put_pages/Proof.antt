@@ -7,7 +7,8 @@ use lib.Seq.{take-all}
 use borrow.Author.Needs.{needs}
 use Rattle.store_bytes.specs.Stores.{pagesBytes}
 use Rattle.record_bytes.specs.Writing.{Wrote}
-use Rattle.pages.proofs.Shapes.{unmapped, shapes}
+use Rattle.bits.proofs.Arrays.{unmapped}
+use Rattle.pages.proofs.Shapes.{shapes}
 use Rattle.bulletin.proofs.Telling.PageBytes.{Eighteen}
 use Rattle.record_bytes.proofs.ToBytes.Chains.{nothing}
 use Rattle.store_bytes.proofs.Pages.{page-more}
