@@ -8,7 +8,7 @@ use Rattle.rows.specs.Runs.Questions.{_then_, unless}
 use Rattle.rows.specs.Runs.Verdict.{allowed}
 use Rattle.report.specs.Runs.Reading.{outerOf}
 use Rattle.line.specs.Lines.{allDigits, isLine, paired, frameOfLine, lineReading}
-use Rattle.listing.specs.Decimal.{decimal, figures}
+use Rattle.lent.specs.Numbers.{decimal, figures}
 use Rattle.listing.specs.Rows.{rowText, headingText}
 use Rattle.listing.specs.Listing.{onto, linesOf, lineRow, limit, rowsFrom, listing}
 

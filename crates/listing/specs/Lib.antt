@@ -1,4 +1,3 @@
-pub mod Decimal
 pub mod Rows
 pub mod Listing
 pub mod Scanning

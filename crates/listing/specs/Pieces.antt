@@ -1,16 +1,11 @@
--- Cited by private functions alone: text that is written piece by piece, and a search.
-use Prim.Native.Nat.{ℕ, _+_, _≤_, _<_}
+-- Cited by private functions alone: a search, and what a chunk came to.
+use Prim.Native.Nat.{ℕ, _≤_, _<_}
 use mathlib.Core.Path.{_≡_}
 use mathlib.Core.List.{List}
 use lib.ListN.{length, getD}
-use lib.Seq.{sets}
+use Rattle.lent.specs.Writing.{Wrote}
 use Rattle.listing.specs.declared.scan.Step.{Step}
 use Rattle.listing.specs.Scanning.{reach, progressOf}
-
--- before became after by the text t at index at, and next is the index behind it
-pub record Wrote (before after : List ℕ) (at next : ℕ) (t : List ℕ) : Type 0 where
-  pub bytes : after ≡ sets before at t
-  pub place : next ≡ at + length t
 
 -- r is the first index from here on with a line feed, or the length
 pub record Found (s : List ℕ) (from r : ℕ) : Type 0 where

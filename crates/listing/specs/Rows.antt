@@ -17,7 +17,7 @@ use Rattle.report.specs.Meaning.{usedOf}
 use Rattle.listing.specs.declared.row.Entry.{Entry}
 use Rattle.listing.specs.declared.row.Entry.the-variants.{Dash, Number}
 use Rattle.listing.specs.declared.row.Row.{Row}
-use Rattle.listing.specs.Decimal.{decimal}
+use Rattle.lent.specs.Numbers.{decimal}
 
 -- ---- what is said of a line
 

@@ -1,8 +1,8 @@
--- What owning an array tells of its length, and of each page in it: its text is 18 bytes.
+-- What owning an array of pages tells of each page in it: its text is 18 bytes.
 use mathlib.Core.List.{List, [], _∷_, map}
 use Prim.Native.Nat.{ℕ, zero, suc, _<_}
 use native.Mathlib.Omega.{arith}
-use lib.ListN.{length, getD, length-map}
+use lib.ListN.{length, getD}
 use mir.Syntax.{w8}
 use mir.Val.{Val}
 use denote.Shadow.{shadow}
@@ -11,7 +11,6 @@ use borrow.Author.Needs.{length-unmapped, elem-fits-field}
 use Rattle.pages.specs.declared.page.Page.{Page}
 use Rattle.pages.specs.Pages.{Shaped, noPage}
 use Rattle.pages.proofs.page.Page as P
-use mathlib.Core.Path.{_≡_, sym, _∙_}
 
 pub shapes : (l : List Page) (us : List Val) → shadow (each (P.the-field .row .Denot) (P.the-field .row .own) (map (P.the-field .into) l) us) → (i : ℕ) → i < length l → Shaped (getD l i noPage)
 shapes [] us p i h = absurd (no h)
@@ -24,7 +23,3 @@ shapes (x ∷ l) (u ∷ us) p zero h = record {
   bytes = λ k. elem-fits-field w8 w8 (x .text) _ k (p .0 .1 .1 .1 .0 .1 .1) tt .fits;
 }
 shapes (x ∷ l) (u ∷ us) p (suc i) h = shapes l us (p .1) i (omega arith)
-
--- what owning an array of structs tells of its length stands at a `map`
-pub unmapped : {X Y : Type 0} (f : X → Y) (l : List X) (n : ℕ) → length (map f l) ≡ n → length l ≡ n
-unmapped f l n e = sym (length-map l f) ∙ e

@@ -16,7 +16,8 @@ use Rattle.report.specs.declared.record.Record.{Record}
 use Rattle.report.specs.Layout.{layout}
 use Rattle.rows.specs.Runs.Verdict.{empty}
 use Rattle.rows.specs.Values.{each}
-use Rattle.record_bytes.specs.Packed.{wide, zeroFilled, headBytes, bodyBytes, slotBytes, slotsBytes, packed}
+use Rattle.lent.specs.Numbers.{wide}
+use Rattle.record_bytes.specs.Packed.{zeroFilled, headBytes, bodyBytes, slotBytes, slotsBytes, packed}
 use Rattle.record_bytes.specs.Unpacked.{fourAt, slotAt, bodyOfCode, bodyFrom, stray, slotsFrom, slotsOrMisplaced, textFrom, unpackedAs, unpacked}
 use Rattle.record_bytes.proofs.ToBytes.Whole.{front, most, length-front, length-most}
 use Rattle.record_bytes.proofs.FromBytes.Places.{each-same, byte-behind}

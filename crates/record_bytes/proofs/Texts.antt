@@ -7,10 +7,7 @@ use mathlib.Core.List.{List}
 use lib.ListN.{length, replicate}
 use lib.Dec.{leb}
 use borrow.Author.Tests.{leb-true, leb-false, le-leb, lt-leb}
-use Rattle.record_bytes.specs.Text.{textAt, textOrZeros, textPut}
-use Rattle.record_bytes.specs.Writing.{Wrote}
-
--- ---- found there
+use Rattle.record_bytes.specs.Text.{textAt, textOrZeros}
 
 pub text-found : (l : List ℕ) (k : ℕ) → k + 18 ≤ length l → textOrZeros l k ≡ textAt l k
 unfolding textOrZeros
@@ -19,20 +16,6 @@ text-found l k h = rw (le-leb (k + 18) (length l) h)
 pub text-not-there : (l : List ℕ) (k : ℕ) → leb (k + 18) (length l) ≡ false → replicate 18 0 ≡ textOrZeros l k
 unfolding textOrZeros
 text-not-there l k e = rw e
-
--- ---- put there
-
-pub text-put : {l m t : List ℕ} {k : ℕ} → k + 18 ≤ length l → m ≡ textPut t k l → Wrote l m k t
-unfolding textPut
-text-put {l} {m} {t} {k} h e = record { bytes = rw (le-leb (k + 18) (length l) h) at e }
-
-pub fits-put : {l m t : List ℕ} {k : ℕ} → k + 18 ≤ length l → Wrote l m k t → m ≡ textPut t k l
-unfolding textPut
-fits-put {l} {m} {t} {k} h x = rw (le-leb (k + 18) (length l) h) (x .bytes)
-
-pub short-put : (t l : List ℕ) (k : ℕ) → leb (k + 18) (length l) ≡ false → l ≡ textPut t k l
-unfolding textPut
-short-put t l k e = rw e
 
 -- ---- told by the size without a sum, which might not fit
 

@@ -1,4 +1,2 @@
-pub mod Chains
-pub mod Numbers
 pub mod Slots
 pub mod Whole

@@ -1,4 +1,3 @@
 pub mod Packed
 pub mod Unpacked
 pub mod Text
-pub mod Writing

@@ -20,7 +20,7 @@ use mathlib.Core.Bool.{cond}
 use mathlib.Core.List.{List, [], _∷_, _++_}
 use lib.ListN.{length, replicate}
 use lib.Dec.{eqb}
-use Rattle.bits.specs.Layout.{decode}
+use Rattle.lent.specs.Numbers.{wide}
 use Rattle.hypocenter.specs.declared.Quake.{Quake}
 use Rattle.report.specs.declared.record.Body.{Body}
 use Rattle.report.specs.declared.record.Body.the-variants.{NoCategory, Hypocenter, Intensity, Nankai, AshFall}
@@ -29,10 +29,6 @@ use Rattle.report.specs.declared.record.Record.{Record}
 use Rattle.report.specs.Layout.{layout}
 use Rattle.rows.specs.Values.{timeValues}
 use Rattle.hypocenter.specs.Hypocenter.{angleValues}
-
--- v in n bytes; a number of one byte is written as it is
-abbrev pub wide : ℕ → ℕ → List ℕ
-wide n v = decode (replicate n 8) v
 
 -- l, and zeros behind it up to n bytes
 abbrev pub zeroFilled : ℕ → List ℕ → List ℕ

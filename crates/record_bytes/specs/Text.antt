@@ -3,7 +3,6 @@ use Prim.Native.Nat.{ℕ, _+_}
 use mathlib.Core.Bool.{cond}
 use mathlib.Core.List.{List}
 use lib.ListN.{length, getD, replicate}
-use lib.Seq.{sets}
 use lib.Dec.{leb}
 use Rattle.rows.specs.Values.{each}
 
@@ -14,7 +13,3 @@ textAt l k = each 18 (λ i. getD l (k + i) 0)
 -- bytes that do not reach so far have a text of zeros
 unfoldable pub textOrZeros : List ℕ → ℕ → List ℕ
 textOrZeros l k = cond (leb (k + 18) (length l)) (textAt l k) (replicate 18 0)
-
--- a lent buffer takes the text t from the byte k on; one that does not reach so far stays as it was
-unfoldable pub textPut : List ℕ → ℕ → List ℕ → List ℕ
-textPut t k buffer = cond (leb (k + 18) (length buffer)) (sets buffer k t) buffer

@@ -2,7 +2,7 @@
 ghost use mathlib.Core.Path.{_≡_};
 ghost use Prim.Native.Nat.{_+_};
 ghost use lib.Dec.{leb};
-ghost use Rattle.record_bytes.specs.Text.{textOrZeros, textPut};
+ghost use Rattle.record_bytes.specs.Text.{textOrZeros};
 use crate::sizes::TEXT_SIZE;
 
 // So many bytes have a whole text from the byte `at` on.
@@ -13,19 +13,6 @@ fn has_text(size: usize, at: usize) -> bool
         return false;
     }
     at <= size - TEXT_SIZE
-}
-
-// The text, into a lent buffer from the byte `at` on. A buffer that does not reach so far stays as it was.
-pub fn put_text(out: &mut [u8], at: usize, text: [u8; TEXT_SIZE])
-    ensures { λ _. ⌜ now (out .exit) ≡ textPut text at (now (out .entry)) ⌝ }
-{
-    if has_text(out.len(), at) {
-        let mut k = 0;
-        while k < TEXT_SIZE {
-            out[at + k] = text[k];
-            k += 1;
-        }
-    }
 }
 
 // The text from the byte `at` on. Bytes that do not reach so far have a text of zeros.

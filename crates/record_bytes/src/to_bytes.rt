@@ -1,188 +1,152 @@
 // From a record to its bytes, front to back.
 ghost use mathlib.Core.Path.{_≡_};
-ghost use Prim.Native.Nat.{_+_, _≤_};
-ghost use lib.ListN.{length, replicate};
-ghost use Rattle.bits.specs.Frame.{number};
 ghost use Rattle.rows.specs.Values.{timeValues};
 ghost use Rattle.hypocenter.specs.Hypocenter.{angleValues};
-ghost use Rattle.record_bytes.specs.Packed.{wide, zeroFilled, headBytes, notificationBytes, sourceBytes, quakeBytes, bodyBytes, slotBytes, slotsBytes, packedInto};
-ghost use Rattle.record_bytes.specs.Writing.{Wrote};
+ghost use Rattle.record_bytes.specs.Packed.{zeroFilled, headBytes, notificationBytes, sourceBytes, quakeBytes, bodyBytes, slotBytes, slotsBytes, packedInto};
+ghost use Rattle.lent.specs.Writing.{Wrote};
 use crate::sizes::BODY_SIZE;
 use crate::sizes::RECORD_SIZE;
 use crate::sizes::SLOT_COUNT;
-use crate::sizes::SLOT_SIZE;
-use crate::sizes::SLOTS_AT;
-use crate::sizes::TEXT_AT;
-use crate::text::put_text;
 use ash_fall::Eruption;
 use hypocenter::Quake;
 use hypocenter::angle::Angle;
+use lent::put_byte;
+use lent::put_bytes;
+use lent::put_wide;
+use lent::put_zeros;
 use nankai::PageNumbers;
 use report::record::Body;
 use report::record::Record;
 use rows::time::Time;
 use slots::slot::Slot;
 
-// ---- numbers
+// ---- parts of several
 
-// A number in `count` bytes.
-fn put_wide(out: &mut [u8], at: usize, count: usize, value: u32)
-    requires { ⌜ (count ≤ 4) × (at + count ≤ length (now out)) ⌝ }
-    ensures { λ _. ⌜ Wrote (now (out .entry)) (now (out .exit)) at (wide count value) ⌝ }
+fn put_time(out: &mut [u8], at: usize, t: Time) -> usize
+    ensures { λ next. ⌜ Wrote (now (out .entry)) (now (out .exit)) at next (timeValues t) ⌝ }
 {
-    let mut k = 0;
-    while k < count {
-        out[at + k] = ((value >> (8 * (count - 1 - k))) % 256) as u8;
-        k += 1;
-    }
+    put_bytes(out, at, &[t.day, t.hour, t.minute])
 }
 
-fn put_zeros(out: &mut [u8], at: usize, count: usize)
-    requires { ⌜ at + count ≤ length (now out) ⌝ }
-    ensures { λ _. ⌜ Wrote (now (out .entry)) (now (out .exit)) at (replicate count 0) ⌝ }
+fn put_angle(out: &mut [u8], at: usize, a: Angle) -> usize
+    ensures { λ next. ⌜ Wrote (now (out .entry)) (now (out .exit)) at next (angleValues a) ⌝ }
 {
-    let mut k = 0;
-    while k < count {
-        out[at + k] = 0;
-        k += 1;
-    }
-}
-
-fn put_time(out: &mut [u8], at: usize, t: Time)
-    requires { ⌜ at + 3 ≤ length (now out) ⌝ }
-    ensures { λ _. ⌜ Wrote (now (out .entry)) (now (out .exit)) at (timeValues t) ⌝ }
-{
-    out[at] = t.day;
-    out[at + 1] = t.hour;
-    out[at + 2] = t.minute;
-}
-
-fn put_angle(out: &mut [u8], at: usize, a: Angle)
-    requires { ⌜ at + 4 ≤ length (now out) ⌝ }
-    ensures { λ _. ⌜ Wrote (now (out .entry)) (now (out .exit)) at (angleValues a) ⌝ }
-{
-    out[at] = a.side;
-    out[at + 1] = a.degrees;
-    out[at + 2] = a.minutes;
-    out[at + 3] = a.seconds;
+    put_bytes(out, at, &[a.side, a.degrees, a.minutes, a.seconds])
 }
 
 // ---- 0 to 8
 
-fn put_head(out: &mut [u8], r: Record)
-    requires { ⌜ length (now out) ≡ 145 ⌝ }
-    ensures { λ _. ⌜ Wrote (now (out .entry)) (now (out .exit)) 0 (headBytes r) ⌝ }
+fn put_head(out: &mut [u8], r: Record) -> usize
+    ensures { λ next. ⌜ Wrote (now (out .entry)) (now (out .exit)) 0 next (headBytes r) ⌝ }
 {
     let common = r.common;
     let body = r.body;
-    out[0] = body.code();
-    out[1] = r.preamble;
-    out[2] = r.reserved;
-    out[3] = common.rc;
-    out[4] = common.month;
-    out[5] = common.day;
-    out[6] = common.hour;
-    out[7] = common.minute;
-    out[8] = common.it;
+    put_bytes(
+        out,
+        0,
+        &[
+            body.code(),
+            r.preamble,
+            r.reserved,
+            common.rc,
+            common.month,
+            common.day,
+            common.hour,
+            common.minute,
+            common.it,
+        ],
+    )
 }
 
 // ---- 9 to 30
 
-fn put_notifications(out: &mut [u8], q: Quake)
-    requires { ⌜ length (now out) ≡ 145 ⌝ }
-    ensures { λ _. ⌜ Wrote (now (out .entry)) (now (out .exit)) 9 (notificationBytes q) ⌝ }
+fn put_notifications(out: &mut [u8], at: usize, q: Quake) -> usize
+    ensures { λ next. ⌜ Wrote (now (out .entry)) (now (out .exit)) at next (notificationBytes q) ⌝ }
 {
-    put_wide(out, 9, 2, q.notification1 as u32);
-    put_wide(out, 11, 2, q.notification2 as u32);
-    put_wide(out, 13, 2, q.notification3 as u32);
+    let second = put_wide(out, at, 2, q.notification1 as u64);
+    let third = put_wide(out, second, 2, q.notification2 as u64);
+    put_wide(out, third, 2, q.notification3 as u64)
 }
 
-fn put_source(out: &mut [u8], q: Quake)
-    requires { ⌜ length (now out) ≡ 145 ⌝ }
-    ensures { λ _. ⌜ Wrote (now (out .entry)) (now (out .exit)) 18 (sourceBytes q) ⌝ }
+fn put_source(out: &mut [u8], at: usize, q: Quake) -> usize
+    ensures { λ next. ⌜ Wrote (now (out .entry)) (now (out .exit)) at next (sourceBytes q) ⌝ }
 {
-    put_wide(out, 18, 2, q.depth as u32);
-    out[20] = q.magnitude;
-    put_wide(out, 21, 2, q.epicenter as u32);
+    let magnitude = put_wide(out, at, 2, q.depth as u64);
+    let epicenter = put_byte(out, magnitude, q.magnitude);
+    put_wide(out, epicenter, 2, q.epicenter as u64)
 }
 
-fn put_quake(out: &mut [u8], q: Quake)
-    requires { ⌜ length (now out) ≡ 145 ⌝ }
-    ensures { λ _. ⌜ Wrote (now (out .entry)) (now (out .exit)) 9 (quakeBytes q) ⌝ }
+fn put_quake(out: &mut [u8], at: usize, q: Quake) -> usize
+    ensures { λ next. ⌜ Wrote (now (out .entry)) (now (out .exit)) at next (quakeBytes q) ⌝ }
 {
     let time = q.time;
     let latitude = q.latitude;
     let longitude = q.longitude;
-    put_notifications(out, q);
-    put_time(out, 15, time);
-    put_source(out, q);
-    put_angle(out, 23, latitude);
-    put_angle(out, 27, longitude);
+    let time_at = put_notifications(out, at, q);
+    let source_at = put_time(out, time_at, time);
+    let latitude_at = put_source(out, source_at, q);
+    let longitude_at = put_angle(out, latitude_at, latitude);
+    put_angle(out, longitude_at, longitude)
 }
 
-fn put_page(out: &mut [u8], p: PageNumbers)
-    requires { ⌜ length (now out) ≡ 145 ⌝ }
-    ensures { λ _. ⌜ Wrote (now (out .entry)) (now (out .exit)) 9 (bodyBytes (Body.Nankai p)) ⌝ }
+fn put_page(out: &mut [u8], at: usize, p: PageNumbers) -> usize
+    ensures { λ next. ⌜ Wrote (now (out .entry)) (now (out .exit)) at next (bodyBytes (Body.Nankai p)) ⌝ }
 {
-    out[9] = p.serial;
-    out[10] = p.number;
-    out[11] = p.total;
+    put_bytes(out, at, &[p.serial, p.number, p.total])
 }
 
-fn put_eruption(out: &mut [u8], e: Eruption)
-    requires { ⌜ length (now out) ≡ 145 ⌝ }
-    ensures { λ _. ⌜ Wrote (now (out .entry)) (now (out .exit)) 9 (bodyBytes (Body.AshFall e)) ⌝ }
+fn put_eruption(out: &mut [u8], at: usize, e: Eruption) -> usize
+    ensures { λ next. ⌜ Wrote (now (out .entry)) (now (out .exit)) at next (bodyBytes (Body.AshFall e)) ⌝ }
 {
     let time = e.time;
-    put_time(out, 9, time);
-    out[12] = e.warning;
-    put_wide(out, 13, 2, e.volcano as u32);
+    let warning = put_time(out, at, time);
+    let volcano = put_byte(out, warning, e.warning);
+    put_wide(out, volcano, 2, e.volcano as u64)
 }
 
-fn put_body(out: &mut [u8], b: Body)
-    requires { ⌜ length (now out) ≡ 145 ⌝ }
-    ensures { λ _. ⌜ Wrote (now (out .entry)) (now (out .exit)) 9 (zeroFilled 22 (bodyBytes b)) ⌝ }
+fn put_body(out: &mut [u8], at: usize, b: Body) -> usize
+    ensures { λ next. ⌜ Wrote (now (out .entry)) (now (out .exit)) at next (zeroFilled 22 (bodyBytes b)) ⌝ }
 {
     match b {
-        Body::NoCategory => put_zeros(out, 9, BODY_SIZE),
-        Body::Hypocenter(q) => put_quake(out, q),
+        Body::NoCategory => put_zeros(out, at, BODY_SIZE),
+        Body::Hypocenter(q) => put_quake(out, at, q),
         Body::Intensity(s) => {
             let time = s.time;
-            put_time(out, 9, time);
-            put_zeros(out, 12, BODY_SIZE - 3);
+            let zeros = put_time(out, at, time);
+            put_zeros(out, zeros, BODY_SIZE - 3)
         }
         Body::Nankai(p) => {
-            put_page(out, p);
-            put_zeros(out, 12, BODY_SIZE - 3);
+            let zeros = put_page(out, at, p);
+            put_zeros(out, zeros, BODY_SIZE - 3)
         }
         Body::AshFall(e) => {
-            put_eruption(out, e);
-            put_zeros(out, 15, BODY_SIZE - 6);
+            let zeros = put_eruption(out, at, e);
+            put_zeros(out, zeros, BODY_SIZE - 6)
         }
     }
 }
 
 // ---- 31 to 126
 
-fn put_slot(out: &mut [u8], at: usize, s: Slot)
-    requires { ⌜ at + 6 ≤ length (now out) ⌝ }
-    ensures { λ _. ⌜ Wrote (now (out .entry)) (now (out .exit)) at (slotBytes s) ⌝ }
+fn put_slot(out: &mut [u8], at: usize, s: Slot) -> usize
+    ensures { λ next. ⌜ Wrote (now (out .entry)) (now (out .exit)) at next (slotBytes s) ⌝ }
 {
-    out[at] = s.hour;
-    out[at + 1] = s.strength;
-    put_wide(out, at + 2, 4, s.place);
+    let place = put_bytes(out, at, &[s.hour, s.strength]);
+    put_wide(out, place, 4, s.place as u64)
 }
 
-fn put_slots(out: &mut [u8], slots: [Slot; SLOT_COUNT])
-    requires { ⌜ length (now out) ≡ 145 ⌝ }
-    ensures { λ _. ⌜ Wrote (now (out .entry)) (now (out .exit)) 31 (slotsBytes slots) ⌝ }
+fn put_slots(out: &mut [u8], at: usize, slots: [Slot; SLOT_COUNT]) -> usize
+    ensures { λ next. ⌜ Wrote (now (out .entry)) (now (out .exit)) at next (slotsBytes slots) ⌝ }
 {
+    let mut next = at;
     let mut k = 0;
     while k < SLOT_COUNT {
         let s = slots[k];
-        put_slot(out, SLOTS_AT + SLOT_SIZE * k, s);
+        let behind = put_slot(out, next, s);
+        next = behind;
         k += 1;
     }
+    next
 }
 
 // The record, into a lent buffer of 145 bytes. A buffer of another length stays as it was.
@@ -193,9 +157,9 @@ pub fn pack(r: Record, out: &mut [u8])
         let body = r.body;
         let slots = r.slots;
         let text = r.text;
-        put_head(out, r);
-        put_body(out, body);
-        put_slots(out, slots);
-        put_text(out, TEXT_AT, text);
+        let body_at = put_head(out, r);
+        let slots_at = put_body(out, body_at, body);
+        let text_at = put_slots(out, slots_at, slots);
+        put_bytes(out, text_at, &text);
     }
 }

@@ -1,5 +1,6 @@
 pub mod Law
 pub mod Bits
+pub mod Lent
 pub mod Parity
 pub mod Rows
 pub mod Hypocenter

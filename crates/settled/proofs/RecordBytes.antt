@@ -11,7 +11,3 @@ pack-is-settled κs a x y = buffer second
 
 pub text-at-is-settled : Settled «record_bytes».text.text_at.ended «record_bytes».text.text_at.Reads.Post
 text-at-is-settled κs a x y = answer
-
--- the lent buffer is the first of three parameters
-pub put-text-is-settled : Settled «record_bytes».text.put_text.ended «record_bytes».text.put_text.Reads.Post
-put-text-is-settled κs a x y = buffer (λ b. (b, (tt, (tt, tt))))

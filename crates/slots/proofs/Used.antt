@@ -1,5 +1,5 @@
 -- Counting the used slots: the loop, and what the number says.
-use mathlib.Core.Path.{_≡_, refl, sym, ap, _∙_}
+use mathlib.Core.Path.{_≡_, refl, ap}
 use mathlib.Core.Bool.{Bool, true, false}
 use mathlib.Core.Logic.{⊎-elim}
 use Prim.Native.Nat.{ℕ, zero, suc, _+_, _*_, _≤_, _<_}
@@ -7,7 +7,7 @@ use native.Mathlib.Nat.{not-suc-le-zero, le-of-suc-le-suc}
 use native.Mathlib.Omega.{arith}
 use native.Mathlib.Numerals.{add-one}
 use mathlib.Core.List.{List, [], _∷_, map}
-use lib.ListN.{length, getD, take, drop, length-map, drop-of-length-le}
+use lib.ListN.{length, getD, take, drop, drop-of-length-le}
 use Rattle.slots.specs.declared.slot.Slot.{Slot}
 use borrow.Author.Tests.{ne-eqb}
 use Rattle.slots.specs.declared.kind.SlotKind.{SlotKind}
@@ -19,10 +19,6 @@ use Rattle.slots.specs.Slots.{slotTable, noSlot, slotValues, usedAmong}
 use Rattle.rows.specs.Kept.{In, Empty, AllEmpty, LaterKept, SlotsKept}
 use Rattle.rows.proofs.Rules.JudgedSlots.{empty-is, is-empty}
 use Rattle.slots.proofs.SlotLoop.{taken, split}
-
--- the length of an array of structs, as it is told of a field
-pub unmapped : {A B : Type 0} (f : A → B) (l : List A) (n : ℕ) → length (map f l) ≡ n → length l ≡ n
-unmapped f l n e = sym (length-map l f) ∙ e
 
 -- ---- the loop
 

@@ -12,8 +12,8 @@ use Rattle.bulletin.specs.declared.store.Store.{Store}
 use Rattle.pages.specs.Pages.{noPage}
 use Rattle.bulletin.proofs.Telling.PageBytes.{Eighteen}
 use Rattle.store_bytes.specs.Stores.{nameBytes, pageBytes, pagesBytes, storeBytes, storeInto}
-use Rattle.record_bytes.specs.Writing.{Wrote}
-use Rattle.record_bytes.proofs.ToBytes.Chains.{behind, _then_, whole}
+use Rattle.lent.specs.Writing.{Wrote}
+use Rattle.lent.proofs.Chains.{_then_, whole}
 
 pub length-pages : (k : ℕ) (ps : List Page) → k ≤ length ps → Eighteen ps → length (pagesBytes (take k ps)) ≡ 19 * k
 unfolding pagesBytes
@@ -41,11 +41,9 @@ pages-suc ps k h =
     ∙ ap (λ (t : List ℕ). pagesBytes (take k ps) ++ t) (one-page (getD ps k noPage))
 
 -- one page more
-pub page-more : {l m r : List ℕ} (i k : ℕ) (ps : List Page) → k < length ps → Eighteen ps → Wrote l m i (pagesBytes (take k ps))
-    → Wrote m r (i + 19 * k) (pageBytes (getD ps k noPage)) → Wrote l r i (pagesBytes (take (k + 1) ps))
-page-more i k ps h e x y =
-    let at : i + 19 * k ≡ i + length (pagesBytes (take k ps)) = omega (arith, length-pages k ps (omega arith) e) in
-    rw (pages-suc ps k h) (behind at x y)
+pub page-more : {l m r : List ℕ} {i j n : ℕ} (k : ℕ) (ps : List Page) → k < length ps → Wrote l m i j (pagesBytes (take k ps))
+    → Wrote m r j n (pageBytes (getD ps k noPage)) → Wrote l r i n (pagesBytes (take (k + 1) ps))
+page-more k ps h x y = rw (pages-suc ps k h) (x then y)
 
 -- ---- the whole store
 
@@ -55,8 +53,8 @@ length-store s n e =
     let pages : length (pagesBytes (take 63 (s .pages))) ≡ 19 * 63 = length-pages 63 (s .pages) (omega (arith, n)) e in
     length-append (nameBytes (s .name)) (pagesBytes (s .pages)) ∙ ap (λ (k : ℕ). 8 + k) (ap (λ (ps : List Page). length (pagesBytes ps)) (sym all) ∙ pages)
 
-pub store-in-parts : {l a b : List ℕ} (s : Store) → length (s .pages) ≡ 63 → Eighteen (s .pages) → length l ≡ 1205 → Wrote l a 0 (nameBytes (s .name))
-    → Wrote a b 8 (pagesBytes (s .pages)) → b ≡ storeInto s l
+pub store-in-parts : {l a b : List ℕ} {i j : ℕ} (s : Store) → length (s .pages) ≡ 63 → Eighteen (s .pages) → length l ≡ 1205 → Wrote l a 0 i (nameBytes (s .name))
+    → Wrote a b i j (pagesBytes (s .pages)) → b ≡ storeInto s l
 unfolding storeInto
 store-in-parts s n e long x y = whole (length-store s n e ∙ sym long) (x then y) ∙ rw (eq-eqb _ 1205 long)
 

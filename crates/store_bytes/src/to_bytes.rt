@@ -1,51 +1,54 @@
 // From a store to its bytes, front to back.
 ghost use mathlib.Core.Path.{_≡_};
-ghost use Prim.Native.Nat.{_+_, _≤_};
-ghost use lib.ListN.{length};
-ghost use Rattle.record_bytes.specs.Writing.{Wrote};
+ghost use Rattle.lent.specs.Writing.{Wrote};
 ghost use Rattle.store_bytes.specs.Stores.{nameBytes, pageBytes, pagesBytes, storeInto};
-use crate::sizes::PAGE_SIZE;
-use crate::sizes::PAGES_AT;
 use crate::sizes::STORE_SIZE;
 use bulletin::store::Store;
+use lent::put_byte;
+use lent::put_bytes;
 use pages::name::Name;
 use pages::page::Page;
-use record_bytes::text::put_text;
 
-fn put_name(out: &mut [u8], name: Name)
-    requires { ⌜ length (now out) ≡ 1205 ⌝ }
-    ensures { λ _. ⌜ Wrote (now (out .entry)) (now (out .exit)) 0 (nameBytes name) ⌝ }
+fn put_name(out: &mut [u8], name: Name) -> usize
+    ensures { λ next. ⌜ Wrote (now (out .entry)) (now (out .exit)) 0 next (nameBytes name) ⌝ }
 {
     let common = name.common;
-    out[0] = common.rc;
-    out[1] = common.month;
-    out[2] = common.day;
-    out[3] = common.hour;
-    out[4] = common.minute;
-    out[5] = common.it;
-    out[6] = name.serial;
-    out[7] = name.total;
+    put_bytes(
+        out,
+        0,
+        &[
+            common.rc,
+            common.month,
+            common.day,
+            common.hour,
+            common.minute,
+            common.it,
+            name.serial,
+            name.total,
+        ],
+    )
 }
 
-fn put_page(out: &mut [u8], at: usize, page: Page)
-    requires { ⌜ at + 19 ≤ length (now out) ⌝ }
-    ensures { λ _. ⌜ Wrote (now (out .entry)) (now (out .exit)) at (pageBytes page) ⌝ }
+fn put_page(out: &mut [u8], at: usize, page: Page) -> usize
+    ensures { λ next. ⌜ Wrote (now (out .entry)) (now (out .exit)) at next (pageBytes page) ⌝ }
 {
     let text = page.text;
-    out[at] = page.mark;
-    put_text(out, at + 1, text);
+    let text_at = put_byte(out, at, page.mark);
+    put_bytes(out, text_at, &text)
 }
 
-fn put_pages(out: &mut [u8], store: Store)
-    requires { ⌜ length (now out) ≡ 1205 ⌝ }
-    ensures { λ _. ⌜ Wrote (now (out .entry)) (now (out .exit)) 8 (pagesBytes (store .pages)) ⌝ }
+fn put_pages(out: &mut [u8], at: usize, store: Store) -> usize
+    ensures { λ next. ⌜ Wrote (now (out .entry)) (now (out .exit)) at next (pagesBytes (store .pages)) ⌝ }
 {
+    let mut next = at;
     let mut k = 0;
     while k < Store::PAGES {
         let page = store.pages[k];
-        put_page(out, PAGES_AT + PAGE_SIZE * k, page);
+        let behind = put_page(out, next, page);
+        next = behind;
         k += 1;
     }
+    next
 }
 
 // The store, into a lent buffer of 1205 bytes. A buffer of another length stays as it was.
@@ -54,7 +57,7 @@ pub fn pack_store(store: Store, out: &mut [u8])
 {
     if out.len() == STORE_SIZE {
         let name = store.name;
-        put_name(out, name);
-        put_pages(out, store);
+        let pages_at = put_name(out, name);
+        put_pages(out, pages_at, store);
     }
 }

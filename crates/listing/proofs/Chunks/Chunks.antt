@@ -15,8 +15,10 @@ use Rattle.listing.specs.declared.scan.Step.{Step}
 use Rattle.listing.specs.Rows.{cutText, longest, filled, filledBy}
 use Rattle.listing.specs.Listing.{lineRow, limit}
 use Rattle.listing.specs.Scanning.{Reach, say, reach, lastRow, progressOf, begunIn, bytesTaken, afterScan, afterReach, scanned}
-use Rattle.listing.specs.Pieces.{Wrote, Found, Scanned}
-use Rattle.listing.proofs.Texts.Written.{_then_, wrote-over}
+use Rattle.lent.specs.Writing.{Wrote}
+use Rattle.lent.proofs.Chains.{_then_, all-placed}
+use Rattle.listing.specs.Pieces.{Found, Scanned}
+use Rattle.listing.proofs.Texts.Written.{wrote-over}
 use Rattle.listing.proofs.Texts.KeptBytes.{length-padded, begun-back}
 use Rattle.listing.proofs.Chunks.ByteByByte.{Quiet, quiet-reach, line-reach, over-reach, cut-reach}
 use Rattle.listing.proofs.Lines.LineLoop.{cut-out, quiet-found}
@@ -114,7 +116,7 @@ unfolding scanned
 scan-left p chunk out after k r e x =
     let w : Reach = reach (p .lines) (begunIn p) (take k chunk) in
     let fits : k ≤ length chunk = omega (arith, taken-fits chunk out) in (
-      (λ i. afterScan (record { progress = x .progress i; written = (x .written .place ∙ zero-add (length (w .text))) i; used = (x .used ∙ length-take-le k chunk fits) i }) (wrote-over (x .written) (x .room) i))
+      (λ i. afterScan (record { progress = x .progress i; written = (all-placed (x .room) (x .written) ∙ zero-add (length (w .text))) i; used = (x .used ∙ length-take-le k chunk fits) i }) (wrote-over (x .written) (x .room) i))
           ∙ ap (λ (j : ℕ). afterReach (reach (p .lines) (begunIn p) (take j chunk)) j out) e,
       x .room,
     )

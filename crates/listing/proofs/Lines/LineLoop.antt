@@ -1,7 +1,7 @@
 -- One turn of the loop over the lines of a chunk, and its ends.
 use mathlib.Core.Path.{_≡_, refl, sym, ap, subst, _∙_}
 use mathlib.Core.List.{List, [], _∷_, _++_, append-nil}
-use Prim.Native.Nat.{ℕ, suc, _+_, _-_, _≤_, _<_}
+use Prim.Native.Nat.{ℕ, suc, _+_, _-_, _*_, _≤_, _<_}
 use native.Mathlib.Numerals.{add-one}
 use native.Mathlib.Omega.{arith}
 use lib.ListN.{length, take, drop, getD, length-append, length-take, length-drop, take-append-drop, drop-of-length-le}
@@ -14,8 +14,9 @@ use Rattle.listing.specs.declared.scan.Step.{Step}
 use Rattle.listing.specs.Rows.{rowOf, rowText, cutText}
 use Rattle.listing.specs.Listing.{lineRow, limit}
 use Rattle.listing.specs.Scanning.{Reach, say, reach, progressOf, begunIn}
-use Rattle.listing.specs.Pieces.{Wrote, Found, Scanned}
-use Rattle.listing.proofs.Texts.Written.{wrote-as, sets-sets}
+use Rattle.lent.specs.Writing.{Wrote}
+use Rattle.lent.proofs.Chains.{sets-next, wrote-as, all-placed, placed}
+use Rattle.listing.specs.Pieces.{Found, Scanned}
 use Rattle.listing.proofs.Chunks.ByteByByte.{Quiet, line-reach, quiet-reach, cut-reach}
 use Rattle.listing.proofs.Lines.WrongLines.{kept-row}
 
@@ -64,37 +65,40 @@ pub turn : (c o₀ o after : List ℕ) (n₀ a₀ p₀ n a p e next : ℕ)
     → Found c a e
     → e < length c
     → Wrote o after p next (lineRow (n + 1) (take (e - a) (drop a c)))
+    → next ≤ length o
     → Went c o₀ after n₀ a₀ p₀ (n + 1) (e + 1) next
 unfolding say
-turn c o₀ o after n₀ a₀ p₀ n a p e next w h f g t =
+turn c o₀ o after n₀ a₀ p₀ n a p e next w h f g t m =
     let R : List ℕ = lineRow (n + 1) (take (e - a) (drop a c)) in
     let W : Reach = reach (n + 1) [] (drop (e + 1) c) in
     let d : reach n [] (drop a c) ≡ say R W = line-done c n a e h f g in
     record {
-      text = ap (λ (k : ℕ). sets after k (W .text)) (t .place) ∙ ap (λ (l : List ℕ). sets l (p + length R) (W .text)) (t .bytes) ∙ sets-sets R (W .text) o p ∙ sym (ap (λ (x : Reach). sets o p (x .text)) d) ∙ w .text;
-      place = ap (λ (k : ℕ). k + length (W .text)) (t .place) ∙ omega (arith, length-append R (W .text)) ∙ sym (ap (λ (x : Reach). p + length (x .text)) d) ∙ w .place;
+      text = ap (λ (l : List ℕ). sets l next (W .text)) (t .bytes) ∙ sets-next R (W .text) o p next (t .place) ∙ sym (ap (λ (x : Reach). sets o p (x .text)) d) ∙ w .text;
+      place = ap (λ (k : ℕ). k + length (W .text)) (all-placed m t) ∙ omega (arith, length-append R (W .text)) ∙ sym (ap (λ (x : Reach). p + length (x .text)) d) ∙ w .place;
       lines = sym (ap (λ (x : Reach). x .lines) d) ∙ w .lines;
       begun = sym (ap (λ (x : Reach). x .begun) d) ∙ w .begun;
     }
 
+-- the row fits, and there is room for a row of each byte behind its line
+pub room-left : (size to p next n a e : ℕ) → p + 27 * (n - a) ≤ size → next ≤ p + 27 → a ≤ e → e < n → to ≡ size → (next ≤ size) × (next + 27 * (n - (e + 1)) ≤ to)
+room-left size to p next n a e h l low more k = (omega arith, omega arith)
+
 -- where the loop ends with what is left
 pub ended : (c o₀ o after : List ℕ) (n₀ a₀ p₀ n a p : ℕ) (x : Reach) (r : Step)
     → Went c o₀ o n₀ a₀ p₀ n a p
+    → length o ≡ length o₀
     → reach n [] (drop a c) ≡ x
     → Wrote o after p (r .written) (x .text)
     → r .progress ≡ progressOf (x .lines) (x .begun)
     → r .used ≡ length c - a₀
     → r .written ≤ length o₀
     → Scanned n₀ [] (drop a₀ c) o₀ after p₀ r
-ended c o₀ o after n₀ a₀ p₀ n a p x r w d t s u m =
+ended c o₀ o after n₀ a₀ p₀ n a p x r w l d t s u m =
     record {
       progress = s ∙ sym (ap (λ (y : Reach). progressOf (y .lines) (y .begun)) d) ∙ ap (λ (m : ℕ). progressOf m (reach n [] (drop a c) .begun)) (w .lines) ∙ ap (progressOf (reach n₀ [] (drop a₀ c) .lines)) (w .begun);
       used = u ∙ sym (length-drop a₀ c);
       room = m;
-      written = record {
-        bytes = t .bytes ∙ sym (ap (λ (y : Reach). sets o p (y .text)) d) ∙ w .text;
-        place = t .place ∙ sym (ap (λ (y : Reach). p + length (y .text)) d) ∙ w .place;
-      };
+      written = placed m (t .bytes ∙ sym (ap (λ (y : Reach). sets o p (y .text)) d) ∙ w .text) (all-placed (omega arith) t ∙ sym (ap (λ (y : Reach). p + length (y .text)) d) ∙ w .place);
     }
 
 -- ---- its ends

@@ -1,13 +1,13 @@
 -- Laws of the first bytes of a line, as they are kept.
 use mathlib.Core.Path.{_≡_, refl, sym, ap, _∙_}
 use mathlib.Core.Bool.{Bool, true, false}
-use mathlib.Core.List.{List, [], _∷_, _++_, map}
+use mathlib.Core.List.{List, [], _∷_, _++_}
 use Prim.Native.Nat.{ℕ, zero, suc, _+_, _-_, _≤_, _<_, min}
 use native.Mathlib.Nat.{zero-min, min-zero, suc-min-suc}
 use native.Mathlib.Omega.{arith}
 use borrow.Author.Tests.{eqb-true, eqb-false}
 use lib.Dec.{eqb}
-use lib.ListN.{length, take, getD, set, length-append, length-take, length-map, List·getD-append, List·getD-eq-default}
+use lib.ListN.{length, take, getD, set, length-append, length-take, List·getD-append, List·getD-eq-default}
 use lib.Seq.{getD-append-add, getD-take, getD-set-same, getD-set-other, length-take-le, ext-getD}
 use Rattle.listing.specs.declared.progress.Progress.{Progress}
 use Rattle.listing.specs.Scanning.{sizedTo, progressOf, begunIn}
@@ -85,10 +85,6 @@ unfolding progressOf
 kept-all n length′ kept l h f e = λ i. record { lines = n; length = e i; begun = filled-up kept l h f i }
 
 -- ---- lengths
-
--- what owning an array that is a field tells of its length stands at a `map`
-pub unmapped : {B : Type 0} (f : ℕ → B) (l : List ℕ) (n : ℕ) → length (map f l) ≡ n → length l ≡ n
-unmapped f l n e = sym (length-map l f) ∙ e
 
 pub take-least : (n m : ℕ) (l : List ℕ) → length l ≡ m → take (min n m) l ≡ take n l
 take-least zero m l e = simp zero-min

@@ -5,12 +5,12 @@ use native.Mathlib.Omega.{arith}
 use native.Mathlib.Numerals.{add-one}
 use mathlib.Core.List.{List, [], _∷_, _++_}
 use lib.ListN.{length, getD, take}
-use lib.Seq.{take-suc, length-take-le}
+use lib.Seq.{take-suc}
 use Rattle.slots.specs.declared.slot.Slot.{Slot}
 use Rattle.slots.specs.Slots.{noSlot}
 use Rattle.record_bytes.specs.Packed.{slotBytes, slotsBytes}
-use Rattle.record_bytes.specs.Writing.{Wrote}
-use Rattle.record_bytes.proofs.ToBytes.Chains.{behind}
+use Rattle.lent.specs.Writing.{Wrote}
+use Rattle.lent.proofs.Chains.{_then_}
 
 pub length-slots : (ss : List Slot) → length (slotsBytes ss) ≡ 6 * length ss
 unfolding slotsBytes
@@ -30,9 +30,6 @@ slots-suc ss k h =
     ∙ slots-append (take k ss) (getD ss k noSlot ∷ [])
 
 -- one slot more
-pub slot-more : {l m r : List ℕ} (i k : ℕ) (ss : List Slot) → k < length ss → Wrote l m i (slotsBytes (take k ss))
-    → Wrote m r (i + 6 * k) (slotBytes (getD ss k noSlot)) → Wrote l r i (slotsBytes (take (k + 1) ss))
-slot-more i k ss h x y =
-    let n : length (take k ss) ≡ k = length-take-le k ss (omega arith) in
-    let at : i + 6 * k ≡ i + length (slotsBytes (take k ss)) = omega (arith, length-slots (take k ss)) in
-    rw (slots-suc ss k h) (behind at x y)
+pub slot-more : {l m r : List ℕ} {i j n : ℕ} (k : ℕ) (ss : List Slot) → k < length ss → Wrote l m i j (slotsBytes (take k ss))
+    → Wrote m r j n (slotBytes (getD ss k noSlot)) → Wrote l r i n (slotsBytes (take (k + 1) ss))
+slot-more k ss h x y = rw (slots-suc ss k h) (x then y)

@@ -1,7 +1,6 @@
 -- The parts of a packed record, one behind the other.
 use mathlib.Core.Path.{_≡_, refl, sym, ap, _∙_}
 use Prim.Native.Nat.{ℕ, _+_}
-use native.Mathlib.Omega.{arith}
 use mathlib.Core.List.{List, _++_}
 use lib.ListN.{length, length-append}
 use borrow.Author.Tests.{eq-eqb, ne-eqb}
@@ -9,8 +8,8 @@ use Rattle.report.specs.declared.record.Body.{Body}
 use Rattle.report.specs.declared.record.Body.the-variants.{NoCategory, Hypocenter, Intensity, Nankai, AshFall}
 use Rattle.report.specs.declared.record.Record.{Record}
 use Rattle.record_bytes.specs.Packed.{zeroFilled, headBytes, bodyBytes, slotsBytes, packed, packedInto}
-use Rattle.record_bytes.specs.Writing.{Wrote}
-use Rattle.record_bytes.proofs.ToBytes.Chains.{behind, _then_, whole}
+use Rattle.lent.specs.Writing.{Wrote}
+use Rattle.lent.proofs.Chains.{_then_, whole}
 use Rattle.record_bytes.proofs.ToBytes.Slots.{length-slots}
 
 length-body : (b : Body) → length (zeroFilled 22 (bodyBytes b)) ≡ 22
@@ -40,11 +39,10 @@ module _ (r : Record) where
   length-packed n m = length-append most (r .text) ∙ rw (length-most n, m)
 
   -- each part written where the one before it ends
-  pub packed-in-parts : {l a b c d : List ℕ} → length (r .slots) ≡ 16 → length (r .text) ≡ 18 → length l ≡ 145 → Wrote l a 0 (headBytes r)
-      → Wrote a b 9 (zeroFilled 22 (bodyBytes (r .body))) → Wrote b c 31 (slotsBytes (r .slots)) → Wrote c d 127 (r .text) → d ≡ packed r
+  pub packed-in-parts : {l a b c d : List ℕ} {i j k n : ℕ} → length (r .slots) ≡ 16 → length (r .text) ≡ 18 → length l ≡ 145 → Wrote l a 0 i (headBytes r)
+      → Wrote a b i j (zeroFilled 22 (bodyBytes (r .body))) → Wrote b c j k (slotsBytes (r .slots)) → Wrote c d k n (r .text) → d ≡ packed r
   unfolding packed
-  packed-in-parts n m e x y z w =
-      whole (length-packed n m ∙ sym e) (behind (omega (arith, length-most n)) (behind (omega (arith, length-front)) (x then y) z) w)
+  packed-in-parts s t e x y z w = whole (length-packed s t ∙ sym e) (((x then y) then z) then w)
 
 -- ---- by the length of the buffer
 

@@ -5,11 +5,11 @@ use borrow.Author.Needs.{needs}
 use Rattle.listing.proofs.row.put_cut.Statement.{statement}
 use Rattle.listing.proofs.row.put_cut.Tie as tie
 
-slice-aggregate-put-text : tie.Need-slice-aggregate-put-text
-slice-aggregate-put-text c = search needs
+slice-aggregate-put-bytes : tie.Need-slice-aggregate-put-bytes
+slice-aggregate-put-bytes c = search needs
 
-put-text-requires : tie.Need-put-text-requires
-put-text-requires c κs = search needs
+put-bytes-requires : tie.Need-put-bytes-requires
+put-bytes-requires c κs = search needs
 
 same-length : tie.Need-same-length
 same-length c = search needs
@@ -18,7 +18,7 @@ returns : tie.Need-returns
 unfolding cutText
 returns c =
     let p = c .before .before in
-    (p .put-text .ensures, omega (arith, p .put-text .ensures .place))
+    (p .put-bytes .ensures, omega (arith, p .put-bytes .ensures .place))
 
 pub put-cut-spec : {M : Type 1} → statement M
-put-cut-spec = tie.close (tie.spec slice-aggregate-put-text put-text-requires same-length returns)
+put-cut-spec = tie.close (tie.spec slice-aggregate-put-bytes put-bytes-requires same-length returns)

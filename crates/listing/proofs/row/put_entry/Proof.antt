@@ -1,8 +1,8 @@
 -- `listing::row::put_entry` meets its contract.
 use Prim.Native.Nat.{ℕ, _<_}
 use native.Mathlib.Omega.{arith}
-use Rattle.listing.proofs.Texts.Decimals.{three-digits}
-use Rattle.listing.proofs.Texts.Written.{_then_}
+use Rattle.lent.proofs.Decimals.{three-digits}
+use Rattle.lent.proofs.Chains.{_then_}
 use borrow.Author.Needs.{needs}
 use Rattle.listing.proofs.row.put_entry.Statement.{statement}
 use Rattle.listing.proofs.row.put_entry.Tie as tie
@@ -19,15 +19,11 @@ put-byte-requires-2 c κs = search needs
 enum-known-entry : tie.Need-enum-known-entry
 enum-known-entry c = search needs
 
-cast-put-number : tie.Need-cast-put-number
-cast-put-number c = search needs
+cast-put-decimal : tie.Need-cast-put-decimal
+cast-put-decimal c = search needs
 
-put-number-requires : tie.Need-put-number-requires
-put-number-requires c κs =
-    let p = c .before .before .before .before .before .before in
-    let n : ℕ = c .before .before .entry .given .0 .0 in
-    let h : n < 256 = search needs in
-    omega (arith, p .put-byte .ensures .place, three-digits n h)
+put-decimal-requires : tie.Need-put-decimal-requires
+put-decimal-requires c κs = search needs
 
 same-length : tie.Need-same-length
 same-length c = search needs
@@ -48,7 +44,7 @@ returns-2 c =
     let p = e .before .before .before .before in
     let n : ℕ = e .entry .given .0 .0 in
     let h : n < 256 = search needs in
-    (rw (e .entry .given .1) (p .put-byte .ensures then q .put-number .ensures), omega (arith, q .put-number .ensures .place, p .put-byte .ensures .place, three-digits n h))
+    (rw (e .entry .given .1) (p .put-byte .ensures then q .put-decimal .ensures), omega (arith, q .put-decimal .ensures .place, p .put-byte .ensures .place, three-digits n h))
 
 pub put-entry-spec : {M : Type 1} → statement M
 put-entry-spec =
@@ -58,8 +54,8 @@ put-entry-spec =
     enum-told
     put-byte-requires-2
     enum-known-entry
-    cast-put-number
-    put-number-requires
+    cast-put-decimal
+    put-decimal-requires
     same-length
     returns
     same-length-2

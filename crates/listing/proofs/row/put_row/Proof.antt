@@ -2,10 +2,10 @@
 use Prim.Native.Nat.{_+_, _≤_}
 use native.Mathlib.Omega.{arith}
 use lib.ListN.{length}
-use Rattle.listing.specs.Decimal.{decimal}
+use Rattle.lent.specs.Numbers.{decimal}
 use Rattle.listing.specs.Rows.{rowText}
-use Rattle.listing.proofs.Texts.Decimals.{ten-digits}
-use Rattle.listing.proofs.Texts.Written.{_then_}
+use Rattle.lent.proofs.Decimals.{ten-digits}
+use Rattle.lent.proofs.Chains.{_then_}
 use borrow.Author.Needs.{needs}
 use Rattle.listing.proofs.row.put_row.Statement.{statement}
 use Rattle.listing.proofs.row.put_row.Tie as tie
@@ -15,8 +15,8 @@ digits c = ten-digits (c .args .number) (search needs)
 
 -- where each piece ends, at the latest
 
-after-number : (c : tie.After-put-number) → c .put-number .result ≤ c .before .before .before .args .at + 10
-after-number c = omega (arith, c .put-number .ensures .place, digits (c .before .before .before))
+after-number : (c : tie.After-put-decimal) → c .put-decimal .result ≤ c .before .before .before .args .at + 10
+after-number c = omega (arith, c .put-decimal .ensures .place, digits (c .before .before .before))
 
 after-answer : (c : tie.After-put-entry) → c .put-entry .result ≤ c .before .before .before .before .before .before .before .args .at + 14
 after-answer c = omega (arith, c .put-entry .ensures .1, after-number (c .before .before .before .before))
@@ -32,8 +32,8 @@ after-slots : (c : tie.After-put-entry4)
     → c .put-entry4 .result ≤ c .before .before .before .before .before .before .before .before .before .before .before .before .before .before .before .before .before .before .before .args .at + 26
 after-slots c = omega (arith, c .put-entry4 .ensures .1, after-category (c .before .before .before .before))
 
-put-number-requires : tie.Need-put-number-requires
-put-number-requires c κs = omega (arith, digits (c .before .before))
+put-decimal-requires : tie.Need-put-decimal-requires
+put-decimal-requires c κs = search needs
 
 put-entry-requires : tie.Need-put-entry-requires
 put-entry-requires c κs = omega (arith, after-number (c .before .before .before))
@@ -48,7 +48,7 @@ put-entry-requires-4 : tie.Need-put-entry-requires-4
 put-entry-requires-4 c κs = omega (arith, after-category (c .before .before .before))
 
 put-byte-requires : tie.Need-put-byte-requires
-put-byte-requires c κs = omega (arith, after-slots (c .before .before .before))
+put-byte-requires c κs = search needs
 
 same-length : tie.Need-same-length
 same-length c = search needs
@@ -62,7 +62,7 @@ returns c =
     let q2 = q3 .before .before .before .before in
     let q1 = q2 .before .before .before .before in
     let q0 = q1 .before .before .before .before in (
-      q0 .put-number .ensures then q1 .put-entry .ensures .0 then q2 .put-entry2 .ensures .0 then q3 .put-entry3 .ensures .0 then q4 .put-entry4 .ensures .0 then q5 .put-byte .ensures,
+      q0 .put-decimal .ensures then q1 .put-entry .ensures .0 then q2 .put-entry2 .ensures .0 then q3 .put-entry3 .ensures .0 then q4 .put-entry4 .ensures .0 then q5 .put-byte .ensures,
       omega (arith, q5 .put-byte .ensures .place, after-slots q4),
     )
 
@@ -70,7 +70,7 @@ pub put-row-spec : {M : Type 1} → statement M
 put-row-spec =
     tie.close
     (tie.spec
-    put-number-requires
+    put-decimal-requires
     put-entry-requires
     put-entry-requires-2
     put-entry-requires-3

@@ -9,11 +9,11 @@ use Rattle.listing.proofs.row.write_heading.Tie as tie
 returns : tie.Need-returns
 returns c = too-short headingText _ (c .if1 .taken)
 
-slice-aggregate-put-text : tie.Need-slice-aggregate-put-text
-slice-aggregate-put-text c = search needs
+slice-aggregate-put-bytes : tie.Need-slice-aggregate-put-bytes
+slice-aggregate-put-bytes c = search needs
 
-put-text-requires : tie.Need-put-text-requires
-put-text-requires c κs = search needs
+put-bytes-requires : tie.Need-put-bytes-requires
+put-bytes-requires c κs = search needs
 
 same-length : tie.Need-same-length
 same-length c = search needs
@@ -22,8 +22,8 @@ returns-2 : tie.Need-returns-2
 unfolding headingText
 returns-2 c =
     let p = c .before .before in
-    wrote-laid (p .put-text .ensures) (omega (arith, p .put-text .ensures .place)) (p .before .before .before .if1 .left)
+    wrote-laid (p .put-bytes .ensures) (omega (arith, p .put-bytes .ensures .place)) (p .before .before .before .if1 .left)
 
 pub write-heading-spec : {M : Type 1} → statement M
 write-heading-spec =
-    tie.close (tie.spec returns slice-aggregate-put-text put-text-requires same-length returns-2)
+    tie.close (tie.spec returns slice-aggregate-put-bytes put-bytes-requires same-length returns-2)

@@ -2,7 +2,8 @@
 use mathlib.Core.Path.{ap}
 use native.Mathlib.Omega.{arith}
 use Rattle.listing.specs.Rows.{rowText}
-use Rattle.listing.proofs.Texts.Written.{wrote-laid, wrote-as, too-short}
+use Rattle.lent.proofs.Chains.{wrote-as}
+use Rattle.listing.proofs.Texts.Written.{wrote-laid, too-short}
 use borrow.Author.Needs.{needs}
 use Rattle.listing.proofs.row.write_row.Statement.{statement}
 use Rattle.listing.proofs.row.write_row.Tie as tie

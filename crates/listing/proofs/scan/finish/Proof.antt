@@ -9,7 +9,8 @@ use lib.Seq.{length-take-le}
 use Rattle.listing.specs.Rows.{rowText, rowOf, filledBy}
 use Rattle.listing.specs.Listing.{lineRow}
 use Rattle.listing.specs.Scanning.{begunIn, finished}
-use Rattle.listing.proofs.Texts.KeptBytes.{unmapped, take-least}
+use Rattle.bits.proofs.Arrays.{unmapped}
+use Rattle.listing.proofs.Texts.KeptBytes.{take-least}
 use Rattle.listing.proofs.Chunks.ByteByByte.{limit-is}
 use Rattle.listing.proofs.Chunks.Chunks.{last-some, last-none, last-over, nothing-laid}
 use borrow.Author.Needs.{needs}

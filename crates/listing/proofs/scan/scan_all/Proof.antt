@@ -8,8 +8,9 @@ use lib.ListN.{length, take}
 use lib.Seq.{take-all}
 use Rattle.listing.specs.Rows.{cutText}
 use Rattle.listing.specs.Scanning.{begunIn, progressOf}
-use Rattle.listing.proofs.Texts.KeptBytes.{unmapped, begun-short}
-use Rattle.listing.proofs.Texts.Written.{nothing-written}
+use Rattle.bits.proofs.Arrays.{unmapped}
+use Rattle.listing.proofs.Texts.KeptBytes.{begun-short}
+use Rattle.lent.proofs.Chains.{nothing}
 use Rattle.listing.proofs.Chunks.ByteByByte.{limit-is}
 use Rattle.listing.proofs.Chunks.Chunks.{settled, cut-all, idle}
 use borrow.Author.Needs.{needs}
@@ -61,7 +62,7 @@ returns-3 c =
     let s = j .before .before .before .before in
     let n : ℕ = s .args .from .lines in
     let begun : List ℕ = begunIn (s .args .from) in
-    settled n begun (s .args .chunk .now) _ _ 0 _ (record { text = []; lines = n; begun = begun }) (idle n begun (s .args .chunk .now) (omega (arith, limit-is)) (⊎-elim (λ w e. omega (arith, limit-is)) (λ w e. omega (arith, limit-is)) (j .if2 .came))) (c .with .ensures ∙ ap (progressOf n) (ap (take 64) (append-nil begun) ∙ take-all 64 begun (short s))) refl (nothing-written (s .args .out .now) 0) (omega arith)
+    settled n begun (s .args .chunk .now) _ _ 0 _ (record { text = []; lines = n; begun = begun }) (idle n begun (s .args .chunk .now) (omega (arith, limit-is)) (⊎-elim (λ w e. omega (arith, limit-is)) (λ w e. omega (arith, limit-is)) (j .if2 .came))) (c .with .ensures ∙ ap (progressOf n) (ap (take 64) (append-nil begun) ∙ take-all 64 begun (short s))) refl (nothing (s .args .out .now) 0) (omega arith)
 
 pub scan-all-spec : {M : Type 1} → statement M
 scan-all-spec =

@@ -6,8 +6,9 @@ use native.Mathlib.Omega.{arith}
 use lib.ListN.{length, take}
 use lib.Seq.{length-take-le}
 use Rattle.listing.specs.Scanning.{begunIn}
-use Rattle.listing.proofs.Texts.KeptBytes.{unmapped, begun-short}
-use Rattle.listing.proofs.Texts.Written.{nothing-written}
+use Rattle.bits.proofs.Arrays.{unmapped}
+use Rattle.listing.proofs.Texts.KeptBytes.{begun-short}
+use Rattle.lent.proofs.Chains.{nothing}
 use Rattle.listing.proofs.Chunks.ByteByByte.{limit-is}
 use Rattle.listing.proofs.Lines.LineLoop.{row-said}
 use Rattle.listing.proofs.Chunks.Chunks.{settled, whole-reach, kept-fits, first-done}
@@ -40,7 +41,7 @@ returns c =
     let s = f .before .before .before in
     let d : List ℕ = s .args .chunk .now in
     let begun : List ℕ = begunIn (s .args .from) in
-    settled (s .args .from .lines) begun d _ _ 0 _ (record { text = []; lines = s .args .from .lines; begun = take 64 (begun ++ take (f .find .result) d) }) (whole-reach (s .args .from .lines) begun d (f .find .result) (s .pre .0) (short s) (f .find .ensures) (c .if1 .taken)) (m .with .ensures) refl (nothing-written (s .args .out .now) 0) (omega arith)
+    settled (s .args .from .lines) begun d _ _ 0 _ (record { text = []; lines = s .args .from .lines; begun = take 64 (begun ++ take (f .find .result) d) }) (whole-reach (s .args .from .lines) begun d (f .find .result) (s .pre .0) (short s) (f .find .ensures) (c .if1 .taken)) (m .with .ensures) refl (nothing (s .args .out .now) 0) (omega arith)
 
 array-share-prefix-begun : tie.Need-array-share-prefix-begun
 array-share-prefix-begun c = fits (c .before .before)

@@ -5,9 +5,9 @@ use Prim.Native.Nat.{ℕ, _+_, _-_, _*_, _≤_, _<_}
 use native.Mathlib.Omega.{arith}
 use lib.ListN.{length, take, drop}
 use Rattle.listing.specs.Rows.{cutText}
-use Rattle.listing.proofs.Texts.Written.{nothing-written}
+use Rattle.lent.proofs.Chains.{nothing}
 use Rattle.listing.proofs.Chunks.ByteByByte.{limit-is}
-use Rattle.listing.proofs.Lines.LineLoop.{Went, row-said, turn, ended, tail-reach, kept-tail, cut-tail, end-reach}
+use Rattle.listing.proofs.Lines.LineLoop.{Went, row-said, room-left, turn, ended, tail-reach, kept-tail, cut-tail, end-reach}
 use borrow.Author.Needs.{needs}
 use Rattle.listing.proofs.scan.scan_lines.Statement.{statement}
 use Rattle.listing.proofs.scan.scan_lines.Tie as tie
@@ -53,7 +53,7 @@ returns c =
     let s = l .before .before .before in
     let d : List ℕ = s .args .chunk .now in
     let low : l .loop .at ≤ f .find .result = f .find .ensures .low in
-    ended d (s .args .out .now) (l .loop .out) _ (s .args .lines) (s .args .from) (s .args .to) (l .loop .n) (l .loop .at) (l .loop .put) (record { text = []; lines = l .loop .n; begun = take 64 (drop (l .loop .at) d) }) _ (l .loop .inv .4) (tail-reach d (l .loop .n) (l .loop .at) (f .find .result) (omega (arith, limit-is)) (f .find .ensures) (y .before .if1 .taken)) (nothing-written (l .loop .out) (l .loop .put)) (kept-tail (y .behind .result) (c .with .result) d (l .loop .n) (l .loop .at) (length d - l .loop .at) (y .behind .ensures) (omega arith) (c .with .ensures)) refl (omega arith)
+    ended d (s .args .out .now) (l .loop .out) _ (s .args .lines) (s .args .from) (s .args .to) (l .loop .n) (l .loop .at) (l .loop .put) (record { text = []; lines = l .loop .n; begun = take 64 (drop (l .loop .at) d) }) _ (l .loop .inv .4) (l .loop .inv .3) (tail-reach d (l .loop .n) (l .loop .at) (f .find .result) (omega (arith, limit-is)) (f .find .ensures) (y .before .if1 .taken)) (nothing (l .loop .out) (l .loop .put)) (kept-tail (y .behind .result) (c .with .result) d (l .loop .n) (l .loop .at) (length d - l .loop .at) (y .behind .ensures) (omega arith) (c .with .ensures)) refl (omega arith)
 
 sub-read-line : tie.Need-sub-read-line Inv-loop μ-loop
 sub-read-line c = search needs
@@ -93,12 +93,13 @@ loop-again c =
     let d : List ℕ = s .args .chunk .now in
     let low : l .loop .at ≤ f .find .result = f .find .ensures .low in
     let high : f .find .result ≤ length d = f .find .ensures .high in
-    let more : f .find .result < length d = omega (arith, e .if1 .left) in (
+    let more : f .find .result < length d = omega (arith, e .if1 .left) in
+    let room = room-left (length (l .loop .out)) _ (l .loop .put) (p .put-row .result) (length d) (l .loop .at) (f .find .result) (l .loop .inv .2) (p .put-row .ensures .1) low more (p .put-row .kept .0) in (
       omega arith,
       omega arith,
-      omega (arith, p .put-row .ensures .1, p .put-row .kept .0),
+      room .1,
       p .put-row .kept .0 ∙ l .loop .inv .3,
-      turn d (s .args .out .now) (l .loop .out) _ (s .args .lines) (s .args .from) (s .args .to) (l .loop .n) (l .loop .at) (l .loop .put) (f .find .result) (p .put-row .result) (l .loop .inv .4) (omega (arith, limit-is)) (f .find .ensures) more (row-said (l .loop .n + 1) (take (f .find .result - l .loop .at) (drop (l .loop .at) d)) (o .of .ensures) (o .before .read-line .ensures) (p .put-row .ensures .0)),
+      turn d (s .args .out .now) (l .loop .out) _ (s .args .lines) (s .args .from) (s .args .to) (l .loop .n) (l .loop .at) (l .loop .put) (f .find .result) (p .put-row .result) (l .loop .inv .4) (omega (arith, limit-is)) (f .find .ensures) more (row-said (l .loop .n + 1) (take (f .find .result - l .loop .at) (drop (l .loop .at) d)) (o .of .ensures) (o .before .read-line .ensures) (p .put-row .ensures .0)) (room .0),
     )
 
 put-cut-requires : tie.Need-put-cut-requires Inv-loop μ-loop
@@ -120,7 +121,7 @@ returns-2 c =
     let l = t .before .before in
     let s = l .before .before .before in
     let d : List ℕ = s .args .chunk .now in
-    ended d (s .args .out .now) (l .loop .out) _ (s .args .lines) (s .args .from) (s .args .to) (l .loop .n) (l .loop .at) (l .loop .put) (record { text = cutText; lines = l .loop .n + 1; begun = [] }) _ (l .loop .inv .4) (cut-tail d (l .loop .n) (l .loop .at) (omega (arith, limit-is)) (t .if2 .taken)) (k .put-cut .ensures .0) (c .behind2 .ensures) refl (omega (arith, k .put-cut .ensures .1))
+    ended d (s .args .out .now) (l .loop .out) _ (s .args .lines) (s .args .from) (s .args .to) (l .loop .n) (l .loop .at) (l .loop .put) (record { text = cutText; lines = l .loop .n + 1; begun = [] }) _ (l .loop .inv .4) (l .loop .inv .3) (cut-tail d (l .loop .n) (l .loop .at) (omega (arith, limit-is)) (t .if2 .taken)) (k .put-cut .ensures .0) (c .behind2 .ensures) refl (omega (arith, k .put-cut .ensures .1))
 
 behind-requires-3 : tie.Need-behind-requires-3 Inv-loop μ-loop
 behind-requires-3 c κs = search needs
@@ -134,7 +135,7 @@ returns-3 c =
     let l = t .before .before in
     let s = l .before .before .before in
     let d : List ℕ = s .args .chunk .now in
-    ended d (s .args .out .now) (l .loop .out) _ (s .args .lines) (s .args .from) (s .args .to) (l .loop .n) (l .loop .at) (l .loop .put) (record { text = []; lines = l .loop .n; begun = [] }) _ (l .loop .inv .4) (end-reach d (l .loop .n) (l .loop .at) (t .if2 .left)) (nothing-written (l .loop .out) (l .loop .put)) (c .behind3 .ensures) refl (omega arith)
+    ended d (s .args .out .now) (l .loop .out) _ (s .args .lines) (s .args .from) (s .args .to) (l .loop .n) (l .loop .at) (l .loop .put) (record { text = []; lines = l .loop .n; begun = [] }) _ (l .loop .inv .4) (l .loop .inv .3) (end-reach d (l .loop .n) (l .loop .at) (t .if2 .left)) (nothing (l .loop .out) (l .loop .put)) (c .behind3 .ensures) refl (omega arith)
 
 pub scan-lines-spec : {M : Type 1} → statement M
 scan-lines-spec =

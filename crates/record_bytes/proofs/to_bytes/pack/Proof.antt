@@ -1,9 +1,8 @@
 -- `record_bytes::to_bytes::pack` meets its contract.
 use mathlib.Core.Path.{_≡_, sym, _∙_}
-use native.Mathlib.Omega.{arith}
-use lib.ListN.{length, length-map}
+use lib.ListN.{length}
+use Rattle.bits.proofs.Arrays.{unmapped}
 use Rattle.record_bytes.proofs.ToBytes.Whole.{packed-in-parts, into-right, into-wrong}
-use Rattle.record_bytes.proofs.Texts.{text-put}
 use borrow.Author.Needs.{needs}
 use Rattle.record_bytes.proofs.to_bytes.pack.Statement.{statement}
 use Rattle.record_bytes.proofs.to_bytes.pack.Tie as tie
@@ -17,8 +16,11 @@ put-body-requires c κs = search needs
 put-slots-requires : tie.Need-put-slots-requires
 put-slots-requires c κs = search needs
 
-put-text-requires : tie.Need-put-text-requires
-put-text-requires c κs = search needs
+slice-aggregate-put-bytes : tie.Need-slice-aggregate-put-bytes
+slice-aggregate-put-bytes c = search needs
+
+put-bytes-requires : tie.Need-put-bytes-requires
+put-bytes-requires c κs = search needs
 
 same-length : tie.Need-same-length
 same-length c = search needs
@@ -26,16 +28,15 @@ same-length c = search needs
 returns : tie.Need-returns
 returns c =
     let text = c .before .before in
-    let slots = text .before .before .before .before in
+    let slots = text .before .before .before .before .before in
     let body = slots .before .before .before .before in
     let head = body .before .before .before .before in
     let t = head .before .before .before .before in
     let s = t .before .before in
     let r = s .args .r in
-    let n : length (r .slots) ≡ 16 = sym (length-map (r .slots) _) ∙ s .good .0 .1 .1 .1 .1 .1 .1 .0 .1 .0 .1 in
-    let m : length (r .text) ≡ 18 = sym (length-map (r .text) _) ∙ s .good .0 .1 .1 .1 .1 .1 .1 .1 .0 .1 .0 .1 in
-    packed-in-parts r n m (t .if1 .taken) (head .put-head .ensures) (body .put-body .ensures) (slots .put-slots .ensures) (text-put (omega arith) (text .put-text .ensures))
-    ∙ sym (into-right r _ (t .if1 .taken))
+    let n : length (r .slots) ≡ 16 = unmapped _ (r .slots) 16 (s .good .0 .1 .1 .1 .1 .1 .1 .0 .1 .0 .1) in
+    let m : length (r .text) ≡ 18 = unmapped _ (r .text) 18 (s .good .0 .1 .1 .1 .1 .1 .1 .1 .0 .1 .0 .1) in
+    packed-in-parts r n m (t .if1 .taken) (head .put-head .ensures) (body .put-body .ensures) (slots .put-slots .ensures) (text .put-bytes .ensures) ∙ sym (into-right r _ (t .if1 .taken))
 
 returns-2 : tie.Need-returns-2
 returns-2 c = sym (into-wrong _ _ (c .if1 .left))
@@ -47,7 +48,8 @@ pack-spec =
     put-head-requires
     put-body-requires
     put-slots-requires
-    put-text-requires
+    slice-aggregate-put-bytes
+    put-bytes-requires
     same-length
     returns
     returns-2)

@@ -1,6 +1,6 @@
 -- `record_bytes::to_bytes::put_body` meets its contract.
 use Rattle.record_bytes.specs.Packed.{bodyBytes}
-use Rattle.record_bytes.proofs.ToBytes.Chains.{_then_}
+use Rattle.lent.proofs.Chains.{_then_}
 use borrow.Author.Needs.{needs}
 use Rattle.record_bytes.proofs.to_bytes.put_body.Statement.{statement}
 use Rattle.record_bytes.proofs.to_bytes.put_body.Tie as tie

@@ -1,9 +1,6 @@
 -- `record_bytes::to_bytes::put_eruption` meets its contract.
-use mathlib.Core.Path.{_∙_}
-use native.Mathlib.Omega.{arith}
-use lib.ListN.{length-set}
 use Rattle.record_bytes.specs.Packed.{bodyBytes}
-use Rattle.record_bytes.proofs.ToBytes.Chains.{one, _then_}
+use Rattle.lent.proofs.Chains.{_then_}
 use borrow.Author.Needs.{needs}
 use Rattle.record_bytes.proofs.to_bytes.put_eruption.Statement.{statement}
 use Rattle.record_bytes.proofs.to_bytes.put_eruption.Tie as tie
@@ -11,33 +8,32 @@ use Rattle.record_bytes.proofs.to_bytes.put_eruption.Tie as tie
 put-time-requires : tie.Need-put-time-requires
 put-time-requires c κs = search needs
 
-slice-write-out : tie.Need-slice-write-out
-slice-write-out c = search needs
+put-byte-requires : tie.Need-put-byte-requires
+put-byte-requires c κs = search needs
 
 cast-put-wide : tie.Need-cast-put-wide
 cast-put-wide c = search needs
 
 put-wide-requires : tie.Need-put-wide-requires
-put-wide-requires c κs = (omega arith, simp length-set (omega arith))
+put-wide-requires c κs = search needs
 
 same-length : tie.Need-same-length
-same-length c =
-    let last = c .before .before in
-    simp length-set at (last .put-wide .kept .0) ∙ last .before .before .before .before .before .put-time .kept .0
+same-length c = search needs
 
 returns : tie.Need-returns
 unfolding bodyBytes
 returns c =
-    let last = c .before .before in
-    let first = last .before .before .before .before .before in
-    first .put-time .ensures then one _ _ _ then last .put-wide .ensures
+    let volcano = c .before .before in
+    let warning = volcano .before .before .before .before .before in
+    let time = warning .before .before .before .before in
+    time .put-time .ensures then warning .put-byte .ensures then volcano .put-wide .ensures
 
 pub put-eruption-spec : {M : Type 1} → statement M
 put-eruption-spec =
     tie.close
     (tie.spec
     put-time-requires
-    slice-write-out
+    put-byte-requires
     cast-put-wide
     put-wide-requires
     same-length

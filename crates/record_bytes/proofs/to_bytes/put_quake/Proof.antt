@@ -1,5 +1,5 @@
 -- `record_bytes::to_bytes::put_quake` meets its contract.
-use Rattle.record_bytes.proofs.ToBytes.Chains.{_then_}
+use Rattle.lent.proofs.Chains.{_then_}
 use borrow.Author.Needs.{needs}
 use Rattle.record_bytes.proofs.to_bytes.put_quake.Statement.{statement}
 use Rattle.record_bytes.proofs.to_bytes.put_quake.Tie as tie

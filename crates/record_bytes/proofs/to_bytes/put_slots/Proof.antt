@@ -1,41 +1,35 @@
 -- `record_bytes::to_bytes::put_slots` meets its contract: the bytes passed are those of the slots.
-use mathlib.Core.Path.{_≡_}
+use mathlib.Core.Path.{_≡_, refl, _∙_}
 use Prim.Native.Nat.{_-_, _≤_}
 use native.Mathlib.Omega.{arith}
 use lib.ListN.{length, take}
 use lib.Seq.{take-all}
-use borrow.Author.Needs.{needs}
+use Rattle.lent.specs.Writing.{Wrote}
+use Rattle.lent.proofs.Chains.{nothing}
 use Rattle.record_bytes.specs.Packed.{slotsBytes}
-use Rattle.record_bytes.specs.Writing.{Wrote}
-use Rattle.record_bytes.proofs.ToBytes.Chains.{nothing}
 use Rattle.record_bytes.proofs.ToBytes.Slots.{slot-more}
+use borrow.Author.Needs.{needs}
 use Rattle.record_bytes.proofs.to_bytes.put_slots.Statement.{statement}
 use Rattle.record_bytes.proofs.to_bytes.put_slots.Tie as tie
 
 abbrev Inv-loop : tie.InvT-loop
-Inv-loop out₀ slots k₀ out k = (k ≤ 16) × ((length out ≡ 145) × Wrote out₀ out 31 (slotsBytes (take k slots)))
+Inv-loop out₀ at slots next₀ k₀ out next k = (k ≤ 16) × (length out ≡ length out₀) × Wrote out₀ out at next (slotsBytes (take k slots))
 
 abbrev μ-loop : tie.MeasureT-loop
-μ-loop out₀ slots k₀ out k = 16 - k
+μ-loop out₀ at slots next₀ k₀ out next k = 16 - k
 
-size : (c : tie.Start Inv-loop μ-loop) → length (c .args .t2) ≡ 16
-size c = c .good .1 .0 .1 .0 .1
+size : (c : tie.Start Inv-loop μ-loop) → length (c .args .t3) ≡ 16
+size c = c .good .1 .1 .0 .1 .0 .1
 
 loop-holds : tie.Need-loop-holds Inv-loop μ-loop
 unfolding slotsBytes
-loop-holds c = (omega arith, (c .before .pre, nothing _ _))
+loop-holds c = (omega arith, refl, nothing _ _)
 
 mul-s : tie.Need-mul-s Inv-loop μ-loop
 mul-s c = search needs
 
 array-copy-out-s : tie.Need-array-copy-out-s Inv-loop μ-loop
 array-copy-out-s c = search needs
-
-mul-put-slot : tie.Need-mul-put-slot Inv-loop μ-loop
-mul-put-slot c = search needs
-
-add-put-slot : tie.Need-add-put-slot Inv-loop μ-loop
-add-put-slot c = search needs
 
 put-slot-requires : tie.Need-put-slot-requires Inv-loop μ-loop
 put-slot-requires c κs = search needs
@@ -51,7 +45,7 @@ loop-again c =
     let put = c .before .before in
     let l = put .before .before .before .before .loop in
     let s = put .before .before .before .before .before .before in
-    (omega arith, (omega arith, slot-more 31 (l .k) (s .args .t2) (omega (arith, size s)) (l .inv .1 .1) (put .put-slot .ensures)))
+    (omega arith, put .put-slot .kept .0 ∙ l .inv .1, slot-more (l .k) (s .args .t3) (omega (arith, size s)) (l .inv .2) (put .put-slot .ensures))
 
 same-length : tie.Need-same-length Inv-loop μ-loop
 same-length c = search needs
@@ -60,7 +54,7 @@ returns : tie.Need-returns Inv-loop μ-loop
 returns c =
     let l = c .before .loop in
     let s = c .before .before .before in
-    rw (take-all (l .k) (s .args .t2) (omega (arith, size s))) at (l .inv .1 .1)
+    rw (take-all (l .k) (s .args .t3) (omega (arith, size s))) at (l .inv .2)
 
 pub put-slots-spec : {M : Type 1} → statement M
 put-slots-spec =
@@ -71,8 +65,6 @@ put-slots-spec =
     loop-holds
     mul-s
     array-copy-out-s
-    mul-put-slot
-    add-put-slot
     put-slot-requires
     add-k
     loop-less

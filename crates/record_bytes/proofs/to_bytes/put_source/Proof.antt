@@ -1,8 +1,5 @@
 -- `record_bytes::to_bytes::put_source` meets its contract.
-use mathlib.Core.Path.{_∙_}
-use native.Mathlib.Omega.{arith}
-use lib.ListN.{length-set}
-use Rattle.record_bytes.proofs.ToBytes.Chains.{one, _then_}
+use Rattle.lent.proofs.Chains.{_then_}
 use borrow.Author.Needs.{needs}
 use Rattle.record_bytes.proofs.to_bytes.put_source.Statement.{statement}
 use Rattle.record_bytes.proofs.to_bytes.put_source.Tie as tie
@@ -13,25 +10,24 @@ cast-put-wide c = search needs
 put-wide-requires : tie.Need-put-wide-requires
 put-wide-requires c κs = search needs
 
-slice-write-out : tie.Need-slice-write-out
-slice-write-out c = search needs
+put-byte-requires : tie.Need-put-byte-requires
+put-byte-requires c κs = search needs
 
 cast-put-wide-2 : tie.Need-cast-put-wide-2
 cast-put-wide-2 c = search needs
 
 put-wide-requires-2 : tie.Need-put-wide-requires-2
-put-wide-requires-2 c κs = (omega arith, simp length-set (omega arith))
+put-wide-requires-2 c κs = search needs
 
 same-length : tie.Need-same-length
-same-length c =
-    let last = c .before .before in
-    simp length-set at (last .put-wide2 .kept .0) ∙ last .before .before .before .before .before .put-wide .kept .0
+same-length c = search needs
 
 returns : tie.Need-returns
 returns c =
-    let last = c .before .before in
-    let first = last .before .before .before .before .before in
-    first .put-wide .ensures then one _ _ _ then last .put-wide2 .ensures
+    let epicenter = c .before .before in
+    let magnitude = epicenter .before .before .before .before .before in
+    let depth = magnitude .before .before .before .before in
+    depth .put-wide .ensures then magnitude .put-byte .ensures then epicenter .put-wide2 .ensures
 
 pub put-source-spec : {M : Type 1} → statement M
 put-source-spec =
@@ -39,7 +35,7 @@ put-source-spec =
     (tie.spec
     cast-put-wide
     put-wide-requires
-    slice-write-out
+    put-byte-requires
     cast-put-wide-2
     put-wide-requires-2
     same-length

@@ -3,7 +3,7 @@ use Prim.Native.Nat.{ℕ}
 use Rattle.bits.specs.Frame.{laid}
 use Rattle.report.proofs.Writing.Encoding.{encoded, valid-known}
 use Rattle.report.proofs.Tables.Shapes.{Shaped}
-use Rattle.slots.proofs.Used.{unmapped}
+use Rattle.bits.proofs.Arrays.{unmapped}
 use Rattle.report.specs.Layout.{layout}
 use Rattle.report.specs.Runs.Writing.{frontWidths, frontValues}
 use borrow.Author.Needs.{needs, length-unmapped}

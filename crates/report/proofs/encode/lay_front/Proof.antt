@@ -4,7 +4,7 @@ use Rattle.report.specs.Layout.{slotKind}
 use Rattle.bits.specs.Frame.{laid}
 use Rattle.report.proofs.Writing.Encoding.{all-laid}
 use Rattle.report.proofs.Tables.Shapes.{Shaped}
-use Rattle.slots.proofs.Used.{unmapped}
+use Rattle.bits.proofs.Arrays.{unmapped}
 use Rattle.rows.specs.Layout.{slotsRows, Slots}
 use Rattle.slots.specs.Slots.{slotValues, slotTable}
 use Rattle.rows.specs.Values.{widths, joined}

@@ -1,7 +1,8 @@
 -- `store_bytes::to_bytes::pack_store` meets its contract.
 use mathlib.Core.Path.{_≡_}
 use lib.ListN.{length}
-use Rattle.pages.proofs.Shapes.{unmapped, shapes}
+use Rattle.bits.proofs.Arrays.{unmapped}
+use Rattle.pages.proofs.Shapes.{shapes}
 use Rattle.bulletin.proofs.Telling.PageBytes.{Eighteen}
 use Rattle.store_bytes.proofs.Pages.{store-in-parts, other-length}
 use borrow.Author.Needs.{needs}

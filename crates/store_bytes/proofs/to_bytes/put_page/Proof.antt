@@ -1,27 +1,28 @@
 -- `store_bytes::to_bytes::put_page` meets its contract.
-use native.Mathlib.Omega.{arith}
-use lib.ListN.{length-set}
-use Rattle.record_bytes.proofs.ToBytes.Chains.{one, _then_}
-use Rattle.record_bytes.proofs.Texts.{text-put}
+use Rattle.lent.proofs.Chains.{_then_}
 use borrow.Author.Needs.{needs}
 use Rattle.store_bytes.proofs.to_bytes.put_page.Statement.{statement}
 use Rattle.store_bytes.proofs.to_bytes.put_page.Tie as tie
 
-slice-write-out : tie.Need-slice-write-out
-slice-write-out c = search needs
+put-byte-requires : tie.Need-put-byte-requires
+put-byte-requires c κs = search needs
 
-add-put-text : tie.Need-add-put-text
-add-put-text c = search needs
+slice-aggregate-put-bytes : tie.Need-slice-aggregate-put-bytes
+slice-aggregate-put-bytes c = search needs
 
-put-text-requires : tie.Need-put-text-requires
-put-text-requires c κs = search needs
+put-bytes-requires : tie.Need-put-bytes-requires
+put-bytes-requires c κs = search needs
 
 same-length : tie.Need-same-length
-same-length c = simp length-set at (c .before .before .put-text .kept .0)
+same-length c = search needs
 
 returns : tie.Need-returns
-returns c = one _ _ _ then text-put (simp length-set (omega arith)) (c .before .before .put-text .ensures)
+returns c =
+    let text = c .before .before in
+    let mark = text .before .before .before .before .before in
+    mark .put-byte .ensures then text .put-bytes .ensures
 
 pub put-page-spec : {M : Type 1} → statement M
 put-page-spec =
-    tie.close (tie.spec slice-write-out add-put-text put-text-requires same-length returns)
+    tie.close
+    (tie.spec put-byte-requires slice-aggregate-put-bytes put-bytes-requires same-length returns)

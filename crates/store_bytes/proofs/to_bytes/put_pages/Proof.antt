@@ -1,46 +1,36 @@
 -- `store_bytes::to_bytes::put_pages` meets its contract: the bytes passed are those of the pages.
-use mathlib.Core.Path.{_≡_}
+use mathlib.Core.Path.{_≡_, refl, _∙_}
 use Prim.Native.Nat.{_-_, _≤_}
 use native.Mathlib.Omega.{arith}
 use lib.ListN.{length, take}
 use lib.Seq.{take-all}
-use borrow.Author.Needs.{needs}
+use Rattle.bits.proofs.Arrays.{unmapped}
+use Rattle.lent.specs.Writing.{Wrote}
+use Rattle.lent.proofs.Chains.{nothing}
 use Rattle.store_bytes.specs.Stores.{pagesBytes}
-use Rattle.record_bytes.specs.Writing.{Wrote}
-use Rattle.pages.proofs.Shapes.{unmapped, shapes}
-use Rattle.bulletin.proofs.Telling.PageBytes.{Eighteen}
-use Rattle.record_bytes.proofs.ToBytes.Chains.{nothing}
 use Rattle.store_bytes.proofs.Pages.{page-more}
+use borrow.Author.Needs.{needs}
 use Rattle.store_bytes.proofs.to_bytes.put_pages.Statement.{statement}
 use Rattle.store_bytes.proofs.to_bytes.put_pages.Tie as tie
 
 abbrev Inv-loop : tie.InvT-loop
-Inv-loop out₀ store k₀ out k = (k ≤ 63) × ((length out ≡ 1205) × Wrote out₀ out 8 (pagesBytes (take k (store .pages))))
+Inv-loop out₀ at store next₀ k₀ out next k = (k ≤ 63) × (length out ≡ length out₀) × Wrote out₀ out at next (pagesBytes (take k (store .pages)))
 
 abbrev μ-loop : tie.MeasureT-loop
-μ-loop out₀ store k₀ out k = 63 - k
+μ-loop out₀ at store next₀ k₀ out next k = 63 - k
 
-size : (c : tie.Start Inv-loop μ-loop) → length (c .args .t2 .pages) ≡ 63
-size c = unmapped _ (c .args .t2 .pages) 63 (c .good .1 .0 .1 .1 .1 .0 .1 .0 .1)
-
-eighteen : (c : tie.Start Inv-loop μ-loop) → Eighteen (c .args .t2 .pages)
-eighteen c = λ i h. shapes (c .args .t2 .pages) _ (c .good .1 .0 .1 .1 .1 .0 .1 .1) i h .long
+size : (c : tie.Start Inv-loop μ-loop) → length (c .args .t3 .pages) ≡ 63
+size c = unmapped _ (c .args .t3 .pages) 63 (c .good .1 .1 .0 .1 .1 .1 .0 .1 .0 .1)
 
 loop-holds : tie.Need-loop-holds Inv-loop μ-loop
 unfolding pagesBytes
-loop-holds c = (omega arith, (c .before .pre, nothing _ _))
+loop-holds c = (omega arith, refl, nothing _ _)
 
 mul-page : tie.Need-mul-page Inv-loop μ-loop
 mul-page c = search needs
 
 element-copy-out-page : tie.Need-element-copy-out-page Inv-loop μ-loop
 element-copy-out-page c = search needs
-
-mul-put-page : tie.Need-mul-put-page Inv-loop μ-loop
-mul-put-page c = search needs
-
-add-put-page : tie.Need-add-put-page Inv-loop μ-loop
-add-put-page c = search needs
 
 put-page-requires : tie.Need-put-page-requires Inv-loop μ-loop
 put-page-requires c κs = search needs
@@ -56,7 +46,7 @@ loop-again c =
     let put = c .before .before in
     let l = put .before .before .before .before .loop in
     let s = put .before .before .before .before .before .before in
-    (omega arith, (omega arith, page-more 8 (l .k) (s .args .t2 .pages) (omega (arith, size s)) (eighteen s) (l .inv .1 .1) (put .put-page .ensures)))
+    (omega arith, put .put-page .kept .0 ∙ l .inv .1, page-more (l .k) (s .args .t3 .pages) (omega (arith, size s)) (l .inv .2) (put .put-page .ensures))
 
 same-length : tie.Need-same-length Inv-loop μ-loop
 same-length c = search needs
@@ -65,7 +55,7 @@ returns : tie.Need-returns Inv-loop μ-loop
 returns c =
     let l = c .before .loop in
     let s = c .before .before .before in
-    rw (take-all (l .k) (s .args .t2 .pages) (omega (arith, size s))) at (l .inv .1 .1)
+    rw (take-all (l .k) (s .args .t3 .pages) (omega (arith, size s))) at (l .inv .2)
 
 pub put-pages-spec : {M : Type 1} → statement M
 put-pages-spec =
@@ -76,8 +66,6 @@ put-pages-spec =
     loop-holds
     mul-page
     element-copy-out-page
-    mul-put-page
-    add-put-page
     put-page-requires
     add-k
     loop-less

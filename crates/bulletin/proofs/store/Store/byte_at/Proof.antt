@@ -2,7 +2,8 @@
 use mathlib.Core.Path.{_≡_}
 use native.Mathlib.Omega.{arith}
 use lib.ListN.{length}
-use Rattle.pages.proofs.Shapes.{unmapped, shapes}
+use Rattle.bits.proofs.Arrays.{unmapped}
+use Rattle.pages.proofs.Shapes.{shapes}
 use Rattle.bulletin.proofs.Telling.PageBytes.{Eighteen, getD-flat}
 use borrow.Author.Needs.{needs}
 use Rattle.bulletin.proofs.store.Store.byte_at.Statement.{statement}

@@ -6,7 +6,8 @@ use native.Mathlib.Omega.{arith}
 use borrow.Author.Needs.{needs}
 use lib.ListN.{length, set, take, drop, length-set}
 use Rattle.bulletin.specs.Text.{bytesInOrder}
-use Rattle.pages.proofs.Shapes.{unmapped, shapes}
+use Rattle.bits.proofs.Arrays.{unmapped}
+use Rattle.pages.proofs.Shapes.{shapes}
 use Rattle.bulletin.proofs.Telling.PageBytes.{Eighteen, length-flat, copy-more}
 use Rattle.bulletin.proofs.store.Store.copy_text.Statement.{statement}
 use Rattle.bulletin.proofs.store.Store.copy_text.Tie as tie

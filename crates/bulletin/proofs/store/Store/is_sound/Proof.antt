@@ -6,7 +6,7 @@ use borrow.Author.Needs.{needs}
 use borrow.Author.Tests.{not-true, not-false}
 use lib.ListN.{length, drop}
 use Rattle.bulletin.specs.Stores.{soundFrom, soundStore}
-use Rattle.pages.proofs.Shapes.{unmapped}
+use Rattle.bits.proofs.Arrays.{unmapped}
 use Rattle.bulletin.proofs.Stores.Sound.{sound-more, sound-stop, sound-end}
 use Rattle.bulletin.proofs.store.Store.is_sound.Statement.{statement}
 use Rattle.bulletin.proofs.store.Store.is_sound.Tie as tie

@@ -4,7 +4,7 @@ use Prim.Native.Nat.{_≤_, _-_}
 use native.Mathlib.Omega.{arith}
 use borrow.Author.Needs.{needs}
 use lib.ListN.{length}
-use Rattle.pages.proofs.Shapes.{unmapped}
+use Rattle.bits.proofs.Arrays.{unmapped}
 use Rattle.bulletin.proofs.Merging.Joins.{Joining, joining-none, joining-more, joining-all}
 use Rattle.bulletin.proofs.store.Store.joined.Statement.{statement}
 use Rattle.bulletin.proofs.store.Store.joined.Tie as tie

@@ -5,7 +5,7 @@ use native.Mathlib.Omega.{arith}
 use borrow.Author.Needs.{needs}
 use lib.ListN.{length, drop}
 use Rattle.bulletin.specs.Counts.{lowestNotHeld}
-use Rattle.pages.proofs.Shapes.{unmapped}
+use Rattle.bits.proofs.Arrays.{unmapped}
 use Rattle.bulletin.proofs.Stores.Counted.{lowest-past, lowest-more, lowest-here, lowest-end}
 use Rattle.bulletin.proofs.store.Store.lowest.Statement.{statement}
 use Rattle.bulletin.proofs.store.Store.lowest.Tie as tie

@@ -6,7 +6,7 @@ use native.Mathlib.Omega.{arith}
 use borrow.Author.Needs.{needs}
 use lib.ListN.{length, drop}
 use Rattle.bulletin.specs.Counts.{countMarked}
-use Rattle.pages.proofs.Shapes.{unmapped}
+use Rattle.bits.proofs.Arrays.{unmapped}
 use Rattle.bulletin.proofs.Stores.Counted.{marked-here, marked-not, marked-end}
 use Rattle.bulletin.proofs.store.Store.marked.Statement.{statement}
 use Rattle.bulletin.proofs.store.Store.marked.Tie as tie

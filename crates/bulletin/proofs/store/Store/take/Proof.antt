@@ -4,7 +4,7 @@ use native.Mathlib.Omega.{arith}
 use Rattle.report.proofs.Tables.Shapes.{Shaped}
 use Rattle.bulletin.specs.Takings.{admission}
 use Rattle.bulletin.specs.Steps.{admissionVerdict}
-use Rattle.pages.proofs.Shapes.{unmapped}
+use Rattle.bits.proofs.Arrays.{unmapped}
 use Rattle.bulletin.proofs.Taking.TakingOutcomes.{admits, unsound-store, sound-store, unwritable, writable-record, taken-refused, taken-in}
 use Rattle.pages.proofs.Numbered.{numbered}
 use borrow.Author.Needs.{needs}

@@ -4,7 +4,7 @@ use borrow.Author.Tests.{not-true, not-false, eq-eqb, ne-eqb}
 use Rattle.bulletin.specs.Text.{textVerdict}
 use native.Mathlib.Omega.{arith}
 use lib.ListN.{length}
-use Rattle.pages.proofs.Shapes.{unmapped}
+use Rattle.bits.proofs.Arrays.{unmapped}
 use Rattle.bulletin.proofs.Stores.Counted.{lowest-most}
 use borrow.Author.Needs.{needs}
 use Rattle.bulletin.proofs.store.Store.text_verdict.Statement.{statement}

@@ -2,7 +2,8 @@
 use mathlib.Core.Path.{_≡_}
 use native.Mathlib.Omega.{arith}
 use lib.ListN.{length}
-use Rattle.listing.proofs.Texts.KeptBytes.{unmapped, byte-kept, byte-new, byte-none}
+use Rattle.bits.proofs.Arrays.{unmapped}
+use Rattle.listing.proofs.Texts.KeptBytes.{byte-kept, byte-new, byte-none}
 use borrow.Author.Needs.{needs}
 use Rattle.listing.proofs.progress.Progress.byte_at.Statement.{statement}
 use Rattle.listing.proofs.progress.Progress.byte_at.Tie as tie

@@ -5,7 +5,8 @@ use Prim.Native.Nat.{ℕ, _+_, _-_, _≤_, _<_}
 use native.Mathlib.Omega.{arith}
 use lib.ListN.{length, take, getD, length-set, length-take, length-append}
 use Rattle.listing.specs.Scanning.{progressOf, begunIn}
-use Rattle.listing.proofs.Texts.KeptBytes.{fill-next, kept-all, unmapped, take-least}
+use Rattle.bits.proofs.Arrays.{unmapped}
+use Rattle.listing.proofs.Texts.KeptBytes.{fill-next, kept-all, take-least}
 use borrow.Author.Needs.{needs}
 use Rattle.listing.proofs.progress.Progress.with.Statement.{statement}
 use Rattle.listing.proofs.progress.Progress.with.Tie as tie

@@ -1,4 +1,4 @@
--- Laws of numbers as text.
+-- Laws of decimal digits.
 use mathlib.Core.Path.{_≡_, refl}
 use mathlib.Core.Bool.{Bool, true, false}
 use mathlib.Core.List.{[], _∷_, _++_}
@@ -8,7 +8,7 @@ use native.Mathlib.Omega.{arith}
 use borrow.Author.Tests.{lt-ltb, le-ltb, ltb-true, ltb-false}
 use lib.Dec.{ltb}
 use lib.ListN.{length, length-append}
-use Rattle.listing.specs.Decimal.{figures, decimal}
+use Rattle.lent.specs.Numbers.{figures, decimal}
 
 by-size : (f g n : ℕ) (t : Bool) → ltb n 10 ≡ t → (10 ≤ n → figures f (n / 10) ≡ figures g (n / 10)) → figures (suc f) n ≡ figures (suc g) n
 unfolding figures
@@ -35,7 +35,7 @@ pub decimal-more : (n : ℕ) → 10 ≤ n → decimal n ≡ decimal (n / 10) ++ 
 unfolding figures decimal
 decimal-more (suc n) h = simp (le-ltb (suc n) 10 h, same-figures n (suc n / 10) (suc n / 10) (omega (arith, smaller (suc n) h)) (omega arith))
 
-pub length-decimal-more : (n : ℕ) → 10 ≤ n → length (decimal n) ≡ length (decimal (n / 10)) + 1
+length-decimal-more : (n : ℕ) → 10 ≤ n → length (decimal n) ≡ length (decimal (n / 10)) + 1
 length-decimal-more n h = simp (decimal-more n h, length-append)
 
 longer : (k n : ℕ) (t : Bool) → ltb n 10 ≡ t → (10 ≤ n → length (decimal (n / 10)) ≤ suc k) → length (decimal n) ≤ suc (suc k)

@@ -1,0 +1,3 @@
+pub mod Chains
+pub mod Decimals
+pub mod Wide

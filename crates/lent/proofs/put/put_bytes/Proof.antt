@@ -1,0 +1,59 @@
+-- `lent::put::put_bytes` meets its contract: the bytes passed are put.
+use mathlib.Core.Path.{_≡_, refl, _∙_}
+use Prim.Native.Nat.{_-_, _≤_}
+use native.Mathlib.Omega.{arith}
+use lib.ListN.{length, take}
+use Rattle.lent.specs.Writing.{Wrote}
+use Rattle.lent.proofs.Chains.{nothing, one-more, all-put}
+use borrow.Author.Needs.{needs}
+use Rattle.lent.proofs.put.put_bytes.Statement.{statement}
+use Rattle.lent.proofs.put.put_bytes.Tie as tie
+
+abbrev Inv-loop : tie.InvT-loop
+Inv-loop out₀ at bytes next₀ k₀ out next k = (k ≤ length bytes) × (length out ≡ length out₀) × Wrote out₀ out at next (take k bytes)
+
+abbrev μ-loop : tie.MeasureT-loop
+μ-loop out₀ at bytes next₀ k₀ out next k = length bytes - k
+
+loop-holds : tie.Need-loop-holds Inv-loop μ-loop
+loop-holds c = (omega arith, refl, nothing _ _)
+
+shared-slice-read-put-byte : tie.Need-shared-slice-read-put-byte Inv-loop μ-loop
+shared-slice-read-put-byte c = search needs
+
+put-byte-requires : tie.Need-put-byte-requires Inv-loop μ-loop
+put-byte-requires c κs = search needs
+
+add-k : tie.Need-add-k Inv-loop μ-loop
+add-k c = search needs
+
+loop-less : tie.Need-loop-less Inv-loop μ-loop
+loop-less c = search needs
+
+loop-again : tie.Need-loop-again Inv-loop μ-loop
+loop-again c =
+    let p = c .before .before in
+    let l = p .before .before .before .before in
+    let t = l .before .before .before .args .bytes .now in
+    (omega arith, p .put-byte .kept .0 ∙ l .loop .inv .1, one-more t (l .loop .k) (omega arith) refl (l .loop .inv .2) (p .put-byte .ensures))
+
+same-length : tie.Need-same-length Inv-loop μ-loop
+same-length c = search needs
+
+returns : tie.Need-returns Inv-loop μ-loop
+returns c = all-put _ (c .before .loop .k) (omega arith) (c .before .loop .inv .2)
+
+pub put-bytes-spec : {M : Type 1} → statement M
+put-bytes-spec =
+    tie.close
+    (tie.spec
+    Inv-loop
+    μ-loop
+    loop-holds
+    shared-slice-read-put-byte
+    put-byte-requires
+    add-k
+    loop-less
+    loop-again
+    same-length
+    returns)

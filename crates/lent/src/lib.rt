@@ -1,0 +1,10 @@
+// Bytes put into a lent buffer piece by piece: each function answers where the next piece goes. A byte
+// behind the buffer's end is left out, and the answer is then past that end.
+mod number; // a number's bytes
+mod put; // what is put
+
+pub use put::put_byte;
+pub use put::put_bytes;
+pub use put::put_decimal;
+pub use put::put_wide;
+pub use put::put_zeros;

@@ -1,0 +1,77 @@
+// What is put into a lent buffer, from the byte `at` on.
+ghost use mathlib.Core.List.{[], _∷_};
+ghost use lib.ListN.{replicate};
+ghost use Rattle.lent.specs.Numbers.{decimal, wide};
+ghost use Rattle.lent.specs.Writing.{Wrote};
+use crate::number::byte_of;
+
+pub fn put_byte(out: &mut [u8], at: usize, byte: u8) -> usize
+    ensures { λ r. ⌜ Wrote (now (out .entry)) (now (out .exit)) at r (byte ∷ []) ⌝ }
+{
+    if at < out.len() {
+        out[at] = byte;
+        return at + 1;
+    }
+    if at > out.len() {
+        return at;
+    }
+    at + 1
+}
+
+pub fn put_bytes(out: &mut [u8], at: usize, bytes: &[u8]) -> usize
+    ensures { λ r. ⌜ Wrote (now (out .entry)) (now (out .exit)) at r (now (bytes .entry)) ⌝ }
+{
+    let mut next = at;
+    let mut k = 0;
+    while k < bytes.len() {
+        let behind = put_byte(out, next, bytes[k]);
+        next = behind;
+        k += 1;
+    }
+    next
+}
+
+// So many zeros.
+pub fn put_zeros(out: &mut [u8], at: usize, count: usize) -> usize
+    ensures { λ r. ⌜ Wrote (now (out .entry)) (now (out .exit)) at r (replicate count 0) ⌝ }
+{
+    let mut next = at;
+    let mut k = 0;
+    while k < count {
+        if next > out.len() {
+            return next;
+        }
+        let behind = put_byte(out, next, 0);
+        next = behind;
+        k += 1;
+    }
+    next
+}
+
+// The number in `count` bytes, the most significant first.
+pub fn put_wide(out: &mut [u8], at: usize, count: usize, value: u64) -> usize
+    ensures { λ r. ⌜ Wrote (now (out .entry)) (now (out .exit)) at r (wide count value) ⌝ }
+{
+    let mut next = at;
+    let mut k = 0;
+    while k < count {
+        if next > out.len() {
+            return next;
+        }
+        let behind = put_byte(out, next, byte_of(value, count - 1 - k));
+        next = behind;
+        k += 1;
+    }
+    next
+}
+
+// The number in decimal digits.
+pub fn put_decimal(out: &mut [u8], at: usize, number: u32) -> usize
+    ensures { λ r. ⌜ Wrote (now (out .entry)) (now (out .exit)) at r (decimal number) ⌝ }
+{
+    if number < 10 {
+        return put_byte(out, at, 48 + number as u8);
+    }
+    let next = put_decimal(out, at, number / 10);
+    put_byte(out, next, 48 + (number % 10) as u8)
+}
