@@ -9,8 +9,8 @@ ghost use Rattle.slots.specs.Slots.{slotTable};
 ghost use Rattle.listing.specs.Rows.{rowFor, rowOf, refusedRow, placeEntry, slotsEntry, entryText, rowText, headingText, cutText, filled, filledBy};
 ghost use Rattle.lent.specs.Writing.{Wrote};
 use lent::put_byte;
-use lent::put_bytes as put_text;
-use lent::put_decimal as put_number;
+use lent::put_bytes;
+use lent::put_decimal;
 use report::read::Reading;
 use report::record::Record;
 use rows::refusal::Refusal;
@@ -104,7 +104,7 @@ fn put_entry(out: &mut [u8], at: usize, entry: Entry) -> usize
     let next = put_byte(out, at, b' ');
     match entry {
         Entry::Dash => put_byte(out, next, b'-'),
-        Entry::Number(n) => put_number(out, next, n as u32),
+        Entry::Number(n) => put_decimal(out, next, n as u32),
     }
 }
 
@@ -112,7 +112,7 @@ pub(crate) fn put_row(out: &mut [u8], at: usize, number: u32, row: Row) -> usize
     requires { ⌜ at + 27 ≤ length (now out) ⌝ }
     ensures { λ r. ⌜ Wrote (now (out .entry)) (now (out .exit)) at r (rowText number row) × (r ≤ at + 27) ⌝ }
 {
-    let answer = put_number(out, at, number);
+    let answer = put_decimal(out, at, number);
     let place = put_entry(out, answer, Entry::Number(row.answer));
     let place_entry = row.place;
     let category = put_entry(out, place, place_entry);
@@ -128,7 +128,7 @@ pub(crate) fn put_cut(out: &mut [u8], at: usize) -> usize
     requires { ⌜ at + 27 ≤ length (now out) ⌝ }
     ensures { λ r. ⌜ Wrote (now (out .entry)) (now (out .exit)) at r cutText × (r ≤ at + 27) ⌝ }
 {
-    put_text(out, at, b"cut - - - -\n")
+    put_bytes(out, at, b"cut - - - -\n")
 }
 
 // Puts the first line of a listing at the start of out, and answers its length. An out of less than
@@ -140,7 +140,7 @@ pub fn write_heading(out: &mut [u8]) -> usize
     if out.len() < LONGEST {
         return 0;
     }
-    put_text(out, 0, b"line answer place dc slots\n")
+    put_bytes(out, 0, b"line answer place dc slots\n")
 }
 
 // Puts the row of the line with this number at the start of out, as `write_heading` does.

@@ -18,7 +18,7 @@ use Rattle.rows.specs.Runs.Verdict.{empty}
 use Rattle.rows.specs.Values.{each}
 use Rattle.lent.specs.Numbers.{wide}
 use Rattle.record_bytes.specs.Packed.{zeroFilled, headBytes, bodyBytes, slotBytes, slotsBytes, packed}
-use Rattle.record_bytes.specs.Unpacked.{fourAt, slotAt, bodyOfCode, bodyFrom, stray, slotsFrom, slotsOrMisplaced, textFrom, unpackedAs, unpacked}
+use Rattle.record_bytes.specs.Unpacked.{fourAt, slotAt, bodyOfCode, bodyFrom, stray, slotsFrom, slotsOrMisplaced, textInBytes, unpackedAs, unpacked}
 use Rattle.record_bytes.proofs.ToBytes.Whole.{front, most, length-front, length-most}
 use Rattle.record_bytes.proofs.FromBytes.Places.{each-same, byte-behind}
 
@@ -134,7 +134,7 @@ module _ (r : Record) (f : Fits r) where
       ∙ ap (λ (n : ℕ). each n (λ i. slotAt (slotsBytes (r .slots) ++ r .text) (6 * i))) (sym (f .slots))
       ∙ slots-back (r .slots) (r .text) (f .places)
 
-  text-part : textFrom (packed r) ≡ r .text
+  text-part : textInBytes (packed r) ≡ r .text
   unfolding packed
   text-part =
       each-same 18 (λ i. getD (packed r) (127 + i) 0) (λ i. getD (drop 127 (packed r)) i 0) (λ i. byte-behind 127 (packed r) (127 + i) i refl)

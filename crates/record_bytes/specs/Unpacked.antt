@@ -50,8 +50,8 @@ commonFrom l = record { rc = getD l 3 0; month = getD l 4 0; day = getD l 5 0; h
 
 -- ---- 9 to 30
 
-abbrev pub quakeFrom : List ℕ → Quake
-quakeFrom l = record {
+abbrev pub quakeInBytes : List ℕ → Quake
+quakeInBytes l = record {
   notification1 = twoAt l 9;
   notification2 = twoAt l 11;
   notification3 = twoAt l 13;
@@ -66,14 +66,14 @@ quakeFrom l = record {
 abbrev pub pageFrom : List ℕ → PageNumbers
 pageFrom l = record { serial = getD l 9 0; number = getD l 10 0; total = getD l 11 0 }
 
-abbrev pub eruptionFrom : List ℕ → Eruption
-eruptionFrom l = record { time = timeAt l 9; warning = getD l 12 0; volcano = twoAt l 13 }
+abbrev pub eruptionInBytes : List ℕ → Eruption
+eruptionInBytes l = record { time = timeAt l 9; warning = getD l 12 0; volcano = twoAt l 13 }
 
 -- by the category's code
 unfoldable pub bodyOfCode : List ℕ → ℕ → Body
 bodyOfCode l dc =
-    cond (eqb dc 2) (Hypocenter (quakeFrom l))
-    (cond (eqb dc 3) (Intensity (record { time = timeAt l 9 })) (cond (eqb dc 4) (Nankai (pageFrom l)) (cond (eqb dc 9) (AshFall (eruptionFrom l)) NoCategory)))
+    cond (eqb dc 2) (Hypocenter (quakeInBytes l))
+    (cond (eqb dc 3) (Intensity (record { time = timeAt l 9 })) (cond (eqb dc 4) (Nankai (pageFrom l)) (cond (eqb dc 9) (AshFall (eruptionInBytes l)) NoCategory)))
 
 abbrev pub bodyFrom : List ℕ → Body
 bodyFrom l = bodyOfCode l (getD l 0 0)
@@ -96,8 +96,8 @@ slotsOrMisplaced isStray ss = cond isStray (set ss 15 misplaced) ss
 
 -- ---- 127 to 144
 
-abbrev pub textFrom : List ℕ → List ℕ
-textFrom l = textAt l 127
+abbrev pub textInBytes : List ℕ → List ℕ
+textInBytes l = textAt l 127
 
 -- ---- all of them
 
@@ -108,7 +108,7 @@ unpackedAs l b = record {
   common = commonFrom l;
   body = b;
   slots = slotsOrMisplaced (stray b l) (slotsFrom l);
-  text = textFrom l;
+  text = textInBytes l;
 }
 
 abbrev pub unpacked : List ℕ → Record

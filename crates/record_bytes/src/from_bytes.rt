@@ -7,7 +7,7 @@ ghost use lib.ListN.{length, set, take, drop};
 ghost use Rattle.bits.specs.Frame.{number};
 ghost use Rattle.rows.specs.Runs.Verdict.{empty};
 ghost use Rattle.record_bytes.specs.Packed.{bodyBytes};
-ghost use Rattle.record_bytes.specs.Unpacked.{twoAt, fourAt, timeAt, angleAt, slotAt, commonFrom, quakeFrom, pageFrom, eruptionFrom, bodyFrom, stray, slotsFrom, misplaced, slotsOrMisplaced, recordFrom};
+ghost use Rattle.record_bytes.specs.Unpacked.{twoAt, fourAt, timeAt, angleAt, slotAt, commonFrom, quakeInBytes, pageFrom, eruptionInBytes, bodyFrom, stray, slotsFrom, misplaced, slotsOrMisplaced, recordFrom};
 use crate::sizes::RECORD_SIZE;
 use crate::sizes::SLOT_COUNT;
 use crate::sizes::SLOT_SIZE;
@@ -107,7 +107,7 @@ fn common_of(bytes: &[u8]) -> Common
 
 fn quake_of(bytes: &[u8]) -> Quake
     requires { ⌜ length (now bytes) ≡ 145 ⌝ }
-    ensures { λ r. ⌜ r ≡ quakeFrom (now (bytes .entry)) ⌝ }
+    ensures { λ r. ⌜ r ≡ quakeInBytes (now (bytes .entry)) ⌝ }
 {
     Quake {
         notification1: two_at(bytes, 9),
@@ -135,7 +135,7 @@ fn page_of(bytes: &[u8]) -> PageNumbers
 
 fn eruption_of(bytes: &[u8]) -> Eruption
     requires { ⌜ length (now bytes) ≡ 145 ⌝ }
-    ensures { λ r. ⌜ r ≡ eruptionFrom (now (bytes .entry)) ⌝ }
+    ensures { λ r. ⌜ r ≡ eruptionInBytes (now (bytes .entry)) ⌝ }
 {
     Eruption {
         time: time_at(bytes, 9),

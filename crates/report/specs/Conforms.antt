@@ -10,10 +10,6 @@ use Rattle.report.specs.Records.{bodyOf}
 use Rattle.rows.specs.Values.{valuesOf}
 use Rattle.rows.specs.Kept.{Holds, In}
 
--- ---- "Silence in a slot"
-
--- ---- all rules
-
 pub record Conforms (s : List ℕ) : Type 0 where
   pub long : length s ≡ 32
   pub padding : fieldOf s 250 6 ≡ 0

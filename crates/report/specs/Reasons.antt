@@ -16,8 +16,6 @@ use Rattle.rows.specs.Kept.{In}
 use Rattle.rows.specs.Faults.{Lowest, _or_, First, Question}
 use Rattle.report.specs.Rules.{Tidy}
 
--- ---- faults: x is the refusal of something that is wrong, whatever else is
-
 -- ---- the order of 1 to 7
 
 abbrev pub readQuestions : List ℕ → List Question

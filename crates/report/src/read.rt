@@ -33,16 +33,18 @@ fn outer(f: [u8; 32]) -> Verdict
 fn conclude(found: Verdict, read: Record) -> Reading
     ensures { λ r. ⌜ r ≡ reading found read ⌝ }
 {
-    let zeros = Record::of_zeros();
     match found {
         Verdict::Fine => Reading {
             answer: found,
             record: read,
         },
-        Verdict::Refused(_) => Reading {
-            answer: found,
-            record: zeros,
-        },
+        Verdict::Refused(_) => {
+            let zeros = Record::of_zeros();
+            Reading {
+                answer: found,
+                record: zeros,
+            }
+        }
     }
 }
 

@@ -18,7 +18,7 @@ use Rattle.rows.specs.Runs.Verdict.{allowed, empty}
 use Rattle.rows.specs.Values.{each}
 use Rattle.report.specs.Runs.Writing.{known, tidyText, tidy, writeAnswer}
 use Rattle.slots.specs.Slots.{unused, tidySlots, slotTable}
-use Rattle.record_bytes.specs.Unpacked.{slotAt, bodyFrom, stray, slotsFrom, misplaced, slotsOrMisplaced, textFrom, unpackedAs, unpacked}
+use Rattle.record_bytes.specs.Unpacked.{slotAt, bodyFrom, stray, slotsFrom, misplaced, slotsOrMisplaced, textInBytes, unpackedAs, unpacked}
 
 and-false : (a b : Bool) → b ≡ false → a && b ≡ false
 and-false true b e = e
@@ -51,8 +51,8 @@ untidy l b e =
     let k : SlotKind = slotKind b in
     let ss : List Slot = each 15 (λ i. slotAt l (31 + 6 * i)) in
     let last : slotsOrMisplaced (stray b l) (slotsFrom l) ≡ ss ++ misplaced ∷ [] = ap (λ (x : Bool). slotsOrMisplaced x (slotsFrom l)) e in
-    ap (λ (x : List Slot). tidySlots k (layout b .slots .count) x && tidyText b (textFrom l)) last
-    ∙ ap (λ (x : Bool). x && tidyText b (textFrom l)) (rw (kind-table b) at (by-kind k ss refl))
+    ap (λ (x : List Slot). tidySlots k (layout b .slots .count) x && tidyText b (textInBytes l)) last
+    ∙ ap (λ (x : Bool). x && tidyText b (textInBytes l)) (rw (kind-table b) at (by-kind k ss refl))
 
 pub stray-refused : (l : List ℕ) → stray (bodyFrom l) l ≡ true → allowed preambles (getD l 1 0) ≡ true → known (bodyFrom l) ≡ true → writeAnswer (unpacked l) 32 ≡ Refused Unused
 unfolding writeAnswer unpackedAs unless _then_

@@ -3,21 +3,20 @@ use borrow.Author.Needs.{needs}
 use Rattle.report.proofs.read.conclude.Statement.{statement}
 use Rattle.report.proofs.read.conclude.Tie as tie
 
-of-zeros-requires : tie.Need-of-zeros-requires
-of-zeros-requires c κs = search needs
-
 enum-told : tie.Need-enum-told
 enum-told c = search needs
 
 enum-told-2 : tie.Need-enum-told-2
 enum-told-2 c = search needs
 
+of-zeros-requires : tie.Need-of-zeros-requires
+of-zeros-requires c κs = search needs
+
 returns : tie.Need-returns
 returns c = simp (c .enum-told .given .1)
 
 returns-2 : tie.Need-returns-2
-returns-2 c = simp (c .enum-told2 .given .1, c .before .before .of-zeros .ensures)
+returns-2 c = simp (c .before .enum-told2 .given .1, c .of-zeros .ensures)
 
 pub conclude-spec : {M : Type 1} → statement M
-conclude-spec =
-    tie.close (tie.spec of-zeros-requires enum-told enum-told-2 returns returns-2)
+conclude-spec = tie.close (tie.spec enum-told enum-told-2 of-zeros-requires returns returns-2)
