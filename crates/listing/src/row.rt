@@ -73,11 +73,13 @@ impl Row {
         ensures { λ r. ⌜ r ≡ rowFor Fine found ⌝ }
     {
         let body = found.body;
-        let slots = Row::slots_entry(body.slot_kind(), found);
+        let shape = body.shape();
+        let kind = shape.slots;
+        let slots = Row::slots_entry(kind, found);
         Row {
             answer: 0,
             place: Entry::Dash,
-            category: Entry::Number(body.code()),
+            category: Entry::Number(shape.code),
             slots: slots,
         }
     }

@@ -41,11 +41,12 @@ fn put_head(out: &mut [u8], r: Record) -> usize
 {
     let common = r.common;
     let body = r.body;
+    let shape = body.shape();
     put_bytes(
         out,
         0,
         &[
-            body.code(),
+            shape.code,
             r.preamble,
             r.reserved,
             common.rc,

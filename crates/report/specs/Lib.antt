@@ -4,4 +4,5 @@ pub mod Meaning
 pub mod Conforms
 pub mod Reasons
 pub mod Rules
+pub mod Shapes
 pub mod Runs

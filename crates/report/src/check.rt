@@ -45,7 +45,8 @@ fn common(found: Verdict, c: Common, b: Body) -> Verdict
 fn behind(found: Verdict, b: Body, spare: u64) -> Verdict
     ensures { λ r. ⌜ r ≡ found then walk [] (layout b .behind) (behindValues (layout b) spare) ⌝ }
 {
-    let first = b.spare_behind();
+    let shape = b.shape();
+    let first = shape.behind;
     if first == 0 {
         return found;
     }
@@ -61,7 +62,9 @@ pub fn check(r: Record, spare1: u64, spare2: u64) -> Verdict
     let all = r.slots;
     let head = common(Verdict::Fine, c, b);
     let fields = front(head, b, spare1);
-    let places = check_slots(fields, b.slot_kind(), all);
+    let shape = b.shape();
+    let kind = shape.slots;
+    let places = check_slots(fields, kind, all);
     let rest = behind(places, b, spare2);
     rest.within(220, r.reserved as u32, 0, 63)
 }

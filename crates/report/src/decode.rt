@@ -53,7 +53,9 @@ pub(crate) fn decode(f: [u8; 32]) -> Record
     ensures { λ r. ⌜ r ≡ recordOf f ⌝ }
 {
     let body = body_of(f);
-    let slots = slots_of(f, body.slot_kind());
+    let shape = body.shape();
+    let kind = shape.slots;
+    let slots = slots_of(f, kind);
     let text = text_of(f, body);
     Record {
         preamble: bits::field8(f, 0, 8),

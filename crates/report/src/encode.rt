@@ -18,9 +18,10 @@ use slots::encode::lay_slots;
 fn lay_common(f: [u8; 32], c: Common, b: Body) -> [u8; 32]
     ensures { λ r. ⌜ r ≡ laid f 8 (widths (common (layout b))) (headValues c (layout b .code)) ⌝ }
 {
+    let shape = b.shape();
     let message = bits::put(f, 8, 6, 43);
     let rc = bits::put(message, 14, 3, c.rc as u64);
-    let dc = bits::put(rc, 17, 4, b.code() as u64);
+    let dc = bits::put(rc, 17, 4, shape.code as u64);
     let month = bits::put(dc, 21, 4, c.month as u64);
     let day = bits::put(month, 25, 5, c.day as u64);
     let hour = bits::put(day, 30, 5, c.hour as u64);
@@ -58,7 +59,8 @@ fn lay_last(f: [u8; 32], b: Body, reserved: u8) -> [u8; 32]
     requires { ⌜ known b ≡ true ⌝ }
     ensures { λ r. ⌜ r ≡ laid f (firstBit (layout b .behind ++ ending)) (widths (layout b .behind ++ ending)) (behindValues (layout b) 0 ++ lastValues reserved) ⌝ }
 {
-    let first = b.spare_behind() as usize;
+    let shape = b.shape();
+    let first = shape.behind as usize;
     let spare = bits::put(f, first, 214 - first, 0);
     let version = bits::put(spare, 214, 6, 1);
     bits::put(version, 220, 6, reserved as u64)
@@ -76,7 +78,9 @@ fn lay_front(f: [u8; 32], r: Record) -> [u8; 32]
     let preamble = bits::put(f, 0, 8, r.preamble as u64);
     let head = lay_common(preamble, common, body);
     let fields = lay_body(head, body, text);
-    let places = lay_slots(fields, body.slot_kind(), slots);
+    let shape = body.shape();
+    let kind = shape.slots;
+    let places = lay_slots(fields, kind, slots);
     lay_last(places, body, r.reserved)
 }
 

@@ -55,8 +55,9 @@ fn inner(f: [u8; 32]) -> Reading
 {
     let record = decode(f);
     let body = record.body;
-    let first = body.spare_behind() as usize;
-    let spare1 = bits::field64(f, 43, body.spare_bits() as usize);
+    let shape = body.shape();
+    let first = shape.behind as usize;
+    let spare1 = bits::field64(f, 43, shape.spare as usize);
     let spare2 = bits::field64(f, first, 214 - first);
     let found = check(record, spare1, spare2);
     conclude(found, record)

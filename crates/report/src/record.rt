@@ -3,8 +3,8 @@
 ghost use mathlib.Core.Path.{_≡_};
 ghost use Rattle.rows.specs.Runs.Verdict.{allowed};
 ghost use Rattle.report.specs.Records.{zeros};
-ghost use Rattle.report.specs.Runs.Writing.{known};
-ghost use Rattle.report.specs.Layout.{layout, slotKind, firstWidth, firstBit};
+ghost use Rattle.report.specs.Layout.{layout};
+ghost use Rattle.report.specs.Shapes.{shapeOf};
 ghost use Rattle.report.specs.Meaning.{usedOf};
 use crate::codes::is_two_or_seven;
 use crate::codes::is_uncorrected;
@@ -46,43 +46,57 @@ pub struct Record {
     pub text: [u8; 18],
 }
 
+// What the table of a category says in numbers: its code, 0 for none; whether there is a category; what its
+// slots list; the width of the spare at bit 43; and the first bit of the spare behind the slots, which ends
+// before bit 214, or 0 where there is none.
+pub struct Shape {
+    pub code: u8,
+    pub known: bool,
+    pub slots: SlotKind,
+    pub spare: u8,
+    pub behind: u8,
+}
+
 impl Body {
-    // What the slots of its category list.
-    pub fn slot_kind(self) -> SlotKind
-        ensures { λ r. ⌜ r ≡ slotKind self ⌝ }
+    pub fn shape(self) -> Shape
+        ensures { λ r. ⌜ r ≡ shapeOf self ⌝ }
     {
         match self {
-            Body::NoCategory => SlotKind::NoSlots,
-            Body::Hypocenter(_) => SlotKind::NoSlots,
-            Body::Intensity(_) => SlotKind::Prefectures,
-            Body::Nankai(_) => SlotKind::NoSlots,
-            Body::AshFall(_) => SlotKind::Places,
-        }
-    }
-
-    // The category's number, 0 for none.
-    pub fn code(self) -> u8
-        ensures { λ r. ⌜ r ≡ layout self .code ⌝ }
-    {
-        match self {
-            Body::NoCategory => 0,
-            Body::Hypocenter(_) => 2,
-            Body::Intensity(_) => 3,
-            Body::Nankai(_) => 4,
-            Body::AshFall(_) => 9,
-        }
-    }
-
-    // Whether there is a category.
-    pub(crate) fn is_known(self) -> bool
-        ensures { λ r. ⌜ r ≡ known self ⌝ }
-    {
-        match self {
-            Body::NoCategory => false,
-            Body::Hypocenter(_) => true,
-            Body::Intensity(_) => true,
-            Body::Nankai(_) => true,
-            Body::AshFall(_) => true,
+            Body::NoCategory => Shape {
+                code: 0,
+                known: false,
+                slots: SlotKind::NoSlots,
+                spare: 10,
+                behind: 53,
+            },
+            Body::Hypocenter(_) => Shape {
+                code: 2,
+                known: true,
+                slots: SlotKind::NoSlots,
+                spare: 10,
+                behind: 163,
+            },
+            Body::Intensity(_) => Shape {
+                code: 3,
+                known: true,
+                slots: SlotKind::Prefectures,
+                spare: 10,
+                behind: 213,
+            },
+            Body::Nankai(_) => Shape {
+                code: 4,
+                known: true,
+                slots: SlotKind::NoSlots,
+                spare: 10,
+                behind: 213,
+            },
+            Body::AshFall(_) => Shape {
+                code: 9,
+                known: true,
+                slots: SlotKind::Places,
+                spare: 10,
+                behind: 199,
+            },
         }
     }
 
@@ -109,32 +123,6 @@ impl Body {
             Body::Intensity(_) => is_two_or_seven(v),
             Body::Nankai(_) => is_two_or_seven(v),
             Body::AshFall(_) => is_two_or_seven(v),
-        }
-    }
-
-    // The width of the spare at bit 43.
-    pub(crate) fn spare_bits(self) -> u8
-        ensures { λ r. ⌜ r ≡ firstWidth (layout self .front) ⌝ }
-    {
-        match self {
-            Body::NoCategory => 10,
-            Body::Hypocenter(_) => 10,
-            Body::Intensity(_) => 10,
-            Body::Nankai(_) => 10,
-            Body::AshFall(_) => 10,
-        }
-    }
-
-    // The first bit of the spare behind the slots, which ends before bit 214; 0 where there is none.
-    pub(crate) fn spare_behind(self) -> u8
-        ensures { λ r. ⌜ r ≡ firstBit (layout self .behind) ⌝ }
-    {
-        match self {
-            Body::NoCategory => 53,
-            Body::Hypocenter(_) => 163,
-            Body::Intensity(_) => 213,
-            Body::Nankai(_) => 213,
-            Body::AshFall(_) => 199,
         }
     }
 }
@@ -173,6 +161,8 @@ impl Record {
     {
         let body = self.body;
         let slots = self.slots;
-        used(body.slot_kind(), slots)
+        let shape = body.shape();
+        let kind = shape.slots;
+        used(kind, slots)
     }
 }

@@ -39,7 +39,9 @@ impl Record {
         let body = self.body;
         let slots = self.slots;
         let text = self.text;
-        if are_tidy(body.slot_kind(), slots) {
+        let shape = body.shape();
+        let kind = shape.slots;
+        if are_tidy(kind, slots) {
             return has_tidy_text(body, text);
         }
         false

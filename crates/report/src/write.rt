@@ -16,10 +16,11 @@ pub fn write_answer(r: Record, size: usize) -> Verdict
     ensures { λ v. ⌜ v ≡ writeAnswer r size ⌝ }
 {
     let body = r.body;
+    let shape = body.shape();
     Verdict::Fine
         .unless(size == 32, Refusal::Length)
         .unless(is_preamble(r.preamble), Refusal::Preamble)
-        .unless(body.is_known(), Refusal::Category)
+        .unless(shape.known, Refusal::Category)
         .unless(r.is_tidy(), Refusal::Unused)
         .then(check(r, 0, 0))
 }

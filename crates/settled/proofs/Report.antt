@@ -3,11 +3,8 @@ use Rattle.report.proofs as report
 use Rattle.settled.specs.Settled.{Settled}
 use Rattle.settled.proofs.Law.{answer, both, second}
 
-pub Body-slot-kind-is-settled : Settled report.record.Body.slot_kind.ended report.record.Body.slot_kind.Reads.Post
-Body-slot-kind-is-settled κs a x y = answer
-
-pub Body-code-is-settled : Settled report.record.Body.code.ended report.record.Body.code.Reads.Post
-Body-code-is-settled κs a x y = answer
+pub Body-shape-is-settled : Settled report.record.Body.shape.ended report.record.Body.shape.Reads.Post
+Body-shape-is-settled κs a x y = answer
 
 pub Record-slots-used-is-settled : Settled report.record.Record.slots_used.ended report.record.Record.slots_used.Reads.Post
 Record-slots-used-is-settled κs a x y = answer

@@ -1,4 +1,5 @@
 -- `report::check::check` meets its contract.
+use Rattle.report.specs.declared.record.Shape.{Shape}
 use Rattle.bits.specs.Frame.{Bytes}
 use Rattle.rows.proofs.Rules.Outcomes.{then-assoc, fine-then}
 use Rattle.report.specs.Records.{values}
@@ -6,7 +7,7 @@ use Rattle.report.proofs.Tables.Walks.{body-walk, slots-verdict, last-w
 use Rattle.rows.specs.Runs.Verdict.{verdict}
 use borrow.Author.Needs.{elem-fits-field, length-unmapped, needs}
 use lib.ListN.{length}
-use mathlib.Core.Path.{_≡_}
+use mathlib.Core.Path.{_≡_, ap}
 use mir.Syntax.{w8}
 use Rattle.report.proofs.check.check.Statement.{statement}
 use Rattle.report.proofs.check.check.Tie as tie
@@ -17,8 +18,8 @@ common-requires c κs = search needs
 front-requires : tie.Need-front-requires
 front-requires c κs = search needs
 
-slot-kind-requires : tie.Need-slot-kind-requires
-slot-kind-requires c κs = search needs
+shape-requires : tie.Need-shape-requires
+shape-requires c κs = search needs
 
 check-slots-requires : tie.Need-check-slots-requires
 check-slots-requires c κs = search needs
@@ -45,7 +46,7 @@ returns c =
       c .within .ensures,
       c .before .before .behind .ensures,
       c .before .before .before .check-slots .ensures,
-      c .before .before .before .before .slot-kind .ensures,
+      ap (λ (s : Shape). s .slots) (c .before .before .before .before .shape .ensures),
       c .before .before .before .before .before .front .ensures,
       body-walk (r .body) text (s .args .spare1) b l,
       c .before .before .before .before .before .before .common .ensures,
@@ -61,7 +62,7 @@ check-spec =
     (tie.spec
     common-requires
     front-requires
-    slot-kind-requires
+    shape-requires
     check-slots-requires
     behind-requires
     cast-within

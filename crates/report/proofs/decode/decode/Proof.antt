@@ -1,4 +1,6 @@
 -- `report::decode::decode` meets its contract.
+use mathlib.Core.Path.{ap}
+use Rattle.report.specs.declared.record.Shape.{Shape}
 use Rattle.report.specs.Records.{recordAs}
 use borrow.Author.Needs.{needs}
 use Rattle.report.proofs.decode.decode.Statement.{statement}
@@ -7,8 +9,8 @@ use Rattle.report.proofs.decode.decode.Tie as tie
 body-of-requires : tie.Need-body-of-requires
 body-of-requires c κs = search needs
 
-slot-kind-requires : tie.Need-slot-kind-requires
-slot-kind-requires c κs = search needs
+shape-requires : tie.Need-shape-requires
+shape-requires c κs = search needs
 
 slots-of-requires : tie.Need-slots-of-requires
 slots-of-requires c κs = search needs
@@ -33,7 +35,7 @@ returns c = simp (
   c .before .before .field8 .ensures .0,
   c .before .before .before .text-of .ensures,
   c .before .before .before .before .slots-of .ensures,
-  c .before .before .before .before .before .slot-kind .ensures,
+  ap (λ (s : Shape). s .slots) (c .before .before .before .before .before .shape .ensures),
   c .before .before .before .before .before .before .body-of .ensures,
 )
 
@@ -42,7 +44,7 @@ decode-spec =
     tie.close
     (tie.spec
     body-of-requires
-    slot-kind-requires
+    shape-requires
     slots-of-requires
     text-of-requires
     field8-requires

@@ -1,7 +1,12 @@
 -- `report::encode::lay_common` meets its contract.
+use mathlib.Core.Path.{ap}
+use Rattle.report.specs.declared.record.Shape.{Shape}
 use borrow.Author.Needs.{needs}
 use Rattle.report.proofs.encode.lay_common.Statement.{statement}
 use Rattle.report.proofs.encode.lay_common.Tie as tie
+
+shape-requires : tie.Need-shape-requires
+shape-requires c κs = search needs
 
 put-requires : tie.Need-put-requires
 put-requires c κs = search needs
@@ -11,9 +16,6 @@ cast-put c = search needs
 
 put-requires-2 : tie.Need-put-requires-2
 put-requires-2 c κs = search needs
-
-code-requires : tie.Need-code-requires
-code-requires c κs = search needs
 
 cast-put-2 : tie.Need-cast-put-2
 cast-put-2 c = search needs
@@ -59,7 +61,7 @@ returns c = simp (
   c .before .before .before .before .before .before .put5 .ensures,
   c .before .before .before .before .before .before .before .before .put4 .ensures,
   c .before .before .before .before .before .before .before .before .before .before .put3 .ensures,
-  c .before .before .before .before .before .before .before .before .before .before .before .code .ensures,
+  ap (λ (s : Shape). s .code) (c .before .before .before .before .before .before .before .before .before .before .before .before .before .before .before .shape .ensures),
   c .before .before .before .before .before .before .before .before .before .before .before .before .put2 .ensures,
   c .before .before .before .before .before .before .before .before .before .before .before .before .before .before .put .ensures,
 )
@@ -68,10 +70,10 @@ pub lay-common-spec : {M : Type 1} → statement M
 lay-common-spec =
     tie.close
     (tie.spec
+    shape-requires
     put-requires
     cast-put
     put-requires-2
-    code-requires
     cast-put-2
     put-requires-3
     cast-put-3

@@ -1,4 +1,5 @@
 -- `report::encode::lay_front` meets its contract.
+use Rattle.report.specs.declared.record.Shape.{Shape}
 use Rattle.report.proofs.Tables.Lengths.{kind-table}
 use Rattle.report.specs.Layout.{slotKind}
 use Rattle.bits.specs.Frame.{laid}
@@ -35,8 +36,8 @@ lay-common-requires c κs = search needs
 lay-body-requires : tie.Need-lay-body-requires
 lay-body-requires c κs = search needs
 
-slot-kind-requires : tie.Need-slot-kind-requires
-slot-kind-requires c κs = search needs
+shape-requires : tie.Need-shape-requires
+shape-requires c κs = search needs
 
 lay-slots-requires : tie.Need-lay-slots-requires
 lay-slots-requires c κs = search needs
@@ -55,7 +56,7 @@ returns c =
     (p .put .ensures) (b .before .lay-common .ensures) (b .lay-body .ensures)
     (c .before .lay-slots .ensures
     ∙ ap (λ (x : SlotKind). laid (b .lay-body .result) (slotTable x .first) (widths (slotsRows (slotTable x) (slotTable x .count) (slotTable x .first))) (joined (map (slotValues x) (take (slotTable x .count) (r .slots)))))
-    (k .slot-kind .ensures)
+    (ap (λ (s : Shape). s .slots) (k .shape .ensures))
     ∙ ap (λ (t : Slots). laid (b .lay-body .result) (t .first) (widths (slotsRows t (t .count) (t .first))) (joined (map (slotValues (slotKind (r .body))) (take (t .count) (r .slots))))) (kind-table (r .body)))
     (c .lay-last .ensures)
 
@@ -67,7 +68,7 @@ lay-front-spec =
     put-requires
     lay-common-requires
     lay-body-requires
-    slot-kind-requires
+    shape-requires
     lay-slots-requires
     lay-last-requires
     returns)

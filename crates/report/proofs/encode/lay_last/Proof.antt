@@ -1,4 +1,5 @@
 -- `report::encode::lay_last` meets its contract.
+use Rattle.report.specs.declared.record.Shape.{Shape}
 use Rattle.report.proofs.Tables.Rows.{low-spare}
 use Prim.Native.Nat.{ℕ}
 use Rattle.bits.specs.Frame.{placed}
@@ -10,14 +11,14 @@ use native.Mathlib.Omega.{arith}
 use Rattle.report.proofs.encode.lay_last.Statement.{statement}
 use Rattle.report.proofs.encode.lay_last.Tie as tie
 
-spare-behind-requires : tie.Need-spare-behind-requires
-spare-behind-requires c κs = search needs
+shape-requires : tie.Need-shape-requires
+shape-requires c κs = search needs
 
 cast-first : tie.Need-cast-first
 cast-first c = search needs
 
 sub-put : tie.Need-sub-put
-sub-put c = omega (arith, c .spare-behind .ensures, low-spare (c .before .args .b))
+sub-put c = omega (arith, ap (λ (s : Shape). s .behind) (c .before .shape .ensures), low-spare (c .before .before .args .b))
 
 put-requires : tie.Need-put-requires
 put-requires c κs = search needs
@@ -30,18 +31,18 @@ put-requires-3 c κs = search needs
 
 returns : tie.Need-returns
 returns c =
-    let s = c .before .before .before in
+    let s = c .before .before .before .before in
     let a = s .before .args in
     c .put3 .ensures
     ∙ ap (λ (f : List ℕ). placed f 220 6 (a .reserved)) (c .before .put2 .ensures)
     ∙ ap (λ (f : List ℕ). placed (placed f 214 6 1) 220 6 (a .reserved)) (c .before .before .put .ensures)
-    ∙ last-laid (a .b) (a .f) (s .spare-behind .result) (a .reserved) (s .before .pre) (s .spare-behind .ensures)
+    ∙ last-laid (a .b) (a .f) (s .shape .result .behind) (a .reserved) (s .before .pre) (ap (λ (x : Shape). x .behind) (s .shape .ensures))
 
 pub lay-last-spec : {M : Type 1} → statement M
 lay-last-spec =
     tie.close
     (tie.spec
-    spare-behind-requires
+    shape-requires
     cast-first
     sub-put
     put-requires

@@ -1,4 +1,5 @@
 -- `report::write::write_answer` meets its contract.
+use Rattle.report.specs.declared.record.Shape.{Shape}
 use Rattle.rows.proofs.Rules.Outcomes.{fine-then}
 use Rattle.rows.proofs.Rules.Walks.{asked, link}
 use Rattle.rows.specs.Runs.Questions.{_then_}
@@ -9,6 +10,9 @@ use mathlib.Core.Path.{ap, _∙_}
 use Rattle.report.proofs.write.write_answer.Statement.{statement}
 use Rattle.report.proofs.write.write_answer.Tie as tie
 
+shape-requires : tie.Need-shape-requires
+shape-requires c κs = search needs
+
 unless-requires : tie.Need-unless-requires
 unless-requires c κs = search needs
 
@@ -17,9 +21,6 @@ is-preamble-requires c κs = search needs
 
 unless-requires-2 : tie.Need-unless-requires-2
 unless-requires-2 c κs = search needs
-
-is-known-requires : tie.Need-is-known-requires
-is-known-requires c κs = search needs
 
 unless-requires-3 : tie.Need-unless-requires-3
 unless-requires-3 c κs = search needs
@@ -39,9 +40,9 @@ then-requires c κs = search needs
 returns : tie.Need-returns
 unfolding writeAnswer
 returns c =
-    link _ _ _ _ _ (c .before .before .before .before .before .before .before .before .unless .ensures)
-    (link _ _ _ _ _ (asked _ _ _ _ _ (c .before .before .before .before .before .before .unless2 .ensures) (c .before .before .before .before .before .before .before .is-preamble .ensures))
-    (link _ _ _ _ _ (asked _ _ _ _ _ (c .before .before .before .before .unless3 .ensures) (c .before .before .before .before .before .is-known .ensures))
+    link _ _ _ _ _ (c .before .before .before .before .before .before .before .unless .ensures)
+    (link _ _ _ _ _ (asked _ _ _ _ _ (c .before .before .before .before .before .unless2 .ensures) (c .before .before .before .before .before .before .is-preamble .ensures))
+    (link _ _ _ _ _ (asked _ _ _ _ _ (c .before .before .before .before .unless3 .ensures) (ap (λ (s : Shape). s .known) (c .before .before .before .before .before .before .before .before .shape .ensures)))
     (link _ _ _ _ _ (asked _ _ _ _ _ (c .before .before .unless4 .ensures) (c .before .before .before .is-tidy .ensures))
     (c .then .ensures ∙ ap (λ (v : Verdict). c .before .before .unless4 .result then v) (c .before .check .ensures)))))
     ∙ fine-then _
@@ -50,10 +51,10 @@ pub write-answer-spec : {M : Type 1} → statement M
 write-answer-spec =
     tie.close
     (tie.spec
+    shape-requires
     unless-requires
     is-preamble-requires
     unless-requires-2
-    is-known-requires
     unless-requires-3
     is-tidy-requires
     unless-requires-4

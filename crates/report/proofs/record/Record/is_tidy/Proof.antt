@@ -1,4 +1,5 @@
 -- `report::record::Record::is_tidy` meets its contract.
+use Rattle.report.specs.declared.record.Shape.{Shape}
 use Rattle.report.specs.Layout.{layout, slotKind}
 use Rattle.rows.specs.Layout.{Slots}
 use Rattle.report.proofs.Tables.Lengths.{kind-table}
@@ -17,11 +18,11 @@ found : (c : tie.After-are-tidy)
 found c =
     let r = c .before .before .before .before .args .self in
     c .are-tidy .ensures
-    ∙ ap (λ (k : SlotKind). tidySlots k (slotTable k .count) (r .slots)) (c .before .slot-kind .ensures)
+    ∙ ap (λ (k : SlotKind). tidySlots k (slotTable k .count) (r .slots)) (ap (λ (s : Shape). s .slots) (c .before .shape .ensures))
     ∙ ap (λ (t : Slots). tidySlots (slotKind (r .body)) (t .count) (r .slots)) (kind-table (r .body))
 
-slot-kind-requires : tie.Need-slot-kind-requires
-slot-kind-requires c κs = search needs
+shape-requires : tie.Need-shape-requires
+shape-requires c κs = search needs
 
 are-tidy-requires : tie.Need-are-tidy-requires
 are-tidy-requires c κs = search needs
@@ -44,4 +45,4 @@ returns-2 c =
 pub is-tidy-spec : {M : Type 1} → statement M
 is-tidy-spec =
     tie.close
-    (tie.spec slot-kind-requires are-tidy-requires has-tidy-text-requires returns returns-2)
+    (tie.spec shape-requires are-tidy-requires has-tidy-text-requires returns returns-2)
