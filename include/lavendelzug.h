@@ -280,7 +280,7 @@ uint32_t lz_merge(uint8_t *store, size_t store_length,
  * refused the three bytes become zeros. Refuses: 14.
  */
 uint32_t lz_count(const uint8_t *store, size_t store_length,
-                   uint8_t *counts, size_t counts_length);
+                  uint8_t *counts, size_t counts_length);
 
 /*
  * Puts the texts of the pages in their order, less all zero bytes at the end, to

@@ -40,12 +40,9 @@ bodyBy s dc =
 abbrev pub bodyOf : List ℕ → Body
 bodyOf s = bodyBy s (fieldOf s 17 4)
 
+-- the page's text where the category's table has text, else zeros
 unfoldable pub textOf : List ℕ → Body → List ℕ
-textOf s (Nankai p) = pageText s
-textOf s NoCategory = replicate 18 0
-textOf s (Hypocenter q) = replicate 18 0
-textOf s (Intensity t) = replicate 18 0
-textOf s (AshFall e) = replicate 18 0
+textOf s b = cond (layout b .text) (pageText s) (replicate 18 0)
 
 unfoldable pub recordAs : List ℕ → Body → Record
 recordAs s b = record {

@@ -2,7 +2,7 @@
 -- bit".
 use Prim.Native.Nat.{ℕ, _+_, _*_, _^_}
 use mathlib.Core.Path.{_≡_}
-use mathlib.Core.Bool.{Bool, true, false, _&&_}
+use mathlib.Core.Bool.{Bool, true, false, _&&_, cond}
 use mathlib.Core.List.{List, _∷_}
 use lib.ListN.{length}
 use lib.Dec.{eqb}
@@ -33,13 +33,9 @@ known (Intensity t) = true
 known (Nankai p) = true
 known (AshFall e) = true
 
--- text stands in category 4 alone
+-- text stands where the category's table has it
 unfoldable pub tidyText : Body → List ℕ → Bool
-tidyText (Nankai p) text = true
-tidyText NoCategory text = empty text
-tidyText (Hypocenter q) text = empty text
-tidyText (Intensity t) text = empty text
-tidyText (AshFall e) text = empty text
+tidyText b text = cond (layout b .text) true (empty text)
 
 abbrev pub tidy : Record → Bool
 tidy r = tidySlots (slotKind (r .body)) (layout (r .body) .slots .count) (r .slots) && tidyText (r .body) (r .text)
