@@ -1,14 +1,12 @@
 -- What is proved of the page store, by sentence of document 01.
 use mathlib.Core.Path.{_≡_, refl, ap, sym, _∙_}
-use mathlib.Core.Logic.{_⊎_, inl, inr, ⊎-elim}
+use mathlib.Core.Logic.{_⊎_}
 use mathlib.Core.Bool.{Bool, true, false, cond}
 use native.Mathlib.Omega.{arith}
 use lib.Dec.{eqb}
-use lib.Seq.{getD-set-same, getD-set-other}
-use borrow.Author.Tests.{eqb-true, eqb-false}
 use mathlib.Core.List.{List}
 use Prim.Native.Nat.{ℕ, _-_, _<_}
-use lib.ListN.{length, getD, set}
+use lib.ListN.{length}
 use Rattle.report.specs.declared.record.Record.{Record}
 use Rattle.nankai.specs.declared.PageNumbers.{PageNumbers}
 use Rattle.report.specs.declared.record.Body.the-variants.{Nankai}
@@ -17,25 +15,22 @@ use Rattle.rows.specs.declared.refusal.Refusal.the-variants.{Unsound}
 use Rattle.report.specs.Runs.Writing.{writeAnswer, Valid}
 use Rattle.rows.specs.declared.refusal.Verdict.{Verdict}
 use Rattle.rows.specs.declared.refusal.Verdict.the-variants.{Fine, Refused}
-use Rattle.pages.specs.declared.page.Page.{Page}
 use Rattle.pages.specs.declared.name.Name.{Name}
 use Rattle.bulletin.specs.declared.store.Store.{Store}
 use Rattle.bulletin.specs.declared.take.Admission.{Admission}
 use Rattle.bulletin.specs.declared.take.Admission.the-variants.{Number, Refused as NotAdmitted}
 use Rattle.bulletin.specs.declared.take.Taken.the-variants.{New, Same, Disputed, Refused as RefusedTaking}
-use Rattle.pages.specs.Pages.{noPage, join, heldPage, disputedPage}
+use Rattle.pages.specs.Pages.{join, heldPage, disputedPage}
 use Rattle.nankai.specs.Nankai.{nankai}
 use Rattle.report.specs.Records.{values}
 use Rattle.rows.specs.Faults.{Lowest}
 use Rattle.pages.specs.Names.{firstPageOf, nameVerdict, sameName}
 use Rattle.bulletin.specs.Stores.{noPages, zeroStore, opening, openOf, soundStore, pageBehind}
 use Rattle.bulletin.specs.Takings.{takingAnswer, bulletinOf, pageNumberIn, writable, admission, putPage, taking, takeOf}
-use Rattle.bulletin.specs.Merges.{mergeVerdict, joinedStores, merging, mergeOf}
+use Rattle.bulletin.specs.Merges.{mergeVerdict, merging, mergeOf}
 use Rattle.bulletin.proofs.Taking.TakingOutcomes.{of-bulletin, writable-record}
 use Rattle.pages.proofs.Ranges.{first-bad-value}
-use Rattle.bulletin.proofs.Merging.Merged.{Whole, marks, merge-at, merge-comm, merge-idem, merge-assoc}
-use Rattle.pages.proofs.States.{Text, Mark, absent, held, disputed, toPage, joinM, join-to}
-use Rattle.pages.proofs.Texts.{same?, eq-same, ne-same}
+use Rattle.bulletin.proofs.Taking.HeldTexts.{taking-keeps}
 
 -- "So every name in range is opened": without a page
 pub every-name-in-range-is-opened : (n : Name) → nameVerdict n ≡ Fine → openOf n ≡ record { answer = Fine; store = noPages n }
@@ -72,46 +67,8 @@ an-answered-refusal-leaves-the-store s r x = by (admission s r)
 pub a-refused-merge-gives-the-first : (s o : Store) (x : Refusal) → mergeVerdict s o ≡ Refused x → mergeOf s o .store ≡ s
 a-refused-merge-gives-the-first s o x e = ap (λ (v : Verdict). merging v s o .store) e
 
--- "Merging goes page by page": in whatever order, and however often
-pub merging-is-commutative : (a b : Store) → Whole a → Whole b → a .name ≡ b .name → joinedStores a b ≡ joinedStores b a
-merging-is-commutative = merge-comm
-
-pub merging-is-associative : (a b c : Store) → Whole a → Whole b → Whole c → joinedStores (joinedStores a b) c ≡ joinedStores a (joinedStores b c)
-merging-is-associative = merge-assoc
-
-pub merging-is-idempotent : (a : Store) → Whole a → joinedStores a a ≡ a
-merging-is-idempotent = merge-idem
-
--- a held page's text is never replaced by a merge
-held-stays : (t : Text) (n : Mark) → (joinM (held t) n ≡ held t) ⊎ (joinM (held t) n ≡ disputed)
-held-stays t absent = inl refl
-held-stays t (held u) = ⊎-elim (λ e. inl (rw (eq-same t u e))) (λ n. inr (rw (ne-same t u n))) (same? t u)
-held-stays t disputed = inr refl
-
-pub a-held-text-is-not-replaced-by-a-merge : (a b : Store) → Whole a → Whole b → (i : ℕ) (t : List ℕ) → i < 63 → pageBehind a i ≡ heldPage t
-    → (pageBehind (joinedStores a b) i ≡ heldPage t) ⊎ (pageBehind (joinedStores a b) i ≡ disputedPage)
-a-held-text-is-not-replaced-by-a-merge a b p q i t h e =
-    let n = marks b q i h in
-    let j = merge-at a b i (held t) (n .0) h (p .long) (q .long) e (n .1) in
-    ⊎-elim (λ k. inl (j ∙ ap toPage k)) (λ k. inr (j ∙ ap toPage k)) (held-stays t (n .0))
-
--- nor by a taking
-taking-keeps : (s : Store) (a : Admission) (x : List ℕ) (i : ℕ) (t : List ℕ) → i < length (s .pages) → pageBehind s i ≡ heldPage t
-    → (pageBehind (taking a s x .store) i ≡ heldPage t) ⊎ (pageBehind (taking a s x .store) i ≡ disputedPage)
-unfolding taking putPage
-taking-keeps s (NotAdmitted y) x i t h e = inl e
-taking-keeps s (Number k) x i t h e = go (eqb i (k - 1)) refl
-  where
-    after : List Page
-    after = set (s .pages) (k - 1) (join (pageBehind s (k - 1)) (heldPage x))
-
-    go : (b : Bool) → eqb i (k - 1) ≡ b → (getD after i noPage ≡ heldPage t) ⊎ (getD after i noPage ≡ disputedPage)
-    go true q =
-        let same : k - 1 ≡ i = sym (eqb-true i (k - 1) q) in
-        let new = ap (λ (j : ℕ). getD (set (s .pages) j (join (pageBehind s j) (heldPage x))) i noPage) same ∙ getD-set-same (s .pages) i (join (pageBehind s i) (heldPage x)) noPage h ∙ ap (λ (p : Page). join p (heldPage x)) e ∙ join-to (held t) (held x) in
-        ⊎-elim (λ z. inl (new ∙ ap toPage z)) (λ z. inr (new ∙ ap toPage z)) (held-stays t (held x))
-    go false q = inl (getD-set-other (s .pages) (k - 1) i _ noPage (λ z. eqb-false i (k - 1) q (omega (arith, z))) ∙ e)
-
+-- "all else is disputed": the text of a held page is never replaced by another, whatever is taken. What merging keeps to is
+-- claimed in `histories`, of every sound store.
 pub a-held-text-is-not-replaced-by-a-taking : (s : Store) (r : Record) (i : ℕ) (t : List ℕ) → i < length (s .pages) → pageBehind s i ≡ heldPage t
     → (pageBehind (takeOf s r .store) i ≡ heldPage t) ⊎ (pageBehind (takeOf s r .store) i ≡ disputedPage)
 a-held-text-is-not-replaced-by-a-taking s r i t h e = taking-keeps s (admission s r) (r .text) i t h e

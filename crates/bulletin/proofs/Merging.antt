@@ -1,2 +1,2 @@
 pub mod Joins
-pub mod Merged
+pub mod MergingOutcomes

@@ -1,2 +1,3 @@
 pub mod TakingOutcomes
 pub mod TakenOrRefused
+pub mod HeldTexts

@@ -128,9 +128,9 @@ pub merging-is-idempotent : (a : Store) → Sound a → ShapedStore a → mergeO
 merging-is-idempotent a p x = repeats a p (x .long)
 
 -- "all else is disputed": the text of a held page is never replaced by another, in whatever store it is merged with
-pub a-held-text-is-not-replaced : (a b : Store) → ShapedStore a → ShapedStore b → (i : ℕ) (t : List ℕ) → i < 63 → pageBehind a i ≡ heldPage t
+pub a-held-text-is-not-replaced-by-a-merge : (a b : Store) → ShapedStore a → ShapedStore b → (i : ℕ) (t : List ℕ) → i < 63 → pageBehind a i ≡ heldPage t
     → (pageBehind (mergeOf a b .store) i ≡ heldPage t) ⊎ (pageBehind (mergeOf a b .store) i ≡ disputedPage)
-a-held-text-is-not-replaced a b x y i t h e = held-kept a b (x .long) (y .long) i t h e
+a-held-text-is-not-replaced-by-a-merge a b x y i t h e = held-kept a b (x .long) (y .long) i t h e
 
 -- ---- from its opening on
 

@@ -1,22 +1,23 @@
 -- What a store stands for: a name, and a mark for each page. Two stores that stand for the same are the same.
 use mathlib.Core.Path.{_≡_, refl, ap, sym, _∙_}
 use mathlib.Core.Bool.{cond}
+use mathlib.Core.List.{List}
 use mathlib.Core.Logic.{_⊎_, inl, inr, ⊎-elim}
 use Prim.Native.Nat.{ℕ, _<_, _≤_}
 use native.Mathlib.Omega.{arith}
 use lib.ListN.{length, getD-replicate, List·getD-eq-default}
+use lib.Seq.{ext-getD}
 use lib.Dec.{eqb}
 use Rattle.pages.specs.declared.page.Page.{Page}
 use Rattle.pages.specs.declared.name.Name.{Name}
 use Rattle.bulletin.specs.declared.store.Store.{Store}
-use Rattle.pages.specs.Pages.{noPage, noText, absentPage}
+use Rattle.pages.specs.Pages.{noPage, noText, absentPage, heldPage, join}
 use Rattle.bulletin.specs.Stores.{noPages, pageBehind}
 use Rattle.bulletin.specs.Merges.{joinedStores}
-use Rattle.pages.proofs.States.{Mark, absent, held, disputed, toPage, joinM}
-use Rattle.bulletin.proofs.Merging.Merged.{marks, store-ext, merge-at, merge-long}
+use Rattle.pages.proofs.States.{Mark, absent, held, disputed, toPage, joinM, join-to}
+use Rattle.bulletin.proofs.Merging.Joins.{length-joins, getD-joins}
 use Rattle.pages.proofs.Texts.{below?}
 use Rattle.histories.specs.Soundness.{InRange, OneOfThree, Sound}
-use Rattle.histories.proofs.Soundness.Tested.{sound-tested}
 
 pub record Stands (s : Store) (n : Name) (m : ℕ → Mark) : Type 0 where
   pub name : s .name ≡ n
@@ -26,7 +27,8 @@ pub record Stands (s : Store) (n : Name) (m : ℕ → Mark) : Type 0 where
 
 pub stands-same : (a b : Store) (n : Name) (m k : ℕ → Mark) → Stands a n m → Stands b n k → ((i : ℕ) → i < 63 → m i ≡ k i) → a ≡ b
 stands-same a b n m k p q e =
-    store-ext a b (p .name ∙ sym (q .name)) (p .long) (q .long) (λ i h. p .page i h ∙ ap toPage (e i h) ∙ sym (q .page i h))
+    let pages : a .pages ≡ b .pages = ext-getD noPage (a .pages) (b .pages) (p .long ∙ sym (q .long)) (λ i h. let below : i < 63 = omega (arith, p .long) in p .page i below ∙ ap toPage (e i below) ∙ sym (q .page i below)) in
+    λ j. record { name = (p .name ∙ sym (q .name)) j; pages = pages j }
 
 pub stands-for : (s : Store) (n : Name) (m k : ℕ → Mark) → Stands s n m → ((i : ℕ) → m i ≡ k i) → Stands s n k
 stands-for s n m k p e = record {
@@ -71,42 +73,45 @@ stands-sound s n m r p = record {
 unfoldable pub markIn : Page → Mark
 markIn p = cond (eqb (p .mark) 0) absent (cond (eqb (p .mark) 1) (held (p .text)) disputed)
 
-mark-to : (m : Mark) → markIn (toPage m) ≡ m
-unfolding markIn
-mark-to absent = refl
-mark-to (held t) = refl
-mark-to disputed = refl
+-- what each page of a store is marked with
+abbrev pub marksOf : Store → ℕ → Mark
+marksOf s i = markIn (pageBehind s i)
 
 no-mark : markIn noPage ≡ absent
 unfolding markIn
 no-mark = refl
 
-unmarked : (m : Mark) → toPage m .mark ≡ 0 → m ≡ absent
-unmarked absent e = refl
-unmarked (held t) e = absurd (one-is-not-0 e)
-  where
-    one-is-not-0 : _≡_ {A = ℕ} 1 0 → ⊥
-    one-is-not-0 e = omega arith
-unmarked disputed e = absurd (two-is-not-0 e)
-  where
-    two-is-not-0 : _≡_ {A = ℕ} 2 0 → ⊥
-    two-is-not-0 e = omega arith
+pub held-mark : (t : List ℕ) → markIn (heldPage t) ≡ held t
+unfolding markIn
+held-mark t = refl
 
-pub sound-stands : (s : Store) → Sound s → length (s .pages) ≡ 63 → Stands s (s .name) (λ i. markIn (pageBehind s i))
-sound-stands s p long = record {
-  name = refl;
+unmarked : (p : Page) → p .mark ≡ 0 → markIn p ≡ absent
+unfolding markIn
+unmarked p e = rw e
+
+-- a page in one of the three states is the page of its mark
+page-of-mark : (p : Page) → OneOfThree (p .mark) → ((p .mark ≡ 0) ⊎ (p .mark ≡ 2) → p .text ≡ noText) → p ≡ toPage (markIn p)
+unfolding markIn
+page-of-mark p state empty =
+    ⊎-elim
+    (λ e. rw e (λ j. record { mark = 0; text = empty (inl e) j }))
+    (⊎-elim
+    (λ e. rw e)
+    (λ e. rw e (λ j. record { mark = 2; text = empty (inr e) j })))
+    state
+
+pub sound-stands : (s : Store) (n : Name) → Sound s → length (s .pages) ≡ 63 → s .name ≡ n → Stands s n (marksOf s)
+sound-stands s n p long e = record {
+  name = e;
   long = long;
-  page = λ i h. let m = found i h in m .1 ∙ ap toPage (sym (mark-to (m .0)) ∙ ap markIn (sym (m .1)));
+  page = λ i h. let k : i < length (s .pages) = omega arith in page-of-mark (pageBehind s i) (p .state i k) (p .empty i k);
   past = λ i l. ⊎-elim (λ h. inside i l h) (λ h. ap markIn (List·getD-eq-default (s .pages) noPage (omega arith)) ∙ no-mark) (below? i 63);
 }
   where
-    found : (i : ℕ) → i < 63 → (m : Mark) × (pageBehind s i ≡ toPage m)
-    found = marks s (record { long = long; sound = sound-tested s p })
-
-    inside : (i : ℕ) → s .name .total ≤ i → i < 63 → markIn (pageBehind s i) ≡ absent
+    inside : (i : ℕ) → n .total ≤ i → i < 63 → marksOf s i ≡ absent
     inside i l h =
-        let m = found i h in
-        ap markIn (m .1) ∙ mark-to (m .0) ∙ unmarked (m .0) (ap (λ (q : Page). q .mark) (sym (m .1)) ∙ p .past i (omega arith) l)
+        let same : s .name .total ≡ n .total = ap (λ (x : Name). x .total) e in
+        unmarked (pageBehind s i) (p .past i (omega arith) (omega arith))
 
 -- ---- opened, and merged
 
@@ -116,7 +121,10 @@ opened-stands n = record { name = refl; long = refl; page = λ i h. getD-replica
 pub joined-stands : (a b : Store) (n : Name) (m k : ℕ → Mark) → Stands a n m → Stands b n k → Stands (joinedStores a b) n (λ i. joinM (m i) (k i))
 joined-stands a b n m k p q = record {
   name = p .name;
-  long = merge-long a b (p .long);
-  page = λ i h. merge-at a b i (m i) (k i) h (p .long) (q .long) (p .page i h) (q .page i h);
+  long = length-joins (a .pages) (b .pages) ∙ p .long;
+  page = λ i h.
+      getD-joins (a .pages) (b .pages) i (omega (arith, p .long)) (p .long ∙ sym (q .long))
+      ∙ (λ j. join (p .page i h j) (q .page i h j))
+      ∙ join-to (m i) (k i);
   past = λ i l. λ j. joinM (p .past i l j) (q .past i l j);
 }

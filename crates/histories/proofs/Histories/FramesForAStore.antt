@@ -18,7 +18,7 @@ use Rattle.pages.proofs.States.{Text, Mark, absent, held, disputed, toPage, joi
 use Rattle.pages.proofs.Texts.{below?, ne-same}
 use Rattle.histories.specs.Soundness.{InRange, Sound}
 use Rattle.histories.specs.Frames.{Frame, storeAfter, Among, Brings, Came, AllTaken}
-use Rattle.histories.proofs.Frames.StoreStates.{Stands, markIn, stands-same, sound-stands}
+use Rattle.histories.proofs.Frames.StoreStates.{Stands, markIn, marksOf, stands-same, sound-stands}
 use Rattle.histories.proofs.Frames.TextsBrought.{Page?, page?, broughtBy, brought, same-page, texts, texts-append}
 use Rattle.histories.proofs.Frames.Takings.{after-stands}
 use Rattle.histories.proofs.Soundness.KeptRules.{Bytes18, all-alike}
@@ -155,7 +155,7 @@ none-bytes = tt
 
 pub sound-given : (s : Store) → Sound s → ShapedStore s → (fs : List Frame) × AllTaken (s .name) fs × (s ≡ storeAfter (s .name) fs)
 sound-given s p shape =
-    stands-given (s .name) (p .name) s (λ i. markIn (pageBehind s i)) (sound-stands s p (shape .long))
+    stands-given (s .name) (p .name) s (marksOf s) (sound-stands s (s .name) p (shape .long) refl)
     (λ i. ⊎-elim
     (λ l. mark-bytes (pageBehind s i) (shape .pages i l))
     (λ l. let past : pageBehind s i ≡ noPage = List·getD-eq-default (s .pages) noPage (omega (arith, shape .long)) in rw past none-bytes)

@@ -1,5 +1,5 @@
--- Merging is taking the frames of both.
-use mathlib.Core.Path.{_≡_, refl, ap, sym, _∙_, subst}
+-- The laws of merging, and that it is taking the frames of both.
+use mathlib.Core.Path.{_≡_, refl, ap, sym, _∙_}
 use mathlib.Core.List.{List, _++_}
 use mathlib.Core.Logic.{_⊎_, inl}
 use Prim.Native.Nat.{ℕ, suc, _<_}
@@ -14,15 +14,14 @@ use Rattle.pages.specs.Pages.{heldPage, disputedPage}
 use Rattle.pages.specs.Names.{sameName}
 use Rattle.bulletin.specs.Stores.{soundStore, pageBehind}
 use Rattle.bulletin.specs.Merges.{mergeVerdict, joinedStores, merging, mergeOf}
-use Rattle.bulletin.proofs.Claims.{a-held-text-is-not-replaced-by-a-merge}
-use Rattle.pages.proofs.States.{markOf, markOf-append}
-use Rattle.bulletin.proofs.Merging.Merged.{Whole, merge-comm, merge-assoc, merge-idem}
+use Rattle.pages.proofs.States.{Mark, toPage, joinM, joinM-comm, joinM-assoc, joinM-idem, markOf, markOf-append}
+use Rattle.bulletin.proofs.Taking.HeldTexts.{joined-held}
 use Rattle.histories.specs.Soundness.{InRange, Sound}
 use Rattle.histories.specs.Frames.{Frame, storeAfter, SameFrames}
 use Rattle.histories.specs.Merging.{Tree, receiver, merge, treeStore, allFrames}
-use Rattle.histories.proofs.Soundness.Tested.{sound-tested}
-use Rattle.histories.proofs.Frames.StoreStates.{Stands, markIn, stands-same, stands-sound, sound-stands, joined-stands}
-use Rattle.histories.proofs.Frames.TextsBrought.{name-same, texts, texts-append}
+use Rattle.histories.proofs.Soundness.Tested.{tested-sound, sound-tested}
+use Rattle.histories.proofs.Frames.StoreStates.{Stands, markIn, marksOf, held-mark, stands-same, stands-sound, sound-stands, joined-stands}
+use Rattle.histories.proofs.Frames.TextsBrought.{same-name, name-same, texts, texts-append}
 use Rattle.histories.proofs.Frames.Takings.{after-stands}
 use Rattle.histories.proofs.Frames.PageStates.{same-frames}
 
@@ -30,6 +29,7 @@ use Rattle.histories.proofs.Frames.PageStates.{same-frames}
 abbrev pub fineMerge : Store → Merging
 fineMerge s = record { answer = Fine; store = s }
 
+-- sound stores of one bulletin are merged ..
 pub merge-joins : (a b : Store) → Sound a → Sound b → a .name ≡ b .name → mergeOf a b ≡ fineMerge (joinedStores a b)
 unfolding mergeVerdict
 merge-joins a b p q e =
@@ -38,43 +38,73 @@ merge-joins a b p q e =
     (both-fine _ _ (unless-true (soundStore b) _ (sound-tested b q))
     (unless-true (sameName (a .name) (b .name)) _ (ap (λ (n : Name). sameName (a .name) n) (sym e) ∙ name-same (a .name)))))
 
--- ---- the laws, on sound stores of one bulletin, which have 63 pages
+-- .. and no others
+pub fine-merged : (a b : Store) → mergeVerdict a b ≡ Fine → Sound a × Sound b × (a .name ≡ b .name)
+unfolding mergeVerdict
+fine-merged a b e =
+    let first = fine-both _ _ e in
+    let second = fine-both _ _ (first .1) in
+    (tested-sound a (unless-fine _ _ (first .0)), tested-sound b (unless-fine _ _ (second .0)), same-name (a .name) (b .name) (unless-fine _ _ (second .1)))
 
-whole : (s : Store) → Sound s → length (s .pages) ≡ 63 → Whole s
-whole s p l = record { long = l; sound = sound-tested s p }
+-- ---- the laws, on sound stores of one bulletin, which have 63 pages: each is the law of a page's mark, for every page
 
 module _ (a b : Store) (p : Sound a) (q : Sound b) (la : length (a .pages) ≡ 63) (lb : length (b .pages) ≡ 63) (e : a .name ≡ b .name) where
+  first-stands : Stands a (b .name) (marksOf a)
+  first-stands = sound-stands a (b .name) p la e
+
+  second-stands : Stands b (b .name) (marksOf b)
+  second-stands = sound-stands b (b .name) q lb refl
+
+  merged-stands : Stands (joinedStores a b) (b .name) (λ i. joinM (marksOf a i) (marksOf b i))
+  merged-stands = joined-stands a b (b .name) _ _ first-stands second-stands
+
   pub joined-sound : Sound (joinedStores a b)
-  joined-sound =
-      stands-sound (joinedStores a b) (b .name) _ (q .name)
-      (joined-stands a b (b .name) _ _ (subst (λ (n : Name). Stands a n (λ i. markIn (pageBehind a i))) e (sound-stands a p la)) (sound-stands b q lb))
+  joined-sound = stands-sound (joinedStores a b) (b .name) _ (q .name) merged-stands
 
   pub commutes : mergeOf a b ≡ mergeOf b a
-  commutes = merge-joins a b p q e ∙ ap fineMerge (merge-comm a b (whole a p la) (whole b q lb) e) ∙ sym (merge-joins b a q p (sym e))
+  commutes =
+      merge-joins a b p q e
+      ∙ ap fineMerge (stands-same (joinedStores a b) (joinedStores b a) (b .name) _ _ merged-stands (joined-stands b a (b .name) _ _ second-stands first-stands) (λ i h. joinM-comm (marksOf a i) (marksOf b i)))
+      ∙ sym (merge-joins b a q p (sym e))
 
 pub associates : (a b c : Store) → Sound a → Sound b → Sound c → length (a .pages) ≡ 63 → length (b .pages) ≡ 63 → length (c .pages) ≡ 63
     → a .name ≡ b .name → b .name ≡ c .name → mergeOf (mergeOf a b .store) c ≡ mergeOf a (mergeOf b c .store)
 associates a b c p q r la lb lc e f =
     ap (λ (m : Merging). mergeOf (m .store) c) (merge-joins a b p q e)
     ∙ merge-joins (joinedStores a b) c (joined-sound a b p q la lb e) r (e ∙ f)
-    ∙ ap fineMerge (merge-assoc a b c (whole a p la) (whole b q lb) (whole c r lc))
+    ∙ ap fineMerge (stands-same (joinedStores (joinedStores a b) c) (joinedStores a (joinedStores b c)) (c .name) _ _
+    (joined-stands (joinedStores a b) c (c .name) _ _ (joined-stands a b (c .name) _ _ sa sb) sc)
+    (joined-stands a (joinedStores b c) (c .name) _ _ sa (joined-stands b c (c .name) _ _ sb sc))
+    (λ i h. joinM-assoc (marksOf a i) (marksOf b i) (marksOf c i)))
     ∙ sym (merge-joins a (joinedStores b c) p (joined-sound b c q r lb lc f) e)
     ∙ sym (ap (λ (m : Merging). mergeOf a (m .store)) (merge-joins b c q r f))
+  where
+    sa : Stands a (c .name) (marksOf a)
+    sa = sound-stands a (c .name) p la (e ∙ f)
+
+    sb : Stands b (c .name) (marksOf b)
+    sb = sound-stands b (c .name) q lb f
+
+    sc : Stands c (c .name) (marksOf c)
+    sc = sound-stands c (c .name) r lc refl
 
 pub repeats : (a : Store) → Sound a → length (a .pages) ≡ 63 → mergeOf a a ≡ fineMerge a
-repeats a p la = merge-joins a a p p refl ∙ ap fineMerge (merge-idem a (whole a p la))
+repeats a p la =
+    merge-joins a a p p refl
+    ∙ ap fineMerge (stands-same (joinedStores a a) a (a .name) _ _ (merged-stands a a p p la la refl) (second-stands a a p p la la refl) (λ i h. joinM-idem (marksOf a i)))
 
 -- a held text stays, or is disputed: also where the merge is refused
 pub held-kept : (a b : Store) → length (a .pages) ≡ 63 → length (b .pages) ≡ 63 → (i : ℕ) (t : List ℕ) → i < 63 → pageBehind a i ≡ heldPage t
     → (pageBehind (mergeOf a b .store) i ≡ heldPage t) ⊎ (pageBehind (mergeOf a b .store) i ≡ disputedPage)
-unfolding mergeVerdict
 held-kept a b la lb i t h e = by (mergeVerdict a b) refl
   where
     by : (v : Verdict) → mergeVerdict a b ≡ v → (pageBehind (merging v a b .store) i ≡ heldPage t) ⊎ (pageBehind (merging v a b .store) i ≡ disputedPage)
     by (Refused x) f = inl e
     by Fine f =
-        let parts = fine-both _ _ f in
-        a-held-text-is-not-replaced-by-a-merge a b (record { long = la; sound = unless-fine _ _ (parts .0) }) (record { long = lb; sound = unless-fine _ _ (fine-both _ _ (parts .1) .0) }) i t h e
+        let parts = fine-merged a b f in
+        joined-held (pageBehind (joinedStores a b) i) t (marksOf b i)
+        (merged-stands a b (parts .0) (parts .1) la lb (parts .2) .page i h
+        ∙ ap (λ (m : Mark). toPage (joinM m (marksOf b i))) (ap markIn e ∙ held-mark t))
 
 -- ---- over frames
 

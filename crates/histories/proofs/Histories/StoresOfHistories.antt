@@ -4,7 +4,7 @@ use mathlib.Core.Bool.{Bool, true, false}
 use mathlib.Core.List.{List, [], _∷_, _++_}
 use Rattle.rows.specs.declared.refusal.Verdict.{Verdict}
 use Rattle.rows.specs.declared.refusal.Verdict.the-variants.{Fine, Refused}
-use Rattle.rows.proofs.Rules.Outcomes.{fine-both, unless-fine, false-not-true}
+use Rattle.rows.proofs.Rules.Outcomes.{false-not-true}
 use Rattle.pages.specs.declared.name.Name.{Name}
 use Rattle.bulletin.specs.declared.store.Store.{Store}
 use Rattle.bulletin.specs.declared.merge.Merging.{Merging}
@@ -17,24 +17,20 @@ use Rattle.histories.specs.Frames.{Frame, takes, storeAfter}
 use Rattle.histories.specs.Histories.{History, opened, took, merged, met, refused, historyStore, framesOf}
 use Rattle.histories.proofs.Soundness.Tested.{tested-sound, sound-tested}
 use Rattle.histories.proofs.Frames.TextsBrought.{same-name, name-same}
-use Rattle.histories.proofs.Histories.Merges.{after-sound, after-name, joined-after, merge-after}
+use Rattle.histories.proofs.Histories.Merges.{fine-merged, after-sound, after-name, joined-after, merge-after}
 use Rattle.histories.proofs.Histories.FramesForAStore.{sound-given, after-shaped}
 
 takes-append : (s : Store) (a b : List Frame) → takes s (a ++ b) ≡ takes (takes s a) b
 takes-append s [] b = refl
 takes-append s (f ∷ a) b = takes-append (takeOf s (f .came) .store) a b
 
--- "a refused merge [gives] the first store as given"
+-- a store that is not sound, or of another bulletin, is not merged: the first stays
 merge-refused : (a b : Store) → (Sound b → b .name ≡ a .name → ⊥) → mergeOf a b .store ≡ a
-unfolding mergeVerdict
 merge-refused a b none = by (mergeVerdict a b) refl
   where
     by : (v : Verdict) → mergeVerdict a b ≡ v → merging v a b .store ≡ a
     by (Refused x) e = refl
-    by Fine e =
-        let second = fine-both _ _ e .1 in
-        let parts = fine-both _ _ second in
-        absurd (none (tested-sound b (unless-fine _ _ (parts .0))) (sym (same-name (a .name) (b .name) (unless-fine _ _ (parts .1)))))
+    by Fine e = let parts = fine-merged a b e in absurd (none (parts .1) (sym (parts .2)))
 
 -- what two sound stores of one bulletin give has the shape of a store of the code
 pub joined-shaped : (a b : Store) → Sound a → Sound b → ShapedStore a → ShapedStore b → a .name ≡ b .name → ShapedStore (joinedStores a b)

@@ -1,5 +1,5 @@
 -- `bulletin::store::Store::merge` meets its contract.
-use Rattle.bulletin.proofs.Merging.Merged.{merged-fine, merged-refused}
+use Rattle.bulletin.proofs.Merging.MergingOutcomes.{merged-fine, merged-refused}
 use borrow.Author.Needs.{needs}
 use Rattle.bulletin.proofs.store.Store.merge.Statement.{statement}
 use Rattle.bulletin.proofs.store.Store.merge.Tie as tie
