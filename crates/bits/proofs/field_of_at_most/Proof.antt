@@ -1,0 +1,35 @@
+-- `bits::field_of_at_most` meets its contract.
+use mathlib.Core.Bool.{true}
+use mathlib.Core.Path.{_≡_, sym, _∙_}
+use native.Mathlib.Omega.{arith}
+use lib.Pow.{pow-pos}
+use borrow.Author.Needs.{needs}
+use Rattle.bits.specs.Frame.{lies}
+use Rattle.bits.proofs.Inside.{lies-told, field-read, no-field}
+use Rattle.bits.proofs.Windows.{narrower}
+use Rattle.bits.proofs.field_of_at_most.Statement.{statement}
+use Rattle.bits.proofs.field_of_at_most.Tie as tie
+
+inside : (c : tie.Then1) → lies (c .before .before .args .most) (c .before .before .args .first) (c .before .before .args .width) ≡ true
+inside c = sym (c .before .lies-in-frame .ensures) ∙ c .if1 .taken
+
+lies-in-frame-requires : tie.Need-lies-in-frame-requires
+lies-in-frame-requires c κs = search needs
+
+field-requires : tie.Need-field-requires
+field-requires c κs = let t = lies-told _ _ _ (inside c) in (t .0, omega arith)
+
+returns : tie.Need-returns
+returns c =
+    let a = c .before .before .before .args in
+    let read = field-read (a .most) (a .frame) (a .first) (a .width) _ (inside (c .before)) (c .field .ensures) in
+    (read .0, (read .1, narrower _ _ (a .most) (read .1) (lies-told (a .most) _ _ (inside (c .before)) .1)))
+
+returns-2 : tie.Need-returns-2
+returns-2 c =
+    let a = c .before .before .args in
+    let none = no-field (a .most) (a .frame) (a .first) (a .width) (sym (c .before .lies-in-frame .ensures) ∙ c .if1 .left) in
+    (none .0, (none .1, pow-pos (a .most)))
+
+pub field-of-at-most-spec : {M : Type 1} → statement M
+field-of-at-most-spec = tie.close (tie.spec lies-in-frame-requires field-requires returns returns-2)
