@@ -31,23 +31,6 @@ pub fn put_bytes(out: &mut [u8], at: usize, bytes: &[u8]) -> usize
     next
 }
 
-// So many zeros.
-pub fn put_zeros(out: &mut [u8], at: usize, count: usize) -> usize
-    ensures { λ r. ⌜ Wrote (now (out .entry)) (now (out .exit)) at r (replicate count 0) ⌝ }
-{
-    let mut next = at;
-    let mut k = 0;
-    while k < count {
-        if next > out.len() {
-            return next;
-        }
-        let behind = put_byte(out, next, 0);
-        next = behind;
-        k += 1;
-    }
-    next
-}
-
 // The number in `count` bytes, the most significant first.
 pub fn put_wide(out: &mut [u8], at: usize, count: usize, value: u64) -> usize
     ensures { λ r. ⌜ Wrote (now (out .entry)) (now (out .exit)) at r (wide count value) ⌝ }
@@ -63,6 +46,13 @@ pub fn put_wide(out: &mut [u8], at: usize, count: usize, value: u64) -> usize
         k += 1;
     }
     next
+}
+
+// So many zeros: the number 0 in as many bytes.
+pub fn put_zeros(out: &mut [u8], at: usize, count: usize) -> usize
+    ensures { λ r. ⌜ Wrote (now (out .entry)) (now (out .exit)) at r (replicate count 0) ⌝ }
+{
+    put_wide(out, at, count, 0)
 }
 
 // The number in decimal digits.
