@@ -26,125 +26,69 @@ abbrev put-decimal-below : ℕ → In 1 put-decimal-kinds.ps
 put-decimal-below t =
     and 1 put-decimal-kinds.ps (falls 1 put-decimal-kinds.ps _<_ μ-put-decimal t) put-decimal.Pre
 
-put-decimal-cast-put-byte : (t : ℕ) → put-decimal-lts.Need-cast-put-byte (
-  put-byte-reads.Asked,
-  put-byte-reads.Learnt,
-  put-decimal-below t,
-  put-decimal.Post,
-) (put-decimal-at t) put-decimal.Post
-put-decimal-cast-put-byte t c = search needs
+-- what the two callees ask and tell, where putting a number that is less than t is one of them
+abbrev callees : ℕ → put-decimal-lts.Claims
+callees t = (put-byte-reads.Asked, put-byte-reads.Learnt, put-decimal-below t, put-decimal.Post)
 
-put-decimal-add-put-byte : (t : ℕ) → put-decimal-lts.Need-add-put-byte (
-  put-byte-reads.Asked,
-  put-byte-reads.Learnt,
-  put-decimal-below t,
-  put-decimal.Post,
-) (put-decimal-at t) put-decimal.Post
-put-decimal-add-put-byte t c = search needs
+module _ (t : ℕ) where
+  cast-put-byte : put-decimal-lts.Need-cast-put-byte (callees t) (put-decimal-at t) put-decimal.Post
+  cast-put-byte c = search needs
 
-put-decimal-put-byte-requires : (t : ℕ) → put-decimal-lts.Need-put-byte-requires (
-  put-byte-reads.Asked,
-  put-byte-reads.Learnt,
-  put-decimal-below t,
-  put-decimal.Post,
-) (put-decimal-at t) put-decimal.Post
-put-decimal-put-byte-requires t c κs = tt
+  add-put-byte : put-decimal-lts.Need-add-put-byte (callees t) (put-decimal-at t) put-decimal.Post
+  add-put-byte c = search needs
 
-put-decimal-same-length : (t : ℕ) → put-decimal-lts.Need-same-length (
-  put-byte-reads.Asked,
-  put-byte-reads.Learnt,
-  put-decimal-below t,
-  put-decimal.Post,
-) (put-decimal-at t) put-decimal.Post
-put-decimal-same-length t c = wrote-length (c .before .before .put-byte .ensures)
+  put-byte-requires : put-decimal-lts.Need-put-byte-requires (callees t) (put-decimal-at t) put-decimal.Post
+  put-byte-requires c κs = tt
 
-put-decimal-returns : (t : ℕ) → put-decimal-lts.Need-returns (
-  put-byte-reads.Asked,
-  put-byte-reads.Learnt,
-  put-decimal-below t,
-  put-decimal.Post,
-) (put-decimal-at t) put-decimal.Post
-put-decimal-returns t c =
-    let p = c .before .before in
-    let s = p .before .before .before .before in
-    rw (decimal-one (s .args .number) (p .before .before .if1 .taken)) (p .put-byte .ensures)
+  same-length : put-decimal-lts.Need-same-length (callees t) (put-decimal-at t) put-decimal.Post
+  same-length c = wrote-length (c .before .before .put-byte .ensures)
 
-put-decimal-put-decimal-requires : (t : ℕ) → put-decimal-lts.Need-put-decimal-requires (
-  put-byte-reads.Asked,
-  put-byte-reads.Learnt,
-  put-decimal-below t,
-  put-decimal.Post,
-) (put-decimal-at t) put-decimal.Post
-put-decimal-put-decimal-requires t c κs =
-    let s = c .before .before .before in
-    let n : ℕ = s .args .number in
-    let b : 10 ≤ n = c .before .if1 .left in
-    let d : n / 10 < n = div-lt-self {n = n} {k = 10} (omega arith) (omega arith) in
-    (omega (arith, s .pre .0), tt)
+  returns : put-decimal-lts.Need-returns (callees t) (put-decimal-at t) put-decimal.Post
+  returns c =
+      let p = c .before .before in
+      let s = p .before .before .before .before in
+      rw (decimal-one (s .args .number) (p .before .before .if1 .taken)) (p .put-byte .ensures)
 
-put-decimal-cast-put-byte-2 : (t : ℕ) → put-decimal-lts.Need-cast-put-byte-2 (
-  put-byte-reads.Asked,
-  put-byte-reads.Learnt,
-  put-decimal-below t,
-  put-decimal.Post,
-) (put-decimal-at t) put-decimal.Post
-put-decimal-cast-put-byte-2 t c = search needs
+  put-decimal-requires : put-decimal-lts.Need-put-decimal-requires (callees t) (put-decimal-at t) put-decimal.Post
+  put-decimal-requires c κs =
+      let s = c .before .before .before in
+      let n : ℕ = s .args .number in
+      let b : 10 ≤ n = c .before .if1 .left in
+      let d : n / 10 < n = div-lt-self {n = n} {k = 10} (omega arith) (omega arith) in
+      (omega (arith, s .pre .0), tt)
 
-put-decimal-add-put-byte-2 : (t : ℕ) → put-decimal-lts.Need-add-put-byte-2 (
-  put-byte-reads.Asked,
-  put-byte-reads.Learnt,
-  put-decimal-below t,
-  put-decimal.Post,
-) (put-decimal-at t) put-decimal.Post
-put-decimal-add-put-byte-2 t c = search needs
+  cast-put-byte-2 : put-decimal-lts.Need-cast-put-byte-2 (callees t) (put-decimal-at t) put-decimal.Post
+  cast-put-byte-2 c = search needs
 
-put-decimal-put-byte-requires-2 : (t : ℕ) → put-decimal-lts.Need-put-byte-requires-2 (
-  put-byte-reads.Asked,
-  put-byte-reads.Learnt,
-  put-decimal-below t,
-  put-decimal.Post,
-) (put-decimal-at t) put-decimal.Post
-put-decimal-put-byte-requires-2 t c κs = tt
+  add-put-byte-2 : put-decimal-lts.Need-add-put-byte-2 (callees t) (put-decimal-at t) put-decimal.Post
+  add-put-byte-2 c = search needs
 
-put-decimal-same-length-2 : (t : ℕ) → put-decimal-lts.Need-same-length-2 (
-  put-byte-reads.Asked,
-  put-byte-reads.Learnt,
-  put-decimal-below t,
-  put-decimal.Post,
-) (put-decimal-at t) put-decimal.Post
-put-decimal-same-length-2 t c =
-    let q = c .before .before in
-    wrote-length (q .put-byte2 .ensures) ∙ wrote-length (q .before .before .before .before .put-decimal .ensures)
+  put-byte-requires-2 : put-decimal-lts.Need-put-byte-requires-2 (callees t) (put-decimal-at t) put-decimal.Post
+  put-byte-requires-2 c κs = tt
 
-put-decimal-returns-2 : (t : ℕ) → put-decimal-lts.Need-returns-2 (
-  put-byte-reads.Asked,
-  put-byte-reads.Learnt,
-  put-decimal-below t,
-  put-decimal.Post,
-) (put-decimal-at t) put-decimal.Post
-put-decimal-returns-2 t c =
-    let q = c .before .before in
-    let p = q .before .before .before .before in
-    let s = p .before .before .before .before in
-    rw (decimal-more (s .args .number) (p .before .before .if1 .left)) (p .put-decimal .ensures then q .put-byte2 .ensures)
+  same-length-2 : put-decimal-lts.Need-same-length-2 (callees t) (put-decimal-at t) put-decimal.Post
+  same-length-2 c =
+      let q = c .before .before in
+      wrote-length (q .put-byte2 .ensures) ∙ wrote-length (q .before .before .before .before .put-decimal .ensures)
+
+  returns-2 : put-decimal-lts.Need-returns-2 (callees t) (put-decimal-at t) put-decimal.Post
+  returns-2 c =
+      let q = c .before .before in
+      let p = q .before .before .before .before in
+      let s = p .before .before .before .before in
+      rw (decimal-more (s .args .number) (p .before .before .if1 .left)) (p .put-decimal .ensures then q .put-byte2 .ensures)
 
 pub +put-decimal-spec : {M : Type 1} → statement M
-+put-decimal-spec = close μ-put-decimal λ t. put-decimal-lts.spec (
-  put-byte-reads.Asked,
-  put-byte-reads.Learnt,
-  put-decimal-below t,
-  put-decimal.Post,
-)
-    (put-decimal-at t)
-    put-decimal.Post
-    (put-decimal-cast-put-byte t)
-    (put-decimal-add-put-byte t)
-    (put-decimal-put-byte-requires t)
-    (put-decimal-same-length t)
-    (put-decimal-returns t)
-    (put-decimal-put-decimal-requires t)
-    (put-decimal-cast-put-byte-2 t)
-    (put-decimal-add-put-byte-2 t)
-    (put-decimal-put-byte-requires-2 t)
-    (put-decimal-same-length-2 t)
-    (put-decimal-returns-2 t)
++put-decimal-spec =
+    close μ-put-decimal λ t. put-decimal-lts.spec (callees t) (put-decimal-at t) put-decimal.Post
+    (cast-put-byte t)
+    (add-put-byte t)
+    (put-byte-requires t)
+    (same-length t)
+    (returns t)
+    (put-decimal-requires t)
+    (cast-put-byte-2 t)
+    (add-put-byte-2 t)
+    (put-byte-requires-2 t)
+    (same-length-2 t)
+    (returns-2 t)
