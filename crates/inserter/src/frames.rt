@@ -1,9 +1,9 @@
 // The parity of a frame, reading a frame, writing a record.
 ghost use mathlib.Core.Path.{_≡_};
 ghost use Rattle.inserter.specs.Answers.{parityAnswer, callResult, readingInto, readInto, writeInto};
+use crate::words::WRONG_CALL;
 use crate::words::refusal_word;
 use crate::words::verdict_word;
-use crate::words::wrong_call;
 use record_bytes::sizes::RECORD_SIZE;
 use report::read::Reading;
 use rows::refusal::Verdict;
@@ -27,7 +27,7 @@ pub(crate) fn hand_over(reading: Reading, record_bytes: &mut [u8]) -> u32
     ensures { λ r. ⌜ callResult r (now (record_bytes .exit)) ≡ readingInto reading (now (record_bytes .entry)) ⌝ }
 {
     if record_bytes.len() != RECORD_SIZE {
-        return wrong_call();
+        return WRONG_CALL;
     }
     let answer = reading.answer;
     match answer {
@@ -58,7 +58,7 @@ pub extern "C" fn lz_write(record_bytes: &[u8], frame: &mut [u8]) -> u32
     ensures { λ r. ⌜ callResult r (now (frame .exit)) ≡ writeInto (now (record_bytes .entry)) (now (frame .entry)) ⌝ }
 {
     if record_bytes.len() != RECORD_SIZE {
-        return wrong_call();
+        return WRONG_CALL;
     }
     let record = record_bytes::unpack(record_bytes);
     verdict_word(report::write::write(record, frame))

@@ -2,10 +2,10 @@
 // refused with 14 in 14's turn, and stays as it was.
 ghost use mathlib.Core.Path.{_≡_};
 ghost use Rattle.inserter.specs.Answers.{callResult, openInto, takeInto, mergeInto, countInto, textInto};
+use crate::words::WRONG_CALL;
 use crate::words::refusal_word;
 use crate::words::taken_word;
 use crate::words::verdict_word;
-use crate::words::wrong_call;
 use bulletin::store::Store;
 use record_bytes::sizes::RECORD_SIZE;
 use rows::refusal::Verdict;
@@ -22,10 +22,10 @@ pub extern "C" fn lz_open(name: &[u8], store: &mut [u8]) -> u32
     ensures { λ r. ⌜ callResult r (now (store .exit)) ≡ openInto (now (name .entry)) (now (store .entry)) ⌝ }
 {
     if name.len() != NAME_SIZE {
-        return wrong_call();
+        return WRONG_CALL;
     }
     if store.len() != STORE_SIZE {
-        return wrong_call();
+        return WRONG_CALL;
     }
     let opening = Store::open(store_bytes::unpack_name(name));
     let opened = opening.store;
@@ -41,10 +41,10 @@ pub extern "C" fn lz_take(store: &mut [u8], record_bytes: &[u8]) -> u32
     ensures { λ r. ⌜ callResult r (now (store .exit)) ≡ takeInto (now (store .entry)) (now (record_bytes .entry)) ⌝ }
 {
     if store.len() != STORE_SIZE {
-        return wrong_call();
+        return WRONG_CALL;
     }
     if record_bytes.len() != RECORD_SIZE {
-        return wrong_call();
+        return WRONG_CALL;
     }
     let before = store_bytes::unpack_store(store);
     let taking = before.take(record_bytes::unpack(record_bytes));
@@ -60,10 +60,10 @@ pub extern "C" fn lz_merge(store: &mut [u8], other: &[u8]) -> u32
     ensures { λ r. ⌜ callResult r (now (store .exit)) ≡ mergeInto (now (store .entry)) (now (other .entry)) ⌝ }
 {
     if store.len() != STORE_SIZE {
-        return wrong_call();
+        return WRONG_CALL;
     }
     if other.len() != STORE_SIZE {
-        return wrong_call();
+        return WRONG_CALL;
     }
     let before = store_bytes::unpack_store(store);
     let merging = before.merge(store_bytes::unpack_store(other));
@@ -80,10 +80,10 @@ pub extern "C" fn lz_count(store: &[u8], counts: &mut [u8]) -> u32
     ensures { λ r. ⌜ callResult r (now (counts .exit)) ≡ countInto (now (store .entry)) (now (counts .entry)) ⌝ }
 {
     if store.len() != STORE_SIZE {
-        return wrong_call();
+        return WRONG_CALL;
     }
     if counts.len() != COUNTS_SIZE {
-        return wrong_call();
+        return WRONG_CALL;
     }
     let count = store_bytes::unpack_store(store).count();
     let answer = count.answer;
@@ -101,7 +101,7 @@ pub extern "C" fn lz_text(store: &[u8], text: &mut [u8]) -> u32
     ensures { λ r. ⌜ callResult r (now (text .exit)) ≡ textInto (now (store .entry)) (now (text .entry)) ⌝ }
 {
     if store.len() != STORE_SIZE {
-        return wrong_call();
+        return WRONG_CALL;
     }
     let telling = store_bytes::unpack_store(store).text(text);
     let answer = telling.answer;

@@ -1,11 +1,14 @@
 // An answer as one word: the number of the refusal in the high byte, then its place, page and mark.
 ghost use mathlib.Core.Path.{_≡_};
-ghost use Rattle.rows.specs.Refusals.{says, answers, plain};
+ghost use Rattle.rows.specs.Refusals.{says, answers};
 ghost use Rattle.inserter.specs.Answers.{answerWord, takenWord};
 use bulletin::take::Taken;
 use rows::refusal::Refusal;
 use rows::refusal::Said;
 use rows::refusal::Verdict;
+
+// The answer to a call with a buffer of a length that it does not take: 255, the number of no refusal.
+pub(crate) const WRONG_CALL: u32 = 0xFF00_0000;
 
 fn word(said: Said) -> u32
     ensures { λ r. ⌜ r ≡ answerWord said ⌝ }
@@ -40,16 +43,4 @@ pub(crate) fn taken_word(taken: Taken) -> u32
         Taken::Disputed => 3,
         Taken::Refused(refusal) => refusal_word(refusal),
     }
-}
-
-// The answer to a call with a buffer of a length that it does not take.
-pub(crate) fn wrong_call() -> u32
-    ensures { λ r. ⌜ r ≡ answerWord (plain 255) ⌝ }
-{
-    word(Said {
-        number: 255,
-        place: 0,
-        page: 0,
-        mark: 0,
-    })
 }

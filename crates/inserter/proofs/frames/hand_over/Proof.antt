@@ -6,12 +6,9 @@ use borrow.Author.Needs.{needs}
 use Rattle.inserter.proofs.frames.hand_over.Statement.{statement}
 use Rattle.inserter.proofs.frames.hand_over.Tie as tie
 
-wrong-call-requires : tie.Need-wrong-call-requires
-wrong-call-requires c κs = search needs
-
 returns : tie.Need-returns
 unfolding readingInto
-returns c = simp (ne-eqb _ 145 (c .before .if1 .taken), c .wrong-call .ensures)
+returns c = simp (ne-eqb _ 145 (c .if1 .taken))
 
 enum-told : tie.Need-enum-told
 enum-told c = search needs
@@ -43,7 +40,6 @@ pub hand-over-spec : {M : Type 1} → statement M
 hand-over-spec =
     tie.close
     (tie.spec
-    wrong-call-requires
     returns
     enum-told
     pack-requires

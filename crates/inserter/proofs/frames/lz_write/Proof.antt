@@ -6,12 +6,9 @@ use borrow.Author.Needs.{needs}
 use Rattle.inserter.proofs.frames.lz_write.Statement.{statement}
 use Rattle.inserter.proofs.frames.lz_write.Tie as tie
 
-wrong-call-requires : tie.Need-wrong-call-requires
-wrong-call-requires c κs = search needs
-
 returns : tie.Need-returns
 unfolding writeInto
-returns c = simp (ne-eqb _ 145 (c .before .if1 .taken), c .wrong-call .ensures)
+returns c = simp (ne-eqb _ 145 (c .if1 .taken))
 
 unpack-requires : tie.Need-unpack-requires
 unpack-requires c κs = search needs
@@ -36,7 +33,6 @@ pub lz-write-spec : {M : Type 1} → statement M
 lz-write-spec =
     tie.close
     (tie.spec
-    wrong-call-requires
     returns
     unpack-requires
     write-requires

@@ -8,19 +8,13 @@ use borrow.Author.Needs.{needs}
 use Rattle.inserter.proofs.stores.lz_count.Statement.{statement}
 use Rattle.inserter.proofs.stores.lz_count.Tie as tie
 
-wrong-call-requires : tie.Need-wrong-call-requires
-wrong-call-requires c κs = search needs
-
 returns : tie.Need-returns
 unfolding countInto
-returns c = simp (ne-eqb _ 1205 (c .before .if1 .taken), c .wrong-call .ensures)
-
-wrong-call-requires-2 : tie.Need-wrong-call-requires-2
-wrong-call-requires-2 c κs = search needs
+returns c = simp (ne-eqb _ 1205 (c .if1 .taken))
 
 returns-2 : tie.Need-returns-2
 unfolding countInto
-returns-2 c = simp (eq-eqb _ 1205 (c .before .before .if1 .left), ne-eqb _ 3 (c .before .if2 .taken), c .wrong-call2 .ensures)
+returns-2 c = simp (eq-eqb _ 1205 (c .before .if1 .left), ne-eqb _ 3 (c .if2 .taken))
 
 unpack-store-requires : tie.Need-unpack-store-requires
 unpack-store-requires c κs = search needs
@@ -56,9 +50,7 @@ pub lz-count-spec : {M : Type 1} → statement M
 lz-count-spec =
     tie.close
     (tie.spec
-    wrong-call-requires
     returns
-    wrong-call-requires-2
     returns-2
     unpack-store-requires
     count-requires

@@ -6,19 +6,13 @@ use borrow.Author.Needs.{needs}
 use Rattle.inserter.proofs.stores.lz_merge.Statement.{statement}
 use Rattle.inserter.proofs.stores.lz_merge.Tie as tie
 
-wrong-call-requires : tie.Need-wrong-call-requires
-wrong-call-requires c κs = search needs
-
 returns : tie.Need-returns
 unfolding mergeInto
-returns c = simp (ne-eqb _ 1205 (c .before .if1 .taken), c .wrong-call .ensures)
-
-wrong-call-requires-2 : tie.Need-wrong-call-requires-2
-wrong-call-requires-2 c κs = search needs
+returns c = simp (ne-eqb _ 1205 (c .if1 .taken))
 
 returns-2 : tie.Need-returns-2
 unfolding mergeInto
-returns-2 c = simp (eq-eqb _ 1205 (c .before .before .if1 .left), ne-eqb _ 1205 (c .before .if2 .taken), c .wrong-call2 .ensures)
+returns-2 c = simp (eq-eqb _ 1205 (c .before .if1 .left), ne-eqb _ 1205 (c .if2 .taken))
 
 unpack-store-requires : tie.Need-unpack-store-requires
 unpack-store-requires c κs = search needs
@@ -51,9 +45,7 @@ pub lz-merge-spec : {M : Type 1} → statement M
 lz-merge-spec =
     tie.close
     (tie.spec
-    wrong-call-requires
     returns
-    wrong-call-requires-2
     returns-2
     unpack-store-requires
     unpack-store-requires-2

@@ -6,19 +6,13 @@ use borrow.Author.Needs.{needs}
 use Rattle.inserter.proofs.stores.lz_open.Statement.{statement}
 use Rattle.inserter.proofs.stores.lz_open.Tie as tie
 
-wrong-call-requires : tie.Need-wrong-call-requires
-wrong-call-requires c κs = search needs
-
 returns : tie.Need-returns
 unfolding openInto
-returns c = simp (ne-eqb _ 8 (c .before .if1 .taken), c .wrong-call .ensures)
-
-wrong-call-requires-2 : tie.Need-wrong-call-requires-2
-wrong-call-requires-2 c κs = search needs
+returns c = simp (ne-eqb _ 8 (c .if1 .taken))
 
 returns-2 : tie.Need-returns-2
 unfolding openInto
-returns-2 c = simp (eq-eqb _ 8 (c .before .before .if1 .left), ne-eqb _ 1205 (c .before .if2 .taken), c .wrong-call2 .ensures)
+returns-2 c = simp (eq-eqb _ 8 (c .before .if1 .left), ne-eqb _ 1205 (c .if2 .taken))
 
 unpack-name-requires : tie.Need-unpack-name-requires
 unpack-name-requires c κs = search needs
@@ -46,9 +40,7 @@ pub lz-open-spec : {M : Type 1} → statement M
 lz-open-spec =
     tie.close
     (tie.spec
-    wrong-call-requires
     returns
-    wrong-call-requires-2
     returns-2
     unpack-name-requires
     open-requires

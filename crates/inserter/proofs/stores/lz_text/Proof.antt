@@ -10,12 +10,9 @@ use borrow.Author.Needs.{needs}
 use Rattle.inserter.proofs.stores.lz_text.Statement.{statement}
 use Rattle.inserter.proofs.stores.lz_text.Tie as tie
 
-wrong-call-requires : tie.Need-wrong-call-requires
-wrong-call-requires c κs = search needs
-
 returns : tie.Need-returns
 unfolding textInto
-returns c = simp (ne-eqb _ 1205 (c .before .if1 .taken), c .wrong-call .ensures)
+returns c = simp (ne-eqb _ 1205 (c .if1 .taken))
 
 unpack-store-requires : tie.Need-unpack-store-requires
 unpack-store-requires c κs = search needs
@@ -64,7 +61,6 @@ pub lz-text-spec : {M : Type 1} → statement M
 lz-text-spec =
     tie.close
     (tie.spec
-    wrong-call-requires
     returns
     unpack-store-requires
     text-requires
