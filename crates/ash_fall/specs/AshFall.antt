@@ -1,11 +1,12 @@
 -- Category 9, ash fall: table 4.1.2-35 of document 001, and what its record holds. Its slots are places.
 use Prim.Native.Nat.{ℕ}
-use mathlib.Core.Bool.{false}
-use mathlib.Core.List.{List, [], _∷_, _++_, map}
+use mathlib.Core.Bool.{false, true}
+use mathlib.Core.List.{[], _∷_, _++_}
 use lib.ListN.{getD}
 use Rattle.ash_fall.specs.declared.Eruption.{Eruption}
-use Rattle.rows.specs.Values.{cut, timeFrom, timeValues}
+use Rattle.rows.specs.Values.{timeFrom, timeValues, Sides}
 use Rattle.rows.specs.Layout.{time, twoOrSeven, corrected, spare1, spare, row, within, Slots, Layout}
+use Rattle.rows.specs.Faults.{place}
 
 -- "Four slots from 83, 29 bits each: hour (3, 1-6), strength (3, 1-7), place"
 abbrev pub places : Slots
@@ -14,6 +15,7 @@ places = record {
   first = 83;
   bits = 29;
   rows = row 0 3 (within 1 6) ∷ row 3 3 (within 1 7) ∷ row 6 23 (within 110000 4799999) ∷ [];
+  parts = record { day = false; hour = true; minute = false; strength = true; place = true };
 }
 
 abbrev pub ashFall : Layout
@@ -23,15 +25,14 @@ ashFall = record {
   types = corrected;
   front = spare1 ∷ time 53 ++ row 69 2 (within 1 2) ∷ row 71 12 (within 101 4000) ∷ [];  -- warning type, volcano
   slots = places;
+  text = [];
   behind = row 199 15 spare ∷ [];
-  text = false;
 }
 
-abbrev pub eruptionFrom : List ℕ → Eruption
-eruptionFrom vs = record { time = timeFrom vs 1; warning = getD vs 4 0; volcano = getD vs 5 0 }
+-- what the values of the rows say
+abbrev pub eruptionFrom : Sides → Eruption
+eruptionFrom v = record { time = timeFrom (v .front) 1; warning = getD (v .front) 4 0; volcano = getD (v .front) 5 0 }
 
-abbrev pub eruptionOf : List ℕ → Eruption
-eruptionOf s = eruptionFrom (map (cut s) (ashFall .front))
-
-abbrev pub eruptionValues : Eruption → ℕ → List ℕ
-eruptionValues e unused = unused ∷ timeValues (e .time) ++ e .warning ∷ e .volcano ∷ []
+-- and the values of what they say, with those of the spares
+abbrev pub eruptionValues : Eruption → ℕ → ℕ → Sides
+eruptionValues e x y = record { front = x ∷ timeValues (e .time) ++ e .warning ∷ e .volcano ∷ []; behind = y ∷ [] }

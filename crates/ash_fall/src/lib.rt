@@ -1,17 +1,50 @@
-// Category 9, ash fall: the fields from bit 43 to bit 82. Its places are slots.
+// Category 9, ash fall: what stands from bit 43 to bit 213. Its places are slots.
 ghost use mathlib.Core.Path.{_≡_};
 ghost use mathlib.Core.List.{[]};
 ghost use Rattle.rows.specs.Runs.Questions.{_then_};
-ghost use Rattle.rows.specs.Runs.Verdict.{walk};
-ghost use Rattle.ash_fall.specs.AshFall.{ashFall, eruptionOf, eruptionValues};
+ghost use Rattle.rows.specs.Runs.Verdict.{walk, bodyVerdict};
+ghost use Rattle.ash_fall.specs.AshFall.{ashFall, eruptionValues, eruptionFrom, places};
+ghost use Rattle.rows.specs.Values.{fieldsIn, headValues, sidesAt, tableIn, sparesIn};
+ghost use Rattle.slots.specs.Slots.{slotsValues};
 
 pub mod meaning; // what a place says
+pub mod places; // its slots
 
+use crate::places::check_places;
+use rows::codes::is_corrected;
+use rows::codes::is_two_or_seven;
+use rows::common::Common;
+use rows::fields::Fields;
+use rows::fields::Spares;
+use rows::fields::Table;
 use rows::refusal::Verdict;
 use rows::time::Time;
+use slots::slot::Slot;
 
-// The widths of the fields, and of the spare in front of them.
-pub const WIDTHS: [u8; 6] = [10, 5, 5, 6, 2, 12];
+// What stands in its spares.
+pub fn spares(f: [u8; 32]) -> Spares
+    ensures { λ r. ⌜ r ≡ sparesIn f ashFall ⌝ }
+{
+    Spares {
+        front: bits::field64(f, 43, 10),
+        behind: bits::field64(f, 199, 15),
+    }
+}
+
+// What its table says in numbers.
+fn table() -> Table
+    ensures { λ r. ⌜ r ≡ tableIn ashFall ⌝ }
+{
+    Table {
+        code: 9,
+        count: 4,
+        first: 83,
+        bits: 29,
+        widths: [0, 3, 0, 3, 23],
+        text: false,
+        rest: 199,
+    }
+}
 
 pub struct Eruption {
     pub time: Time,
@@ -22,7 +55,7 @@ pub struct Eruption {
 impl Eruption {
     // The fields of a frame.
     pub fn of(f: [u8; 32]) -> Eruption
-        ensures { λ r. ⌜ r ≡ eruptionOf f ⌝ }
+        ensures { λ r. ⌜ r ≡ eruptionFrom (sidesAt f ashFall) ⌝ }
     {
         Eruption {
             time: Time::at(f, 53),
@@ -31,30 +64,69 @@ impl Eruption {
         }
     }
 
-    // Their ranges and the spare in front of them, behind what has been found.
-    pub fn check(self, found: Verdict, spare: u64) -> Verdict
-        ensures { λ r. ⌜ r ≡ found then walk [] (ashFall .front) (eruptionValues self spare) ⌝ }
+    // The rows in front of the places, behind what has been found.
+    fn front(self, found: Verdict, spare: u64) -> Verdict
+        ensures { λ r. ⌜ r ≡ found then walk [] (ashFall .front) (eruptionValues self spare 0 .front) ⌝ }
     {
         let time = self.time;
         found
             .spare(43, spare)
             .time(53, time)
-            .within(69, self.warning as u32, 1, 2)
-            .within(71, self.volcano as u32, 101, 4000)
+            .within(69, self.warning as u64, 1, 2)
+            .within(71, self.volcano as u64, 101, 4000)
     }
 
-    // Their values, in the order of the table, with that of the spare in front of them.
-    pub fn values(self, spare: u64) -> [u64; 6]
-        ensures { λ r. ⌜ r ≡ eruptionValues self spare ⌝ }
+    // All rules from bit 8 to bit 213, behind what has been found. The spares are not in the record.
+    pub fn check(
+        self,
+        found: Verdict,
+        c: Common,
+        slots: [Slot; 16],
+        spare1: u64,
+        spare2: u64,
+    ) -> Verdict
+        ensures { λ r. ⌜ r ≡ found then bodyVerdict ashFall (headValues c 9) (eruptionValues self spare1 spare2) (slotsValues places slots) ⌝ }
+    {
+        let head = found.common(c, is_two_or_seven(c.rc), is_corrected(c.it));
+        let front = self.front(head, spare1);
+        check_places(front, slots).spare(199, spare2)
+    }
+
+    // The rows in front of the places and behind them as numbers, in the order of the table.
+    pub fn fields(self, spare1: u64, spare2: u64) -> Fields
+        ensures { λ r. ⌜ r ≡ fieldsIn ashFall (eruptionValues self spare1 spare2) ⌝ }
     {
         let time = self.time;
-        [
-            spare,
-            time.day as u64,
-            time.hour as u64,
-            time.minute as u64,
-            self.warning as u64,
-            self.volcano as u64,
-        ]
+        let day = time.day as u64;
+        let hour = time.hour as u64;
+        let minute = time.minute as u64;
+        let warning = self.warning as u64;
+        let volcano = self.volcano as u64;
+        Fields {
+            table: table(),
+            ahead: [10, 5, 5, 6, 2, 12, 0, 0, 0, 0, 0, 0, 0, 0, 0, 0, 0, 0],
+            front: [
+                spare1,
+                day,
+                hour,
+                minute,
+                warning,
+                volcano,
+                0,
+                0,
+                0,
+                0,
+                0,
+                0,
+                0,
+                0,
+                0,
+                0,
+                0,
+                0,
+            ],
+            after: [15, 0, 0],
+            behind: [spare2, 0, 0],
+        }
     }
 }

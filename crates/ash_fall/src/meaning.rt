@@ -10,7 +10,7 @@ pub enum Prefecture {
 
 impl Prefecture {
     // The prefecture that a place of an ash fall report lies in.
-    pub fn of(place: u32) -> Prefecture
+    pub fn of(place: u64) -> Prefecture
         ensures { λ r. ⌜ r ≡ prefectureOf place ⌝ }
     {
         match place {

@@ -8,7 +8,7 @@ use Rattle.rows.specs.declared.refusal.Refusal.the-variants.{Range, Spare}
 use Rattle.hypocenter.specs.declared.Quake.{Quake}
 use Rattle.rows.specs.Runs.Questions.{_then_, unless}
 use Rattle.rows.specs.Layout.{_to_, time}
-use Rattle.hypocenter.specs.Hypocenter.{angle, depth, magnitude, hypocenter, angleValues, quakeValues}
+use Rattle.hypocenter.specs.Hypocenter.{angle, hypocenter, angleValues, quakeValues}
 use Rattle.rows.specs.Runs.Verdict.{allowed, judge, walk}
 use Rattle.rows.specs.Values.{timeValues}
 use Rattle.rows.proofs.Rules.Outcomes.{then-assoc, fine-then}
@@ -16,7 +16,7 @@ use Rattle.rows.proofs.Rules.Spans.{allowed-one}
 
 -- category 2
 pub quake-walk : (q : Quake) (x : ℕ)
-    → walk [] (hypocenter .front) (quakeValues q x)
+    → walk [] (hypocenter .front) (quakeValues q x 0 .front)
     ≡ unless (eqb x 0) (Spare 43)
     then unless (allowed (0 to 0 ∷ 101 to 500 ∷ []) (q .notification1)) (Range 53)
     then unless (allowed (0 to 0 ∷ 101 to 500 ∷ []) (q .notification2)) (Range 62)

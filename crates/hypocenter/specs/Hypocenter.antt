@@ -1,7 +1,7 @@
 -- Category 2, hypocenter: table 4.1.2-12 of document 001, what its record holds and what its numbers say.
 use Prim.Native.Nat.{ℕ, _+_}
-use mathlib.Core.Bool.{false, _&&_, cond}
-use mathlib.Core.List.{List, [], _∷_, _++_, map}
+use mathlib.Core.Bool.{_&&_, cond}
+use mathlib.Core.List.{List, [], _∷_, _++_}
 use lib.Dec.{eqb, leb}
 use lib.ListN.{getD}
 use Rattle.hypocenter.specs.declared.angle.Angle.{Angle}
@@ -10,8 +10,8 @@ use Rattle.rows.specs.Layout.{_to_, time, within, among, spare, twoOrSeven, unc
 use Rattle.hypocenter.specs.declared.meaning.Depth.{Depth}
 use Rattle.hypocenter.specs.declared.meaning.Depth.the-variants.{Kilometres, Deeper, Unknown, OutOfRange}
 use Rattle.hypocenter.specs.declared.meaning.Magnitude.{Magnitude}
+use Rattle.rows.specs.Values.{timeFrom, timeValues, Sides}
 use Rattle.hypocenter.specs.declared.meaning.Magnitude.the-variants.{InRange, UnknownAboveEight, Unknown as NoMagnitude, OutOfRange as NotAMagnitude}
-use Rattle.rows.specs.Values.{cut, timeFrom, timeValues}
 
 abbrev pub notification : Rule
 notification = among (0 to 0 ∷ 101 to 500 ∷ [])
@@ -44,49 +44,49 @@ hypocenter = record {
       ∷ angle 122 7 89  -- latitude
       ++ angle 142 8 179;  -- longitude
   slots = noSlots;
+  text = [];
   behind = row 163 51 spare ∷ [];
-  text = false;
 }
 
--- ---- what the values of the rows in front say
+-- ---- what the values of the rows say
 
 abbrev pub angleFrom : List ℕ → ℕ → Angle
 angleFrom vs i = record { side = getD vs i 0; degrees = getD vs (i + 1) 0; minutes = getD vs (i + 2) 0; seconds = getD vs (i + 3) 0 }
 
-abbrev pub quakeFrom : List ℕ → Quake
-quakeFrom vs = record {
-  notification1 = getD vs 1 0;
-  notification2 = getD vs 2 0;
-  notification3 = getD vs 3 0;
-  time = timeFrom vs 4;
-  depth = getD vs 7 0;
-  magnitude = getD vs 8 0;
-  epicenter = getD vs 9 0;
-  latitude = angleFrom vs 10;
-  longitude = angleFrom vs 14;
+abbrev pub quakeFrom : Sides → Quake
+quakeFrom v = record {
+  notification1 = getD (v .front) 1 0;
+  notification2 = getD (v .front) 2 0;
+  notification3 = getD (v .front) 3 0;
+  time = timeFrom (v .front) 4;
+  depth = getD (v .front) 7 0;
+  magnitude = getD (v .front) 8 0;
+  epicenter = getD (v .front) 9 0;
+  latitude = angleFrom (v .front) 10;
+  longitude = angleFrom (v .front) 14;
 }
-
-abbrev pub quakeOf : List ℕ → Quake
-quakeOf s = quakeFrom (map (cut s) (hypocenter .front))
 
 -- ---- and the values of what they say
 
 abbrev pub angleValues : Angle → List ℕ
 angleValues a = a .side ∷ a .degrees ∷ a .minutes ∷ a .seconds ∷ []
 
--- with that of the spare, which is not in it
-abbrev pub quakeValues : Quake → ℕ → List ℕ
-quakeValues q unused =
-    unused
-    ∷ q .notification1
-    ∷ q .notification2
-    ∷ q .notification3
-    ∷ timeValues (q .time)
-    ++ q .depth
-    ∷ q .magnitude
-    ∷ q .epicenter
-    ∷ angleValues (q .latitude)
-    ++ angleValues (q .longitude)
+-- with those of the spares, which are not in it
+abbrev pub quakeValues : Quake → ℕ → ℕ → Sides
+quakeValues q x y = record {
+  front =
+      x
+      ∷ q .notification1
+      ∷ q .notification2
+      ∷ q .notification3
+      ∷ timeValues (q .time)
+      ++ q .depth
+      ∷ q .magnitude
+      ∷ q .epicenter
+      ∷ angleValues (q .latitude)
+      ++ angleValues (q .longitude);
+  behind = y ∷ [];
+}
 
 -- "Depth 0 is a depth; 511 is unknown and 501 means deeper than 500 km"
 unfoldable pub depthOf : ℕ → Depth

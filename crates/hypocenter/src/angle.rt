@@ -30,14 +30,14 @@ impl Angle {
         }
     }
 
-    pub(crate) fn check(self, found: Verdict, at: u8, width: u8, most: u32) -> Verdict
+    pub(crate) fn check(self, found: Verdict, at: u8, width: u8, most: u64) -> Verdict
         requires { ⌜ (at ≤ 200) × (width ≤ 8) ⌝ }
         ensures { λ r. ⌜ r ≡ found then walk [] (angle at width most) (angleValues self) ⌝ }
     {
         found
-            .within(at, self.side as u32, 0, 1)
-            .within(at + 1, self.degrees as u32, 0, most)
-            .within(at + 1 + width, self.minutes as u32, 0, 59)
-            .within(at + 7 + width, self.seconds as u32, 0, 59)
+            .within(at, self.side as u64, 0, 1)
+            .within(at + 1, self.degrees as u64, 0, most)
+            .within(at + 1 + width, self.minutes as u64, 0, 59)
+            .within(at + 7 + width, self.seconds as u64, 0, 59)
     }
 }

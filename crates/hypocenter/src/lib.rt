@@ -1,9 +1,10 @@
-// Category 2, hypocenter: the fields from bit 43 to bit 162.
+// Category 2, hypocenter: what stands from bit 43 to bit 213.
 ghost use mathlib.Core.Path.{_≡_};
 ghost use mathlib.Core.List.{[]};
 ghost use Rattle.rows.specs.Runs.Questions.{_then_};
-ghost use Rattle.rows.specs.Runs.Verdict.{walk};
-ghost use Rattle.hypocenter.specs.Hypocenter.{hypocenter, quakeOf, quakeValues};
+ghost use Rattle.rows.specs.Runs.Verdict.{walk, bodyVerdict};
+ghost use Rattle.hypocenter.specs.Hypocenter.{hypocenter, quakeValues, quakeFrom};
+ghost use Rattle.rows.specs.Values.{fieldsIn, headValues, sidesAt, tableIn, sparesIn};
 
 pub mod meaning; // what the numbers say
 mod codes; // which values a field may hold
@@ -13,11 +14,39 @@ use crate::angle::Angle;
 use crate::codes::is_depth;
 use crate::codes::is_magnitude;
 use crate::codes::is_notification;
+use rows::codes::is_two_or_seven;
+use rows::codes::is_uncorrected;
+use rows::common::Common;
+use rows::fields::Fields;
+use rows::fields::Spares;
+use rows::fields::Table;
 use rows::refusal::Verdict;
 use rows::time::Time;
 
-// The widths of the fields, and of the spare in front of them.
-pub const WIDTHS: [u8; 18] = [10, 9, 9, 9, 5, 5, 6, 9, 7, 10, 1, 7, 6, 6, 1, 8, 6, 6];
+// What stands in its spares.
+pub fn spares(f: [u8; 32]) -> Spares
+    ensures { λ r. ⌜ r ≡ sparesIn f hypocenter ⌝ }
+{
+    Spares {
+        front: bits::field64(f, 43, 10),
+        behind: bits::field64(f, 163, 51),
+    }
+}
+
+// What its table says in numbers.
+fn table() -> Table
+    ensures { λ r. ⌜ r ≡ tableIn hypocenter ⌝ }
+{
+    Table {
+        code: 2,
+        count: 0,
+        first: 0,
+        bits: 0,
+        widths: [0, 0, 0, 0, 0],
+        text: false,
+        rest: 163,
+    }
+}
 
 // What its depth and its magnitude say is told by `Depth::of` and `Magnitude::of`.
 pub struct Quake {
@@ -35,7 +64,7 @@ pub struct Quake {
 impl Quake {
     // The fields of a frame.
     pub fn of(f: [u8; 32]) -> Quake
-        ensures { λ r. ⌜ r ≡ quakeOf f ⌝ }
+        ensures { λ r. ⌜ r ≡ quakeFrom (sidesAt f hypocenter) ⌝ }
     {
         Quake {
             notification1: bits::field16(f, 53, 9),
@@ -50,9 +79,9 @@ impl Quake {
         }
     }
 
-    // Their ranges and the spare in front of them, behind what has been found.
-    pub fn check(self, found: Verdict, spare: u64) -> Verdict
-        ensures { λ r. ⌜ r ≡ found then walk [] (hypocenter .front) (quakeValues self spare) ⌝ }
+    // The rows in front, behind what has been found.
+    fn front(self, found: Verdict, spare: u64) -> Verdict
+        ensures { λ r. ⌜ r ≡ found then walk [] (hypocenter .front) (quakeValues self spare 0 .front) ⌝ }
     {
         let time = self.time;
         let latitude = self.latitude;
@@ -65,13 +94,21 @@ impl Quake {
             .time(80, time)
             .ranged(96, is_depth(self.depth))
             .ranged(105, is_magnitude(self.magnitude))
-            .within(112, self.epicenter as u32, 11, 1000);
+            .within(112, self.epicenter as u64, 11, 1000);
         longitude.check(latitude.check(front, 122, 7, 89), 142, 8, 179)
     }
 
-    // Their values, in the order of the table, with that of the spare in front of them.
-    pub fn values(self, spare: u64) -> [u64; 18]
-        ensures { λ r. ⌜ r ≡ quakeValues self spare ⌝ }
+    // All rules from bit 8 to bit 213, behind what has been found. The spares are not in the record.
+    pub fn check(self, found: Verdict, c: Common, spare1: u64, spare2: u64) -> Verdict
+        ensures { λ r. ⌜ r ≡ found then bodyVerdict hypocenter (headValues c 2) (quakeValues self spare1 spare2) [] ⌝ }
+    {
+        let head = found.common(c, is_two_or_seven(c.rc), is_uncorrected(c.it));
+        self.front(head, spare1).spare(163, spare2)
+    }
+
+    // The rows in front as numbers, in the order of the table.
+    fn values(self, spare: u64) -> [u64; 18]
+        ensures { λ r. ⌜ r ≡ quakeValues self spare 0 .front ⌝ }
     {
         let time = self.time;
         let latitude = self.latitude;
@@ -96,5 +133,19 @@ impl Quake {
             longitude.minutes as u64,
             longitude.seconds as u64,
         ]
+    }
+
+    // The same with the row behind, and the widths of all.
+    pub fn fields(self, spare1: u64, spare2: u64) -> Fields
+        ensures { λ r. ⌜ r ≡ fieldsIn hypocenter (quakeValues self spare1 spare2) ⌝ }
+    {
+        let front = self.values(spare1);
+        Fields {
+            table: table(),
+            ahead: [10, 9, 9, 9, 5, 5, 6, 9, 7, 10, 1, 7, 6, 6, 1, 8, 6, 6],
+            front: front,
+            after: [51, 0, 0],
+            behind: [spare2, 0, 0],
+        }
     }
 }

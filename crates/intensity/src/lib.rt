@@ -1,14 +1,49 @@
-// Category 3, seismic intensity: the fields from bit 43 to bit 68. The prefectures that shake are slots.
+// Category 3, seismic intensity: what stands from bit 43 to bit 213. The prefectures that shake are slots.
 ghost use mathlib.Core.Path.{_≡_};
 ghost use mathlib.Core.List.{[]};
 ghost use Rattle.rows.specs.Runs.Questions.{_then_};
-ghost use Rattle.rows.specs.Runs.Verdict.{walk};
-ghost use Rattle.intensity.specs.Intensity.{intensity, shakingOf, shakingValues};
+ghost use Rattle.rows.specs.Runs.Verdict.{walk, bodyVerdict};
+ghost use Rattle.intensity.specs.Intensity.{intensity, shakingValues, prefectures, shakingFrom};
+ghost use Rattle.rows.specs.Values.{fieldsIn, headValues, sidesAt, tableIn, sparesIn};
+ghost use Rattle.slots.specs.Slots.{slotsValues};
+
+pub mod prefectures; // its slots
+
+use crate::prefectures::check_prefectures;
+use rows::codes::is_two_or_seven;
+use rows::codes::is_uncorrected;
+use rows::common::Common;
+use rows::fields::Fields;
+use rows::fields::Spares;
+use rows::fields::Table;
 use rows::refusal::Verdict;
 use rows::time::Time;
+use slots::slot::Slot;
 
-// The widths of the fields, and of the spare in front of them.
-pub const WIDTHS: [u8; 4] = [10, 5, 5, 6];
+// What stands in its spares.
+pub fn spares(f: [u8; 32]) -> Spares
+    ensures { λ r. ⌜ r ≡ sparesIn f intensity ⌝ }
+{
+    Spares {
+        front: bits::field64(f, 43, 10),
+        behind: bits::field64(f, 213, 1),
+    }
+}
+
+// What its table says in numbers.
+fn table() -> Table
+    ensures { λ r. ⌜ r ≡ tableIn intensity ⌝ }
+{
+    Table {
+        code: 3,
+        count: 16,
+        first: 69,
+        bits: 9,
+        widths: [0, 0, 0, 3, 6],
+        text: false,
+        rest: 213,
+    }
+}
 
 pub struct Shaking {
     pub time: Time,
@@ -17,26 +52,70 @@ pub struct Shaking {
 impl Shaking {
     // The fields of a frame.
     pub fn of(f: [u8; 32]) -> Shaking
-        ensures { λ r. ⌜ r ≡ shakingOf f ⌝ }
+        ensures { λ r. ⌜ r ≡ shakingFrom (sidesAt f intensity) ⌝ }
     {
         Shaking {
             time: Time::at(f, 53),
         }
     }
 
-    // Their ranges and the spare in front of them, behind what has been found.
-    pub fn check(self, found: Verdict, spare: u64) -> Verdict
-        ensures { λ r. ⌜ r ≡ found then walk [] (intensity .front) (shakingValues self spare) ⌝ }
+    // The rows in front of the prefectures, behind what has been found.
+    fn front(self, found: Verdict, spare: u64) -> Verdict
+        ensures { λ r. ⌜ r ≡ found then walk [] (intensity .front) (shakingValues self spare 0 .front) ⌝ }
     {
         let time = self.time;
         found.spare(43, spare).time(53, time)
     }
 
-    // Their values, in the order of the table, with that of the spare in front of them.
-    pub fn values(self, spare: u64) -> [u64; 4]
-        ensures { λ r. ⌜ r ≡ shakingValues self spare ⌝ }
+    // All rules from bit 8 to bit 213, behind what has been found. The spares are not in the record.
+    pub fn check(
+        self,
+        found: Verdict,
+        c: Common,
+        slots: [Slot; 16],
+        spare1: u64,
+        spare2: u64,
+    ) -> Verdict
+        ensures { λ r. ⌜ r ≡ found then bodyVerdict intensity (headValues c 3) (shakingValues self spare1 spare2) (slotsValues prefectures slots) ⌝ }
+    {
+        let head = found.common(c, is_two_or_seven(c.rc), is_uncorrected(c.it));
+        let front = self.front(head, spare1);
+        check_prefectures(front, slots).spare(213, spare2)
+    }
+
+    // The rows in front of the prefectures and behind them as numbers, in the order of the table.
+    pub fn fields(self, spare1: u64, spare2: u64) -> Fields
+        ensures { λ r. ⌜ r ≡ fieldsIn intensity (shakingValues self spare1 spare2) ⌝ }
     {
         let time = self.time;
-        [spare, time.day as u64, time.hour as u64, time.minute as u64]
+        let day = time.day as u64;
+        let hour = time.hour as u64;
+        let minute = time.minute as u64;
+        Fields {
+            table: table(),
+            ahead: [10, 5, 5, 6, 0, 0, 0, 0, 0, 0, 0, 0, 0, 0, 0, 0, 0, 0],
+            front: [
+                spare1,
+                day,
+                hour,
+                minute,
+                0,
+                0,
+                0,
+                0,
+                0,
+                0,
+                0,
+                0,
+                0,
+                0,
+                0,
+                0,
+                0,
+                0,
+            ],
+            after: [1, 0, 0],
+            behind: [spare2, 0, 0],
+        }
     }
 }

@@ -1,4 +1,4 @@
--- Bytes laid on a frame one behind the other, and the fields of a page.
+-- Bytes laid on a frame one behind the other.
 use mathlib.Core.Path.{_≡_, refl, sym, ap, ap₂, _∙_}
 use Prim.Native.Nat.{ℕ, zero, suc, _+_, _*_, _≤_, _<_}
 use native.Mathlib.Numerals.{add-one}
@@ -9,8 +9,6 @@ use lib.Seq.{take-suc}
 use Rattle.bits.specs.Layout.{total}
 use Rattle.bits.specs.Frame.{placed, laid}
 use Rattle.bits.proofs.Laid.{laid-append}
-use Rattle.nankai.specs.Nankai.{nankai}
-use Rattle.rows.specs.Values.{widths}
 
 total-eights : (k : ℕ) → total (replicate k 8) ≡ 8 * k
 total-eights zero = refl
@@ -33,8 +31,3 @@ byte-more f t a k at h e =
     ∙ sym (laid-append f (replicate k 8) (take k t) (8 ∷ []) (getD t k 0 ∷ []) a (length-eights k t (omega arith)))
     ∙ ap₂ (laid f a) (sym (eights-more k)) (sym (take-suc t k 0 h))
     ∙ ap (λ (n : ℕ). laid f a (replicate n 8) (take n t)) (sym (add-one k))
-
-pub page-laid : (f text : List ℕ) (x y z : ℕ) → length text ≡ 18
-    → placed (placed (laid (placed (placed f 43 10 0) 53 4 x) 57 (replicate 18 8) text) 201 6 y) 207 6 z
-    ≡ laid f 43 (widths (nankai .front)) (0 ∷ x ∷ text ++ y ∷ z ∷ [])
-page-laid f text x y z l = sym (laid-append (placed (placed f 43 10 0) 53 4 x) (replicate 18 8) text (6 ∷ 6 ∷ []) (y ∷ z ∷ []) 57 (sym l))

@@ -2,13 +2,43 @@
 // the pages of a bulletin is for the crates above.
 ghost use mathlib.Core.Path.{_≡_};
 ghost use mathlib.Core.List.{[]};
-ghost use lib.ListN.{replicate};
 ghost use Rattle.bits.specs.Frame.{laid};
-ghost use Rattle.rows.specs.Values.{widths};
+ghost use Rattle.rows.specs.Values.{widths, fieldsIn, headValues, sidesAt, tableIn, sparesIn};
 ghost use Rattle.rows.specs.Runs.Questions.{_then_};
-ghost use Rattle.rows.specs.Runs.Verdict.{walk};
-ghost use Rattle.nankai.specs.Nankai.{nankai, numbered, numbersOf, pageText, numberValues, pageValues};
+ghost use Rattle.rows.specs.Runs.Verdict.{bodyVerdict};
+ghost use Rattle.nankai.specs.Nankai.{nankai, pageText, numberValues, numbersFrom};
+use rows::codes::is_two_or_seven;
+use rows::codes::is_uncorrected;
+use rows::common::Common;
+use rows::fields::Fields;
+use rows::fields::Spares;
+use rows::fields::Table;
 use rows::refusal::Verdict;
+
+// What stands in its spares.
+pub fn spares(f: [u8; 32]) -> Spares
+    ensures { λ r. ⌜ r ≡ sparesIn f nankai ⌝ }
+{
+    Spares {
+        front: bits::field64(f, 43, 10),
+        behind: bits::field64(f, 213, 1),
+    }
+}
+
+// What its table says in numbers.
+fn table() -> Table
+    ensures { λ r. ⌜ r ≡ tableIn nankai ⌝ }
+{
+    Table {
+        code: 4,
+        count: 0,
+        first: 0,
+        bits: 0,
+        widths: [0, 0, 0, 0, 0],
+        text: true,
+        rest: 201,
+    }
+}
 
 // The kind of information (Is), and which page of how many this is. The text stands beside it.
 pub struct PageNumbers {
@@ -20,7 +50,7 @@ pub struct PageNumbers {
 impl PageNumbers {
     // The fields of a frame, less its text.
     pub fn of(f: [u8; 32]) -> PageNumbers
-        ensures { λ r. ⌜ r ≡ numbersOf f ⌝ }
+        ensures { λ r. ⌜ r ≡ numbersFrom (sidesAt f nankai) ⌝ }
     {
         PageNumbers {
             serial: bits::field8(f, 53, 4),
@@ -29,31 +59,59 @@ impl PageNumbers {
         }
     }
 
-    // Their ranges and the spare in front of them, behind what has been found. Of the text nothing is asked: any byte passes.
-    pub fn check(self, found: Verdict, spare: u64) -> Verdict
-        ensures { λ r. ⌜ r ≡ found then walk [] numbered (numberValues self spare) ⌝ }
+    // All rules from bit 8 to bit 213, behind what has been found. The spares are not in the record, and of the
+    // text nothing is asked: any byte passes.
+    pub fn check(self, found: Verdict, c: Common, spare1: u64, spare2: u64) -> Verdict
+        ensures { λ r. ⌜ r ≡ found then bodyVerdict nankai (headValues c 4) (numberValues self spare1 spare2) [] ⌝ }
     {
         found
-            .spare(43, spare)
-            .within(53, self.serial as u32, 1, 15)
-            .within(201, self.number as u32, 1, 63)
-            .within(207, self.total as u32, self.number as u32, 63)
+            .common(c, is_two_or_seven(c.rc), is_uncorrected(c.it))
+            .spare(43, spare1)
+            .within(53, self.serial as u64, 1, 15)
+            .within(201, self.number as u64, 1, 63)
+            .within(207, self.total as u64, self.number as u64, 63)
+            .spare(213, spare2)
     }
 
-    // The frame with these fields, the text and a spare of zero laid on it.
-    pub fn lay(self, f: [u8; 32], text: [u8; 18]) -> [u8; 32]
-        ensures { λ r. ⌜ r ≡ laid f 43 (widths (nankai .front)) (pageValues self text 0) ⌝ }
+    // The rows in front of the text and behind it as numbers, in the order of the table.
+    pub fn fields(self, spare1: u64, spare2: u64) -> Fields
+        ensures { λ r. ⌜ r ≡ fieldsIn nankai (numberValues self spare1 spare2) ⌝ }
     {
-        let spare = bits::put(f, 43, 10, 0);
-        let serial = bits::put(spare, 53, 4, self.serial as u64);
-        let whole = lay_text(serial, text);
-        let number = bits::put(whole, 201, 6, self.number as u64);
-        bits::put(number, 207, 6, self.total as u64)
+        let serial = self.serial as u64;
+        let number = self.number as u64;
+        let total = self.total as u64;
+        Fields {
+            table: table(),
+            ahead: [10, 4, 0, 0, 0, 0, 0, 0, 0, 0, 0, 0, 0, 0, 0, 0, 0, 0],
+            front: [
+                spare1,
+                serial,
+                0,
+                0,
+                0,
+                0,
+                0,
+                0,
+                0,
+                0,
+                0,
+                0,
+                0,
+                0,
+                0,
+                0,
+                0,
+                0,
+            ],
+            after: [6, 6, 1],
+            behind: [number, total, spare2],
+        }
     }
 }
 
-fn lay_text(f: [u8; 32], text: [u8; 18]) -> [u8; 32]
-    ensures { λ r. ⌜ r ≡ laid f 57 (replicate 18 8) text ⌝ }
+// The frame with a page's text laid on it.
+pub fn lay_text(f: [u8; 32], text: [u8; 18]) -> [u8; 32]
+    ensures { λ r. ⌜ r ≡ laid f 57 (widths (nankai .text)) text ⌝ }
 {
     let mut next = f;
     let mut k = 0;

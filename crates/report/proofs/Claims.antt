@@ -10,38 +10,39 @@ use Rattle.rows.specs.declared.refusal.Verdict.{Verdict}
 use Rattle.rows.specs.declared.refusal.Verdict.the-variants.{Fine, Refused}
 use Rattle.rows.specs.declared.refusal.Refusal.{Refusal}
 use Rattle.rows.specs.declared.refusal.Refusal.the-variants.{Range, Gap}
-use Rattle.report.specs.declared.record.Body.{Body}
 use Rattle.report.specs.declared.record.Record.{Record}
 use Rattle.rows.specs.Refusals.{says, answers}
-use Rattle.report.specs.Layout.{layout}
 use Rattle.rows.specs.Layout.{allRows, tiles, allFit}
 use Rattle.report.specs.Records.{bodyOf, recordOf, zeros, values}
 use Rattle.rows.specs.Values.{valuesOf}
 use Rattle.rows.specs.Runs.Verdict.{empty}
-use Rattle.report.specs.Meaning.{slotsOfCategory, usedOf}
+use Rattle.report.specs.Meaning.{usedOf}
 use Rattle.report.specs.Runs.Reading.{readAnswer, reading, readOf}
 use Rattle.report.specs.Conforms.{Conforms}
 use Rattle.rows.specs.Faults.{Fault, Lowest}
 use Rattle.report.specs.Reasons.{readQuestions, WhyNotRead, WhyNotWritten}
 use Rattle.report.specs.Runs.Writing.{frame, written, writeAnswer, writeOf, Valid}
 use Rattle.report.specs.Rules.{KeepsRules}
-use Rattle.report.proofs.Tables.Tables.{layouts, all, tables-tile as tiled, rules-fit as fit}
 use Rattle.rows.proofs.Rules.Ordered.{Met}
 use Rattle.report.proofs.Reading.Frames.{layoutOf, frameValues, conforming-fine, fine-conforming, reason, faulty, faultless, no-gap}
 use Rattle.rows.proofs.Layouts.Lengths.{Filled, frame-filled}
-use Rattle.report.proofs.Tables.Lengths.{record-filled}
 use Rattle.slots.proofs.Used.{counted-used}
 use Rattle.report.proofs.Reading.Used.{others-empty}
 use Rattle.rows.proofs.Rules.Numbers.{says-apart}
 use Rattle.report.proofs.Reading.ReadNumbers.{read-ten, refused-zeros}
 use Rattle.report.proofs.PaperValues.{found, expected, paperValues, every-row}
-use Rattle.report.proofs.Tables.Shapes.{Shaped, frame-shaped}
-use Rattle.report.proofs.Writing.Validity.{recordLayout, recordValues, valid-keeps, keeps-valid, reason as write-reason}
-use Rattle.report.proofs.Writing.WriteReasons.{reserving, no-gap as write-no-gap, above-63}
 use Rattle.report.proofs.Writing.WriteNumbers.{writeNumbers, write-numbered}
 use Rattle.report.proofs.RoundTrips.ReadThenWritten.{valid-written, written-again}
 use Rattle.report.proofs.RoundTrips.WrittenThenRead.{returns, read-again}
 use Rattle.report.proofs.RoundTrips.OneToOne.{WrittenBy, frame-of-record, same-frame, same-record, conforming-written, written-bytes}
+use Rattle.report.specs.declared.body.Body.{Body}
+use Rattle.report.proofs.Shaped.{Shaped, frame-shaped, record-filled}
+use Rattle.report.proofs.Categories.{all, layouts}
+use Rattle.report.specs.Categories.{layout}
+use Rattle.slots.specs.Slots.{slotParts, slotsValues}
+use Rattle.report.proofs.Tables.{tables-tile as tiled, rules-fit as fit}
+use Rattle.report.proofs.Writing.Validity.{recordLayout, recordValues, valid-keeps, keeps-valid, reason as write-reason}
+use Rattle.report.proofs.Writing.WriteReasons.{reserving, no-gap as write-no-gap, above-63}
 
 -- ---- the tables
 
@@ -61,7 +62,7 @@ values-never-run-short s b = frame-filled s (layout b)
 -- .. and so has a record with "sixteen slots (hour, strength or intensity, place) and 18 text bytes".
 pub record-values-never-run-short : (r : Record) (x y : ℕ) → length (r .slots) ≡ 16 → length (r .text) ≡ 18
     → Filled (layout (r .body)) (values r x y)
-record-values-never-run-short r x y n m = record-filled r x y n m
+record-values-never-run-short r x y n m = record-filled r x y (record { slots = n; text = m })
 
 -- ---- reading
 
@@ -99,13 +100,13 @@ gap-before-fields s p e f = no-gap s p e f
 -- ---- slots
 
 -- Not "an empty slot named by the first row of a table": each slot that is counted has something in it, in any record.
-pub counted-slots-are-used : (r : Record) (i : ℕ) → i < usedOf r → empty (getD (slotsOfCategory r) i []) ≡ false
+pub counted-slots-are-used : (r : Record) (i : ℕ) → i < usedOf r → empty (getD (map slotParts (r .slots)) i []) ≡ false
 unfolding usedOf
-counted-slots-are-used r i h = counted-used (slotsOfCategory r) i h
+counted-slots-are-used r i h = counted-used (map slotParts (r .slots)) i h
 
 -- "After an empty slot every slot is empty": in a frame that is read, none behind the counted ones has.
 pub other-slots-are-empty : (s : List ℕ) → Conforms s → (i : ℕ) → usedOf (recordOf s) ≤ i → i < layoutOf s .slots .count
-    → empty (getD (slotsOfCategory (recordOf s)) i []) ≡ true
+    → empty (getD (slotsValues (layoutOf s .slots) (recordOf s .slots)) i []) ≡ true
 other-slots-are-empty s c i u l = others-empty s c i u l
 
 -- ---- numbers

@@ -1,6 +1,9 @@
-pub mod Claims
-pub mod PaperValues
-pub mod Reading
-pub mod RoundTrips
+pub mod Categories
 pub mod Tables
+pub mod Texts
+pub mod Shaped
+pub mod Reading
 pub mod Writing
+pub mod RoundTrips
+pub mod PaperValues
+pub mod Claims

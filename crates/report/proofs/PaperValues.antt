@@ -7,21 +7,20 @@ use lib.ListN.{replicate}
 use Rattle.bits.specs.Layout.{encode}
 use Rattle.rows.specs.declared.time.Time.{Time}
 use Rattle.hypocenter.specs.declared.angle.Angle.{Angle}
-use Rattle.report.specs.declared.record.Body.{Body}
-use Rattle.report.specs.declared.record.Body.the-variants.{Hypocenter, Intensity, Nankai}
 use Rattle.slots.specs.declared.slot.Slot.{Slot}
-use Rattle.slots.specs.declared.kind.SlotKind.the-variants.{Prefectures}
 use Rattle.ash_fall.specs.declared.meaning.Prefecture.{Prefecture}
 use Rattle.ash_fall.specs.declared.meaning.Prefecture.the-variants.{Number, Nowhere}
 use Rattle.ash_fall.specs.Meaning.{prefectureOf}
 use Rattle.rows.specs.declared.refusal.Said.{Said}
-use Rattle.rows.specs.Refusals.{plain, at, answers}
+use Rattle.rows.specs.Refusals.{at, plain, answers}
 use Rattle.rows.specs.Runs.Questions.{_then_, unless}
 use Rattle.rows.specs.Layout.{Row}
-use Rattle.report.specs.Layout.{layout}
 use Rattle.rows.specs.Runs.Verdict.{allowed, judge, walk, empty, later, slotsVerdict, verdict}
 use Rattle.slots.specs.Slots.{noSlot, slotValues}
-use Rattle.report.specs.Records.{bodyValues, values}
+use Rattle.report.specs.Records.{values}
+use Rattle.report.specs.declared.body.Body.{Body}
+use Rattle.report.specs.declared.body.Body.the-variants.{Hypocenter, Intensity, Nankai}
+use Rattle.report.specs.Categories.{layout}
 
 -- ---- samples
 
@@ -79,14 +78,14 @@ longitudeDegrees n = quake 101 10 50 100 n
 
 -- a slot of category 3
 abbrev pub slot : ℕ → ℕ → Slot
-slot intensity prefecture = record { hour = 0; strength = intensity; place = prefecture }
+slot intensity prefecture = record { day = 0; hour = 0; minute = 0; strength = intensity; place = prefecture }
 
 abbrev pub secondSlot : Slot → Outcome
 secondSlot s = said (judged (Intensity (record { time = sampleTime })) (slot 4 44 ∷ s ∷ []))
 
 -- the nine bits of a slot of category 3 as one number, in the widths of the table
 abbrev pub slotValue : Slot → Outcome
-slotValue s = number (encode (map (λ (r : Row). r .width) (prefectures .rows)) (slotValues Prefectures s))
+slotValue s = number (encode (map (λ (r : Row). r .width) (prefectures .rows)) (slotValues prefectures s))
 
 -- "A place divided by 100000, remainder dropped, is its prefecture"
 abbrev pub numbered : Prefecture → Outcome
@@ -144,5 +143,5 @@ abbrev pub expected : Value → Outcome
 expected (a gives b) = b
 
 pub every-row : map found paperValues ≡ map expected paperValues
-unfolding _then_ unless allowed judge walk empty later slotsVerdict verdict bodyValues values prefectureOf
+unfolding _then_ unless allowed judge walk empty later slotsVerdict verdict values prefectureOf
 every-row = refl

@@ -1,4 +1,3 @@
 pub mod OneToOne
-pub mod Parts
 pub mod ReadThenWritten
 pub mod WrittenThenRead

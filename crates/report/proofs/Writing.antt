@@ -1,9 +1,8 @@
 pub mod Blank
-pub mod Encoding
 pub mod Ends
-pub mod Laying
 pub mod Unused
 pub mod Validity
 pub mod WriteNumbers
 pub mod WriteReasons
 pub mod WriteSteps
+pub mod Encoding

@@ -5,10 +5,10 @@ use mathlib.Core.List.{List}
 use lib.ListN.{length}
 use Rattle.bits.specs.Frame.{fieldOf}
 use Rattle.parity.specs.Parity.{parityOf}
-use Rattle.report.specs.Layout.{layout, preambles, categories}
 use Rattle.report.specs.Records.{bodyOf}
 use Rattle.rows.specs.Values.{valuesOf}
 use Rattle.rows.specs.Kept.{Holds, In}
+use Rattle.report.specs.Categories.{categories, layout, preambles}
 
 pub record Conforms (s : List ℕ) : Type 0 where
   pub long : length s ≡ 32

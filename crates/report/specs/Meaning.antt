@@ -1,13 +1,8 @@
--- What the numbers of a record say (document 01, "Silence in a slot" and "The frame on the wire").
-use Prim.Native.Nat.{ℕ}
-use mathlib.Core.List.{List}
+-- What the numbers of a record say (document 01, "Silence in a slot").
 use Rattle.report.specs.declared.record.Record.{Record}
-use Rattle.slots.specs.Slots.{usedAmong}
-use Rattle.report.specs.Records.{slotsValues}
-
--- the values of the slots that the category of a record has
-abbrev pub slotsOfCategory : Record → List (List ℕ)
-slotsOfCategory r = slotsValues (r .body) (r .slots)
+use mathlib.Core.List.{map}
+use Rattle.slots.specs.Slots.{slotParts, usedAmong}
+use Prim.Native.Nat.{ℕ}
 
 unfoldable pub usedOf : Record → ℕ
-usedOf r = usedAmong (slotsOfCategory r)
+usedOf r = usedAmong (map slotParts (r .slots))

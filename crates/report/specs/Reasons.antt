@@ -7,14 +7,14 @@ use Rattle.bits.specs.Frame.{fieldOf}
 use Rattle.parity.specs.Parity.{parityOf}
 use Rattle.rows.specs.declared.refusal.Refusal.{Refusal}
 use Rattle.rows.specs.declared.refusal.Refusal.the-variants.{Length, Padding, Preamble, Parity, Message, Version, Category, Unused}
-use Rattle.report.specs.declared.record.Body.the-variants.{NoCategory}
 use Rattle.report.specs.declared.record.Record.{Record}
-use Rattle.report.specs.Layout.{layout, preambles, categories}
 use Rattle.report.specs.Records.{bodyOf, values}
 use Rattle.rows.specs.Values.{valuesOf}
 use Rattle.rows.specs.Kept.{In}
 use Rattle.rows.specs.Faults.{Lowest, _or_, First, Question}
 use Rattle.report.specs.Rules.{Tidy}
+use Rattle.report.specs.declared.body.Body.the-variants.{NoCategory}
+use Rattle.report.specs.Categories.{categories, layout, preambles}
 
 -- ---- the order of 1 to 7
 

@@ -1,27 +1,27 @@
 // A record as bits: fields laid one behind the other on a frame of zeros, and the parity behind them.
 // Nothing is refused here; what may be written is asked before.
 ghost use mathlib.Core.Path.{_≡_};
-ghost use mathlib.Core.Bool.{true};
-ghost use mathlib.Core.List.{_++_};
-ghost use Rattle.bits.specs.Frame.{laid, bytesOf};
-ghost use Rattle.report.specs.Layout.{layout, firstBit};
-ghost use Rattle.rows.specs.Layout.{common, ending};
-ghost use Rattle.report.specs.Records.{headValues, bodyValues, behindValues};
-ghost use Rattle.rows.specs.Values.{lastValues, widths};
-ghost use Rattle.report.specs.Runs.Writing.{known, frontWidths, frontValues, frame, Valid};
-use crate::record::Body;
-use crate::record::Common;
+ghost use Rattle.report.specs.Runs.Writing.{Valid, bodyLaid, frame, frontValues, frontWidths, known};
+ghost use Rattle.bits.specs.Frame.{bytesOf, laid, laidIn};
+ghost use Rattle.rows.specs.Layout.{common, noCategory};
+ghost use mathlib.Core.Bool.{cond, true};
+ghost use Rattle.rows.specs.Values.{headValues, widths};
+ghost use Rattle.report.specs.Categories.{layout};
+ghost use Rattle.nankai.specs.Nankai.{nankai};
 use crate::record::Record;
+use nankai::lay_text;
+use rows::common::Common;
+use rows::fields::Fields;
 use slots::encode::lay_slots;
+use slots::slot::Slot;
 
 // Bits 8 to 42.
-fn lay_common(f: [u8; 32], c: Common, b: Body) -> [u8; 32]
-    ensures { λ r. ⌜ r ≡ laid f 8 (widths (common (layout b))) (headValues c (layout b .code)) ⌝ }
+fn lay_common(f: [u8; 32], c: Common, code: u8) -> [u8; 32]
+    ensures { λ r. ⌜ r ≡ laid f 8 (widths (common noCategory)) (headValues c code) ⌝ }
 {
-    let shape = b.shape();
     let message = bits::put(f, 8, 6, 43);
     let rc = bits::put(message, 14, 3, c.rc as u64);
-    let dc = bits::put(rc, 17, 4, shape.code as u64);
+    let dc = bits::put(rc, 17, 4, code as u64);
     let month = bits::put(dc, 21, 4, c.month as u64);
     let day = bits::put(month, 25, 5, c.day as u64);
     let hour = bits::put(day, 30, 5, c.hour as u64);
@@ -29,41 +29,43 @@ fn lay_common(f: [u8; 32], c: Common, b: Body) -> [u8; 32]
     bits::put(minute, 41, 2, c.it as u64)
 }
 
-// The rows in front of the slots, from bit 43 on, their values laid in their widths. The spare is zero.
-fn lay_body(f: [u8; 32], b: Body, text: [u8; 18]) -> [u8; 32]
-    ensures { λ r. ⌜ r ≡ laid f 43 (widths (layout b .front)) (bodyValues b text 0) ⌝ }
+// A text, where the category has one.
+fn lay_page(f: [u8; 32], has: bool, text: [u8; 18]) -> [u8; 32]
+    ensures { λ r. ⌜ r ≡ cond has (laid f 57 (widths (nankai .text)) text) f ⌝ }
 {
-    match b {
-        Body::NoCategory => bits::put(f, 43, 10, 0),
-        Body::Hypocenter(q) => {
-            let widths = hypocenter::WIDTHS;
-            let values = q.values(0);
-            bits::lay(f, 43, &widths, &values)
-        }
-        Body::Intensity(s) => {
-            let widths = intensity::WIDTHS;
-            let values = s.values(0);
-            bits::lay(f, 43, &widths, &values)
-        }
-        Body::Nankai(p) => p.lay(f, text),
-        Body::AshFall(e) => {
-            let widths = ash_fall::WIDTHS;
-            let values = e.values(0);
-            bits::lay(f, 43, &widths, &values)
-        }
+    if has {
+        return lay_text(f, text);
     }
+    f
 }
 
-// The spare behind the slots, the version and Reserved.
-fn lay_last(f: [u8; 32], b: Body, reserved: u8) -> [u8; 32]
-    requires { ⌜ known b ≡ true ⌝ }
-    ensures { λ r. ⌜ r ≡ laid f (firstBit (layout b .behind ++ ending)) (widths (layout b .behind ++ ending)) (behindValues (layout b) 0 ++ lastValues reserved) ⌝ }
+// The rows in front of the slots, and those behind them.
+fn lay_ahead(f: [u8; 32], widths: [u8; 18], values: [u64; 18]) -> [u8; 32]
+    ensures { λ r. ⌜ r ≡ laidIn f 43 widths values ⌝ }
 {
-    let shape = b.shape();
-    let first = shape.behind as usize;
-    let spare = bits::put(f, first, 214 - first, 0);
-    let version = bits::put(spare, 214, 6, 1);
-    bits::put(version, 220, 6, reserved as u64)
+    bits::lay(f, 43, &widths, &values)
+}
+
+fn lay_after(f: [u8; 32], first: u8, widths: [u8; 3], values: [u64; 3]) -> [u8; 32]
+    ensures { λ r. ⌜ r ≡ laidIn f first widths values ⌝ }
+{
+    bits::lay(f, first as usize, &widths, &values)
+}
+
+// Bits 43 to 213: the rows in front, the slots, the text, and the rows behind.
+fn lay_body(f: [u8; 32], fields: Fields, slots: [Slot; 16], text: [u8; 18]) -> [u8; 32]
+    ensures { λ r. ⌜ r ≡ bodyLaid f fields slots text ⌝ }
+{
+    let table = fields.table;
+    let ahead = fields.ahead;
+    let front = fields.front;
+    let after = fields.after;
+    let behind = fields.behind;
+    let start = lay_ahead(f, ahead, front);
+    let widths = table.widths;
+    let places = lay_slots(start, table.first, table.bits, table.count, widths, slots);
+    let page = lay_page(places, table.text, text);
+    lay_after(page, table.rest, after, behind)
 }
 
 // Bits 0 to 225 of a record.
@@ -75,13 +77,13 @@ fn lay_front(f: [u8; 32], r: Record) -> [u8; 32]
     let body = r.body;
     let slots = r.slots;
     let text = r.text;
+    let fields = body.fields(0, 0);
+    let table = fields.table;
     let preamble = bits::put(f, 0, 8, r.preamble as u64);
-    let head = lay_common(preamble, common, body);
-    let fields = lay_body(head, body, text);
-    let shape = body.shape();
-    let kind = shape.slots;
-    let places = lay_slots(fields, kind, slots);
-    lay_last(places, body, r.reserved)
+    let head = lay_common(preamble, common, table.code);
+    let inner = lay_body(head, fields, slots, text);
+    let version = bits::put(inner, 214, 6, 1);
+    bits::put(version, 220, 6, r.reserved as u64)
 }
 
 // The frame of a valid record: the parity is that of all bits before it.

@@ -1,11 +1,11 @@
 // DC Report frames of message type 43 in categories 2 (hypocenter), 3 (seismic intensity), 4 (Nankai
 // Trough) and 9 (ash fall): from lent bytes to a record or the one refusal that fits. Gathering the
 // pages of a bulletin and listing files is for the crates above.
+pub mod body; // what each category has
 pub mod record; // what a frame says
-pub mod decode; // bits as a record
-pub mod codes; // which values a field may hold
+mod codes; // which preambles and categories there are
 pub mod check; // the rules, on values
-pub mod tidy; // nothing stands where the category has nothing
-pub mod encode; // a record as bits
+mod tidy; // nothing stands where the category has nothing
+mod encode; // a record as bits
 pub mod read; // from a lent frame to a record
 pub mod write; // from a record to a lent frame

@@ -2,11 +2,13 @@
 ghost use mathlib.Core.Path.{_≡_};
 ghost use Rattle.report.specs.Records.{recordOf};
 ghost use Rattle.report.specs.Runs.Reading.{outerOf, innerOf, reading, readOf};
+ghost use Rattle.rows.specs.declared.refusal.Verdict.{Verdict};
+use crate::body::Content;
 use crate::check::check;
 use crate::codes::is_category;
 use crate::codes::is_preamble;
-use crate::decode::decode;
 use crate::record::Record;
+use rows::common::Common;
 use rows::refusal::Refusal;
 use rows::refusal::Verdict;
 
@@ -53,13 +55,20 @@ fn inner(f: [u8; 32]) -> Reading
     requires { ⌜ outerOf f ≡ Verdict.Fine ⌝ }
     ensures { λ r. ⌜ r ≡ reading (innerOf f) (recordOf f) ⌝ }
 {
-    let record = decode(f);
-    let body = record.body;
-    let shape = body.shape();
-    let first = shape.behind as usize;
-    let spare1 = bits::field64(f, 43, shape.spare as usize);
-    let spare2 = bits::field64(f, first, 214 - first);
-    let found = check(record, spare1, spare2);
+    let content = Content::of(f);
+    let body = content.body;
+    let slots = content.slots;
+    let text = content.text;
+    let spares = content.spares;
+    let record = Record {
+        preamble: bits::field8(f, 0, 8),
+        reserved: bits::field8(f, 220, 6),
+        common: Common::of(f),
+        body: body,
+        slots: slots,
+        text: text,
+    };
+    let found = check(record, spares.front, spares.behind);
     conclude(found, record)
 }
 

@@ -1,8 +1,7 @@
 // 11: whether something stands in a record where its category has nothing.
 ghost use mathlib.Core.Path.{_≡_};
 ghost use Rattle.rows.specs.Runs.Verdict.{empty};
-ghost use Rattle.report.specs.Runs.Writing.{tidyText, tidy};
-use crate::record::Body;
+ghost use Rattle.report.specs.Runs.Writing.{tidy};
 use crate::record::Record;
 use slots::silence::are_tidy;
 
@@ -19,18 +18,6 @@ fn is_blank(text: [u8; 18]) -> bool
     true
 }
 
-fn has_tidy_text(b: Body, text: [u8; 18]) -> bool
-    ensures { λ r. ⌜ r ≡ tidyText b text ⌝ }
-{
-    match b {
-        Body::NoCategory => is_blank(text),
-        Body::Hypocenter(_) => is_blank(text),
-        Body::Intensity(_) => is_blank(text),
-        Body::Nankai(_) => true,
-        Body::AshFall(_) => is_blank(text),
-    }
-}
-
 impl Record {
     // 11: nothing stands where the category has nothing.
     pub(crate) fn is_tidy(self) -> bool
@@ -39,11 +26,15 @@ impl Record {
         let body = self.body;
         let slots = self.slots;
         let text = self.text;
-        let shape = body.shape();
-        let kind = shape.slots;
-        if are_tidy(kind, slots) {
-            return has_tidy_text(body, text);
+        let fields = body.fields(0, 0);
+        let table = fields.table;
+        let widths = table.widths;
+        if !are_tidy(table.count, widths, slots) {
+            return false;
         }
-        false
+        if table.text {
+            return true;
+        }
+        is_blank(text)
     }
 }

@@ -1,7 +1,6 @@
 // Writing a record to a lent frame: first whether, then what.
 ghost use mathlib.Core.Path.{_≡_};
 ghost use lib.ListN.{length};
-ghost use Rattle.rows.specs.Runs.Questions.{_then_};
 ghost use Rattle.report.specs.Runs.Writing.{writeAnswer, writeOf};
 use crate::check::check;
 use crate::codes::is_preamble;
@@ -16,11 +15,12 @@ pub fn write_answer(r: Record, size: usize) -> Verdict
     ensures { λ v. ⌜ v ≡ writeAnswer r size ⌝ }
 {
     let body = r.body;
-    let shape = body.shape();
+    let fields = body.fields(0, 0);
+    let table = fields.table;
     Verdict::Fine
         .unless(size == 32, Refusal::Length)
         .unless(is_preamble(r.preamble), Refusal::Preamble)
-        .unless(shape.known, Refusal::Category)
+        .unless(table.code != 0, Refusal::Category)
         .unless(r.is_tidy(), Refusal::Unused)
         .then(check(r, 0, 0))
 }

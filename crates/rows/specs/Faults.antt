@@ -3,7 +3,7 @@ use Prim.Native.Nat.{ℕ, _+_, _≤_}
 use mathlib.Core.Path.{_≡_}
 use mathlib.Core.Bool.{Bool, true, false}
 use mathlib.Core.Logic.{_⊎_}
-use mathlib.Core.List.{List, [], _∷_}
+use mathlib.Core.List.{List, _∷_, []}
 use Rattle.rows.specs.declared.refusal.Refusal.{Refusal}
 use Rattle.rows.specs.declared.refusal.Refusal.the-variants.{Range, Spare, Gap}
 use Rattle.rows.specs.Refusals.{says}
@@ -38,7 +38,8 @@ abbrev pub Fault : Layout → Values → Refusal → Type 0
 Fault l v x =
     RowFault [] (common l) (v .head) x
     ⊎ (RowFault [] (l .front) (v .front) x
-    ⊎ (SlotsFault (l .slots) (v .slots) x ⊎ (RowFault [] (l .behind) (v .behind) x ⊎ RowFault [] ending (v .last) x)))
+    ⊎ (SlotsFault (l .slots) (v .slots) x
+    ⊎ (RowFault [] (l .text) (v .text) x ⊎ (RowFault [] (l .behind) (v .behind) x ⊎ RowFault [] ending (v .last) x))))
 
 abbrev pub place : Refusal → ℕ
 place x = says x .place

@@ -2,7 +2,7 @@
 use Prim.Native.Nat.{ℕ, _+_, _≤_}
 use mathlib.Core.Path.{_≡_}
 use mathlib.Core.Logic.{_⊎_}
-use mathlib.Core.List.{List, [], _∷_}
+use mathlib.Core.List.{List, _∷_, []}
 use Rattle.rows.specs.Layout.{Span, _to_, Rule, among, rising, spare, Row, Slots, Layout, common, ending, slotRows}
 use Rattle.rows.specs.Values.{Values}
 
@@ -51,5 +51,6 @@ pub record Holds (l : Layout) (v : Values) : Type 0 where
   pub head : Kept [] (common l) (v .head)
   pub front : Kept [] (l .front) (v .front)
   pub slots : SlotsKept (l .slots) (v .slots)
+  pub text : Kept [] (l .text) (v .text)
   pub behind : Kept [] (l .behind) (v .behind)
   pub last : Kept [] ending (v .last)

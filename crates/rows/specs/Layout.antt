@@ -2,7 +2,7 @@
 -- the preamble, bits 226 to 249 the parity. What each category has is for its own crate.
 use Prim.Native.Nat.{ℕ, zero, suc, _+_, _^_}
 use mathlib.Core.Bool.{Bool, true, false, _&&_}
-use mathlib.Core.List.{List, [], _∷_, _++_}
+use mathlib.Core.List.{List, _∷_, _++_, []}
 use lib.Dec.{eqb, ltb}
 
 -- from one number to another, both included
@@ -30,23 +30,33 @@ within lo hi = among (lo to hi ∷ [])
 abbrev pub only : ℕ → Rule
 only v = within v v
 
--- slots: how many, the first bit of the first one, how many bits each has, and its rows counted from its own first bit
+-- which of its fields a slot of the record has in a category
+pub record Parts : Type 0 where
+  pub day : Bool
+  pub hour : Bool
+  pub minute : Bool
+  pub strength : Bool
+  pub place : Bool
+
+-- slots: how many, the first bit of the first one, how many bits each has, its rows counted from its own first bit, and which
+-- fields they fill, in that order
 pub record Slots : Type 0 where
   pub count : ℕ
   pub first : ℕ
   pub bits : ℕ
   pub rows : List Row
+  pub parts : Parts
 
--- a category: its code (Dc), its classifications (Rc), its information types (It), its rows in front of the slots, from bit 43
--- on, the slots, the rows behind them, up to bit 213, and whether it has text. Spares are rows like any other.
+-- a category: its code (Dc), its classifications (Rc), its information types (It), and what stands from bit 43 up to bit 213:
+-- rows in front, slots, the rows of a text, and rows behind. Spares are rows like any other.
 pub record Layout : Type 0 where
   pub code : ℕ
   pub rcs : List Span
   pub types : List Span
   pub front : List Row
   pub slots : Slots
+  pub text : List Row
   pub behind : List Row
-  pub text : Bool
 
 -- ---- what every category has
 
@@ -95,11 +105,11 @@ bytes zero a = []
 bytes (suc n) a = row a 8 (within 0 255) ∷ bytes n (a + 8)
 
 abbrev pub noSlots : Slots
-noSlots = record { count = 0; first = 0; bits = 0; rows = [] }
+noSlots = record { count = 0; first = 0; bits = 0; rows = []; parts = record { day = false; hour = false; minute = false; strength = false; place = false } }
 
 -- no category: all spare
 abbrev pub noCategory : Layout
-noCategory = record { code = 0; rcs = twoOrSeven; types = uncorrected; front = spare1 ∷ []; slots = noSlots; behind = row 53 161 spare ∷ []; text = false }
+noCategory = record { code = 0; rcs = twoOrSeven; types = uncorrected; front = spare1 ∷ []; slots = noSlots; text = []; behind = row 53 161 spare ∷ [] }
 
 -- ---- slots on the wire
 
@@ -119,7 +129,7 @@ slotsRows k (suc n) a = slotRows k a ++ slotsRows k n (a + k .bits)
 -- ---- what is asked of a table
 
 abbrev pub allRows : Layout → List Row
-allRows l = common l ++ (l .front ++ (slotsRows (l .slots) (l .slots .count) (l .slots .first) ++ (l .behind ++ ending)))
+allRows l = common l ++ (l .front ++ (slotsRows (l .slots) (l .slots .count) (l .slots .first) ++ (l .text ++ (l .behind ++ ending))))
 
 -- each row starts where the one before it ends
 abbrev pub tiles : ℕ → ℕ → List Row → Bool

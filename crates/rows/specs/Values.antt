@@ -1,16 +1,22 @@
 -- The values of a frame, row by row, and those of a time; values one behind the other.
-use Prim.Native.Nat.{ℕ, zero, suc, _+_, _*_}
-use mathlib.Core.List.{List, [], _∷_, _++_, map}
-use lib.ListN.{getD}
-use Rattle.bits.specs.Frame.{fieldOf}
+use Prim.Native.Nat.{ℕ, zero, suc, _+_, _*_, _-_}
+use mathlib.Core.List.{List, _∷_, _++_, map, []}
+use lib.ListN.{getD, length, replicate}
+use Rattle.bits.specs.Frame.{fieldOf, fieldIn}
+use Rattle.rows.specs.declared.common.Common.{Common}
 use Rattle.rows.specs.declared.time.Time.{Time}
-use Rattle.rows.specs.Layout.{Row, Layout, common, ending, slotRows}
+use Rattle.rows.specs.Layout.{Row, Layout, common, ending, noCategory, slotRows, Parts, Slots, Rule, among, rising, spare}
+use Rattle.rows.specs.declared.fields.Fields.{Fields}
+use mathlib.Core.Bool.{Bool, false, true, cond}
+use Rattle.rows.specs.declared.fields.Table.{Table}
+use Rattle.rows.specs.declared.fields.Spares.{Spares}
 
 -- the values in the order of the frame, bits 8 to 225
 pub record Values : Type 0 where
   pub head : List ℕ
   pub front : List ℕ
   pub slots : List (List ℕ)
+  pub text : List ℕ
   pub behind : List ℕ
   pub last : List ℕ
 
@@ -18,6 +24,9 @@ pub record Values : Type 0 where
 abbrev pub each : {A : Type 0} → ℕ → (ℕ → A) → List A
 each zero f = []
 each (suc n) f = f 0 ∷ each n (λ i. f (suc i))
+
+abbrev pub widths : List Row → List ℕ
+widths = map (λ r. r .width)
 
 abbrev pub cut : List ℕ → Row → ℕ
 cut s r = fieldOf s (r .first) (r .width)
@@ -27,9 +36,96 @@ valuesOf s l = record {
   head = map (cut s) (common l);
   front = map (cut s) (l .front);
   slots = each (l .slots .count) (λ i. map (cut s) (slotRows (l .slots) (l .slots .first + l .slots .bits * i)));
+  text = map (cut s) (l .text);
   behind = map (cut s) (l .behind);
   last = map (cut s) ending;
 }
+
+-- ---- parts of them
+
+-- the values of the rows in front of the slots and behind them
+pub record Sides : Type 0 where
+  pub front : List ℕ
+  pub behind : List ℕ
+
+-- those of a frame
+abbrev pub sidesAt : List ℕ → Layout → Sides
+sidesAt s l = record { front = map (cut s) (l .front); behind = map (cut s) (l .behind) }
+
+-- l, and zeros behind it up to n numbers
+abbrev pub filled : ℕ → List ℕ → List ℕ
+filled n l = l ++ replicate (n - length l) 0
+
+-- ---- as code hands it on
+
+abbrev pub flags : Parts → List Bool
+flags p = p .day ∷ p .hour ∷ p .minute ∷ p .strength ∷ p .place ∷ []
+
+-- values where a flag is set, zeros elsewhere
+abbrev pub spread : List Bool → List ℕ → List ℕ
+spread [] vs = []
+spread (false ∷ bs) vs = 0 ∷ spread bs vs
+spread (true ∷ bs) [] = 0 ∷ spread bs []
+spread (true ∷ bs) (v ∷ vs) = v ∷ spread bs vs
+
+-- the widths of a slot's fields, 0 where the category does not have the field
+abbrev pub partWidths : Slots → List ℕ
+partWidths k = spread (flags (k .parts)) (widths (k .rows))
+
+abbrev pub any : List Row → Bool
+any [] = false
+any (r ∷ rs) = true
+
+-- the first bit of the first row, 0 where there is none
+abbrev pub firstBit : List Row → ℕ
+firstBit [] = 0
+firstBit (r ∷ rs) = r .first
+
+-- what stands in the first spare among rows, 0 where there is none
+abbrev pub isSpare : Rule → Bool
+isSpare (among ss) = false
+isSpare (rising hi) = false
+isSpare spare = true
+
+abbrev pub spareIn : List ℕ → List Row → ℕ
+spareIn s [] = 0
+spareIn s (r ∷ rs) = cond (isSpare (r .rule)) (fieldIn 57 s (r .first) (r .width)) (spareIn s rs)
+
+abbrev pub sparesIn : List ℕ → Layout → Spares
+sparesIn s l = record { front = spareIn s (l .front); behind = spareIn s (l .behind) }
+
+-- what a category's table says in numbers
+abbrev pub tableIn : Layout → Table
+tableIn l = record {
+  code = l .code;
+  count = l .slots .count;
+  first = l .slots .first;
+  bits = l .slots .bits;
+  widths = partWidths (l .slots);
+  text = any (l .text);
+  rest = firstBit (l .behind ++ ending);
+}
+
+-- and the values of its rows with their widths; behind the last row there are no bits
+abbrev pub fieldsIn : Layout → Sides → Fields
+fieldsIn l v = record {
+  table = tableIn l;
+  ahead = filled 18 (widths (l .front));
+  front = filled 18 (v .front);
+  after = filled 3 (widths (l .behind));
+  behind = filled 3 (v .behind);
+}
+
+-- message type, Rc, Dc, month, day, hour, minute, It
+abbrev pub headValues : Common → ℕ → List ℕ
+headValues c dc = 43 ∷ c .rc ∷ dc ∷ c .month ∷ c .day ∷ c .hour ∷ c .minute ∷ c .it ∷ []
+
+abbrev pub commonFrom : List ℕ → Common
+commonFrom vs = record { rc = getD vs 1 0; month = getD vs 3 0; day = getD vs 4 0; hour = getD vs 5 0; minute = getD vs 6 0; it = getD vs 7 0 }
+
+-- these rows stand at the same bits in every category
+abbrev pub commonOf : List ℕ → Common
+commonOf s = commonFrom (map (cut s) (common noCategory))
 
 -- Vn, Reserved
 abbrev pub lastValues : ℕ → List ℕ
@@ -48,7 +144,4 @@ joined (v ∷ vs) = v ++ joined vs
 
 -- the values one behind the other
 abbrev pub flat : Values → List ℕ
-flat v = v .head ++ (v .front ++ (joined (v .slots) ++ (v .behind ++ v .last)))
-
-abbrev pub widths : List Row → List ℕ
-widths = map (λ r. r .width)
+flat v = v .head ++ (v .front ++ (joined (v .slots) ++ (v .text ++ (v .behind ++ v .last))))

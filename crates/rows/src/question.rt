@@ -7,7 +7,7 @@ ghost use Rattle.rows.specs.Runs.Verdict.{ranged};
 use crate::refusal::Refusal;
 use crate::refusal::Verdict;
 
-fn between(v: u32, lo: u32, hi: u32) -> bool
+fn between(v: u64, lo: u64, hi: u64) -> bool
     ensures { λ r. ⌜ r ≡ leb lo v && leb v hi ⌝ }
 {
     lo <= v && v <= hi
@@ -36,7 +36,7 @@ impl Verdict {
         self.unless(met, Refusal::Range(at))
     }
 
-    pub fn within(self, at: u8, v: u32, lo: u32, hi: u32) -> Verdict
+    pub fn within(self, at: u8, v: u64, lo: u64, hi: u64) -> Verdict
         ensures { λ r. ⌜ r ≡ self then ranged (leb lo v && leb v hi) at ⌝ }
     {
         self.ranged(at, between(v, lo, hi))

@@ -33,8 +33,8 @@ impl Verdict {
         if at > 240 {
             return self;
         }
-        self.within(at, t.day as u32, 1, 31)
-            .within(at + 5, t.hour as u32, 0, 23)
-            .within(at + 10, t.minute as u32, 0, 59)
+        self.within(at, t.day as u64, 1, 31)
+            .within(at + 5, t.hour as u64, 0, 23)
+            .within(at + 10, t.minute as u64, 0, 59)
     }
 }

@@ -1,78 +1,74 @@
--- Slots laid on a frame: the turns of the loop.
-use mathlib.Core.Path.{_≡_, refl, sym, ap, ap₂, _∙_}
-use Prim.Native.Nat.{ℕ, zero, suc, _+_, _*_, _≤_, _<_}
-use native.Mathlib.Numerals.{add-one}
-use native.Mathlib.Omega.{arith}
-use mathlib.Core.List.{List, [], _∷_, _++_, map, append-assoc, append-nil}
-use lib.ListN.{length, getD, take, length-append}
-use lib.Seq.{take-suc}
-use Rattle.bits.specs.Layout.{total}
-use Rattle.bits.specs.Frame.{laid}
-use Rattle.bits.proofs.Laid.{laid-append}
+-- Slots laid on a frame are the rows of their table laid on it.
+use mathlib.Core.List.{List, [], _++_, _∷_, map, map-append}
+use Rattle.rows.specs.Layout.{Row, Slots, slotRows, slotsRows, shifted}
 use Rattle.slots.specs.declared.slot.Slot.{Slot}
-use Rattle.slots.specs.declared.kind.SlotKind.{SlotKind}
-use Rattle.slots.specs.declared.kind.SlotKind.the-variants.{NoSlots, Prefectures, Places}
-use Rattle.rows.specs.Layout.{slotRows, slotsRows}
-use Rattle.slots.specs.Slots.{slotTable, noSlot, slotValues}
-use Rattle.rows.specs.Values.{widths, joined}
+use Rattle.slots.proofs.Tables.{Suited}
+use Prim.Native.Nat.{_*_, _+_, _≤_, suc, zero, ℕ}
+use mathlib.Core.Path.{_∙_, _≡_, ap, ap₂, refl, subst, sym}
+use native.Mathlib.Omega.{arith}
+use Rattle.slots.specs.Slots.{slotParts, slotValues, slotsValues}
+use Rattle.rows.specs.Values.{joined, widths, flags, partWidths}
+use Rattle.bits.specs.Frame.{laid, laidIn}
+use Rattle.bits.proofs.Laid.{laid-append}
+use lib.ListN.{length, length-append, length-map, take}
+use Rattle.slots.proofs.Parts.{length-sift, spread-laid}
+use lib.Seq.{length-take-le}
+use native.Mathlib.Nat.{mul-suc}
+use Rattle.slots.specs.Runs.{slotsLaid}
+
+widths-shifted : (a : ℕ) (rs : List Row) → widths (shifted a rs) ≡ widths rs
+widths-shifted a [] = refl
+widths-shifted a (r ∷ rs) = ap (λ (ws : List ℕ). r .width ∷ ws) (widths-shifted a rs)
 
 -- the widths of n slots, wherever they stand
-abbrev pub runs : SlotKind → ℕ → List ℕ
+abbrev runs : Slots → ℕ → List ℕ
 runs k zero = []
-runs k (suc n) = widths (slotRows (slotTable k) 0) ++ runs k n
+runs k (suc n) = widths (k .rows) ++ runs k n
 
-slot-widths : (k : SlotKind) (a : ℕ) → widths (slotRows (slotTable k) a) ≡ widths (slotRows (slotTable k) 0)
-slot-widths NoSlots a = refl
-slot-widths Prefectures a = refl
-slot-widths Places a = refl
+runs-widths : (k : Slots) (n a : ℕ) → widths (slotsRows k n a) ≡ runs k n
+runs-widths k zero a = refl
+runs-widths k (suc n) a =
+    let parts : widths (slotRows k a ++ slotsRows k n (a + k .bits)) ≡ widths (slotRows k a) ++ widths (slotsRows k n (a + k .bits)) = simp map-append in
+    parts ∙ ap₂ (λ (x y : List ℕ). x ++ y) (widths-shifted a (k .rows)) (runs-widths k n (a + k .bits))
 
-widths-append : (k : SlotKind) (a n : ℕ) → widths (slotsRows (slotTable k) (suc n) a) ≡ widths (slotRows (slotTable k) a) ++ widths (slotsRows (slotTable k) n (a + slotTable k .bits))
-widths-append NoSlots a n = refl
-widths-append Prefectures a n = refl
-widths-append Places a n = refl
+module _ (k : Slots) (t : Suited k) where
+  matched : (s : Slot) → length (widths (k .rows)) ≡ length (slotValues k s)
+  matched s = length-map (k .rows) (λ r. r .width) ∙ t .matched ∙ sym (length-sift (flags (k .parts)) (slotParts s) refl)
 
-pub slots-widths : (k : SlotKind) (n a : ℕ) → widths (slotsRows (slotTable k) n a) ≡ runs k n
-slots-widths k zero a = refl
-slots-widths k (suc n) a = widths-append k a n ∙ ap₂ (λ (x y : List ℕ). x ++ y) (slot-widths k a) (slots-widths k n (a + slotTable k .bits))
+  slot-laid : (f : List ℕ) (a : ℕ) (s : Slot) → a + k .bits ≤ 256 → laidIn f a (partWidths k) (slotParts s) ≡ laid f a (widths (k .rows)) (slotValues k s)
+  slot-laid f a s h =
+      spread-laid f (flags (k .parts)) (widths (k .rows)) (slotParts s) a (length-map (k .rows) (λ r. r .width) ∙ t .matched) refl (t .wide)
+      (subst (λ (n : ℕ). a + n ≤ 256) (sym (t .bits)) h)
 
-runs-more : (k : SlotKind) (n : ℕ) → runs k (suc n) ≡ runs k n ++ widths (slotRows (slotTable k) 0)
-runs-more k zero = append-nil (widths (slotRows (slotTable k) 0))
-runs-more k (suc n) = ap (λ (l : List ℕ). widths (slotRows (slotTable k) 0) ++ l) (runs-more k n) ∙ sym (append-assoc (widths (slotRows (slotTable k) 0)) (runs k n) (widths (slotRows (slotTable k) 0)))
+  runs-laid : (f : List ℕ) (a : ℕ) (ss : List Slot) → a + k .bits * length ss ≤ 256
+      → slotsLaid f a (k .bits) (partWidths k) ss ≡ laid f a (runs k (length ss)) (joined (map (slotValues k) ss))
+  unfolding slotsLaid
+  runs-laid f a [] h = refl
+  runs-laid f a (s ∷ ss) h =
+      let more : k .bits * suc (length ss) ≡ k .bits * length ss + k .bits = mul-suc (k .bits) (length ss) in
+      ap (λ (x : List ℕ). slotsLaid x (a + k .bits) (k .bits) (partWidths k) ss) (slot-laid f a s (omega (arith, more)))
+      ∙ runs-laid (laid f a (widths (k .rows)) (slotValues k s)) (a + k .bits) ss (omega (arith, more))
+      ∙ ap (λ (n : ℕ). laid (laid f a (widths (k .rows)) (slotValues k s)) (a + n) (runs k (length ss)) (joined (map (slotValues k) ss))) (sym (t .bits))
+      ∙ sym (laid-append f (widths (k .rows)) (slotValues k s) (runs k (length ss)) (joined (map (slotValues k) ss)) a (matched s))
 
-total-runs : (k : SlotKind) (n : ℕ) → total (runs k n) ≡ slotTable k .bits * n
-total-runs NoSlots zero = refl
-total-runs NoSlots (suc n) = omega (arith, total-runs NoSlots n)
-total-runs Prefectures zero = refl
-total-runs Prefectures (suc n) = omega (arith, total-runs Prefectures n)
-total-runs Places zero = refl
-total-runs Places (suc n) = omega (arith, total-runs Places n)
+  runs-many : (ss : List Slot) → length (runs k (length ss)) ≡ length (joined (map (slotValues k) ss))
+  runs-many [] = refl
+  runs-many (s ∷ ss) =
+      length-append (widths (k .rows)) (runs k (length ss))
+      ∙ ap₂ _+_ (matched s) (runs-many ss)
+      ∙ sym (length-append (slotValues k s) (joined (map (slotValues k) ss)))
 
-slot-length : (k : SlotKind) (s : Slot) → length (widths (slotRows (slotTable k) 0)) ≡ length (slotValues k s)
-slot-length NoSlots s = refl
-slot-length Prefectures s = refl
-slot-length Places s = refl
+  -- of the slots of a record
+  module _ (ss : List Slot) (sixteen : length ss ≡ 16) where
+    counted : length (take (k .count) ss) ≡ k .count
+    counted = length-take-le (k .count) ss (rw sixteen (t .few))
 
-pub runs-length : (k : SlotKind) (n : ℕ) (ss : List Slot) → n ≤ length ss → length (runs k n) ≡ length (joined (map (slotValues k) (take n ss)))
-runs-length k zero ss h = refl
-runs-length k (suc n) [] h = absurd (omega arith)
-runs-length k (suc n) (s ∷ ss) h =
-    length-append (widths (slotRows (slotTable k) 0)) (runs k n)
-    ∙ ap₂ _+_ (slot-length k s) (runs-length k n ss (omega arith))
-    ∙ sym (length-append (slotValues k s) (joined (map (slotValues k) (take n ss))))
+    pub slots-laid : (f : List ℕ) (a : ℕ) → a + k .bits * k .count ≤ 256
+        → slotsLaid f a (k .bits) (partWidths k) (take (k .count) ss) ≡ laid f a (widths (slotsRows k (k .count) a)) (joined (slotsValues k ss))
+    slots-laid f a h =
+        runs-laid f a (take (k .count) ss) (rw counted h)
+        ∙ ap (λ (n : ℕ). laid f a (runs k n) (joined (slotsValues k ss))) counted
+        ∙ ap (λ (ws : List ℕ). laid f a ws (joined (slotsValues k ss))) (sym (runs-widths k (k .count) a))
 
-joined-more : (k : SlotKind) (ss : List Slot) (s : Slot) → joined (map (slotValues k) (ss ++ s ∷ [])) ≡ joined (map (slotValues k) ss) ++ slotValues k s
-joined-more k [] s = append-nil (slotValues k s)
-joined-more k (x ∷ ss) s = ap (λ (l : List ℕ). slotValues k x ++ l) (joined-more k ss s) ∙ sym (append-assoc (slotValues k x) (joined (map (slotValues k) ss)) (slotValues k s))
-
-pub slot-more : (f r : List ℕ) (k : SlotKind) (ss : List Slot) (a n at : ℕ) → n < length ss → at ≡ a + slotTable k .bits * n
-    → r ≡ laid (laid f a (runs k n) (joined (map (slotValues k) (take n ss)))) at (widths (slotRows (slotTable k) at)) (slotValues k (getD ss n noSlot))
-    → r ≡ laid f a (runs k (n + 1)) (joined (map (slotValues k) (take (n + 1) ss)))
-slot-more f r k ss a n at h e q =
-    let vs = joined (map (slotValues k) (take n ss)) in
-    let s = getD ss n noSlot in
-    let p : at ≡ a + total (runs k n) = omega (arith, total-runs k n) in
-    q
-    ∙ ap₂ (λ (x : ℕ) (ws : List ℕ). laid (laid f a (runs k n) vs) x ws (slotValues k s)) p (slot-widths k at)
-    ∙ sym (laid-append f (runs k n) vs (widths (slotRows (slotTable k) 0)) (slotValues k s) a (runs-length k n ss (omega arith)))
-    ∙ ap₂ (laid f a) (sym (runs-more k n)) (sym (ap (λ (l : List Slot). joined (map (slotValues k) l)) (take-suc ss n noSlot h) ∙ joined-more k (take n ss) s))
-    ∙ ap (λ (j : ℕ). laid f a (runs k j) (joined (map (slotValues k) (take j ss)))) (sym (add-one n))
+    pub slots-many : (a : ℕ) → length (widths (slotsRows k (k .count) a)) ≡ length (joined (slotsValues k ss))
+    slots-many a = ap length (runs-widths k (k .count) a) ∙ ap (λ (n : ℕ). length (runs k n)) (sym counted) ∙ runs-many (take (k .count) ss)

@@ -1,8 +1,8 @@
-pub mod SlotLoop
-pub mod TidyLoop
-pub mod Tidy
+pub mod Vacant
+pub mod Loops
+pub mod Parts
+pub mod Tables
+pub mod Judged
 pub mod Laying
-pub mod Same
-pub mod Agree
-pub mod Lengths
 pub mod Used
+pub mod Tidy

@@ -1,49 +1,23 @@
--- Counting the used slots: the loop, and what the number says.
-use mathlib.Core.Path.{_≡_, refl, ap}
-use mathlib.Core.Bool.{Bool, true, false}
-use mathlib.Core.Logic.{⊎-elim}
-use Prim.Native.Nat.{ℕ, zero, suc, _+_, _*_, _≤_, _<_}
-use native.Mathlib.Nat.{not-suc-le-zero, le-of-suc-le-suc}
-use native.Mathlib.Omega.{arith}
-use native.Mathlib.Numerals.{add-one}
-use mathlib.Core.List.{List, [], _∷_, map}
-use lib.ListN.{length, getD, take, drop, drop-of-length-le}
-use Rattle.slots.specs.declared.slot.Slot.{Slot}
-use borrow.Author.Tests.{ne-eqb}
-use Rattle.slots.specs.declared.kind.SlotKind.{SlotKind}
-use Rattle.slots.specs.declared.kind.SlotKind.the-variants.{NoSlots, Prefectures, Places}
-use Rattle.rows.specs.Layout.{_to_, slotRows}
-use Rattle.rows.specs.Runs.Verdict.{empty}
-use Rattle.rows.specs.Values.{each, cut}
-use Rattle.slots.specs.Slots.{slotTable, noSlot, slotValues, usedAmong}
-use Rattle.rows.specs.Kept.{In, Empty, AllEmpty, LaterKept, SlotsKept}
+-- What the number of used slots says.
+use Rattle.rows.specs.Kept.{AllEmpty, Empty, In, Keeps, Kept, LaterKept, SlotsKept}
+use mathlib.Core.Bool.{Bool, _||_, false, not, true, cond}
+use mathlib.Core.List.{List, [], _∷_, _++_, map}
+use Rattle.rows.specs.Layout.{Row, Rule, Slots, among, rising, slotRows, spare, shifted}
+use Rattle.rows.proofs.Layouts.Lengths.{SlotsFilled}
+use Prim.Native.Nat.{_+_, _<_, _≤_, suc, zero, ℕ, _*_, _-_}
+use mathlib.Core.Path.{_∙_, _≡_, ap, refl, subst, sym, ap₂}
+use Rattle.rows.specs.Runs.Verdict.{allowed, empty}
 use Rattle.rows.proofs.Rules.JudgedSlots.{empty-is, is-empty}
-use Rattle.slots.proofs.SlotLoop.{taken, split}
+use Rattle.rows.proofs.Rules.Outcomes.{false-not-true}
+use lib.ListN.{getD, length, replicate}
+use Rattle.rows.proofs.Rules.Spans.{in-allowed}
+use native.Mathlib.Nat.{le-of-suc-le-suc, not-suc-le-zero, suc-inj, suc-ne-zero}
+use Rattle.slots.specs.Slots.{usedAmong, noSlot, slotOf, slotParts, slotsOf}
+use mathlib.Core.Logic.{⊎-elim}
+use Rattle.slots.proofs.Tables.{Suited, same-silence}
+use Rattle.rows.specs.Values.{cut, each}
 
--- ---- the loop
-
-module _ (k : SlotKind) (ss : List Slot) (sixteen : length ss ≡ 16) where
-  -- those used from slot i on
-  abbrev pub from : ℕ → ℕ
-  from i = usedAmong (map (slotValues k) (drop i (take (slotTable k .count) ss)))
-
-  pub used-more : (i : ℕ) → i < slotTable k .count → empty (slotValues k (getD ss i noSlot)) ≡ false → from i ≡ suc (from (i + 1))
-  unfolding usedAmong
-  used-more i h e = rw (split k ss sixteen i h, e, add-one i)
-
-  pub used-end : (i : ℕ) → i < slotTable k .count → empty (slotValues k (getD ss i noSlot)) ≡ true → from i ≡ 0
-  unfolding usedAmong
-  used-end i h e = rw (split k ss sixteen i h, e)
-
-  pub used-all : (i : ℕ) → slotTable k .count ≤ i → from i ≡ 0
-  unfolding usedAmong
-  used-all i h =
-      let all : length (take (slotTable k .count) ss) ≤ i = rw (taken k ss sixteen) h in
-      ap (λ (l : List Slot). usedAmong (map (slotValues k) l)) (drop-of-length-le (take (slotTable k .count) ss) all)
-
--- ---- the number
-
-pub first-counted : (v : List ℕ) (vs : List (List ℕ)) → empty v ≡ false → usedAmong (v ∷ vs) ≡ suc (usedAmong vs)
+first-counted : (v : List ℕ) (vs : List (List ℕ)) → empty v ≡ false → usedAmong (v ∷ vs) ≡ suc (usedAmong vs)
 unfolding usedAmong
 first-counted v vs e = rw e
 
@@ -63,7 +37,8 @@ unfolding usedAmong
 counted-used [] i h = absurd (not-suc-le-zero h)
 counted-used (v ∷ vs) i h = counted v vs (empty v) refl (counted-used vs) i h
 
--- every slot behind them is empty, where nothing stands behind an empty one
+-- ---- every slot behind them is empty, where nothing stands behind an empty one
+
 not-empty : (v : List ℕ) (b : Bool) → empty v ≡ b → (Empty v → ⊥) → empty v ≡ false
 not-empty v false e n = e
 not-empty v true e n = absurd (n (empty-is v e))
@@ -73,37 +48,72 @@ all-empty [] h i l = absurd (not-suc-le-zero l)
 all-empty (v ∷ vs) h zero l = is-empty v (h .0)
 all-empty (v ∷ vs) h (suc i) l = all-empty vs (h .1) i (le-of-suc-le-suc l)
 
-pub later-empty : (k : SlotKind) (at : ℕ) (vs : List (List ℕ)) → LaterKept (slotTable k) at vs → (i : ℕ) → usedAmong vs ≤ i → i < length vs → empty (getD vs i []) ≡ true
+later-empty : (k : Slots) (at : ℕ) (vs : List (List ℕ)) → LaterKept k at vs → (i : ℕ) → usedAmong vs ≤ i → i < length vs → empty (getD vs i []) ≡ true
 later-empty k at [] h i u l = absurd (not-suc-le-zero l)
 later-empty k at (v ∷ vs) h zero u l =
     ⊎-elim (λ p. is-empty v (p .0)) (λ p. absurd (not-suc-le-zero (rw (first-counted v vs (not-empty v (empty v) refl (p .0))) at u))) h
 later-empty k at (v ∷ vs) h (suc i) u l =
     ⊎-elim (λ p. all-empty vs (p .1) i (le-of-suc-le-suc l))
-    (λ p. later-empty k (at + slotTable k .bits) vs (p .1 .1) i (le-of-suc-le-suc (rw (first-counted v vs (not-empty v (empty v) refl (p .0))) at u)) (le-of-suc-le-suc l))
+    (λ p. later-empty k (at + k .bits) vs (p .1 .1) i (le-of-suc-le-suc (rw (first-counted v vs (not-empty v (empty v) refl (p .0))) at u)) (le-of-suc-le-suc l))
     h
 
--- ---- of a frame: the first slot is used, for its first field is not zero
+-- the first slot is used, for one of its fields may not be zero: one test on the table
+abbrev pub allows : Rule → Bool
+allows (among ss) = allowed ss 0
+allows (rising hi) = true
+allows spare = true
 
-starts : (x : ℕ) (v : List ℕ) → 1 ≤ x → empty (x ∷ v) ≡ false
-unfolding empty
-starts x v h = simp (ne-eqb x 0 (nonzero x h))
+abbrev pub names : List Row → Bool
+names [] = false
+names (r ∷ rs) = not (allows (r .rule)) || names rs
+
+not-silent : (past : List ℕ) (rs : List Row) (v : List ℕ) → length v ≡ length rs → names rs ≡ true → Kept past rs v → Empty v → ⊥
+not-silent past [] v l n h e = false-not-true n
+not-silent past (r ∷ rs) [] l n h e = suc-ne-zero (length rs) (sym l)
+not-silent past (r ∷ rs) (v ∷ vs) l n h e = by (r .rule) (λ m. not-silent (v ∷ past) rs vs (suc-inj l) m (h .1) (e .1)) n (h .0)
   where
-    nonzero : (x : ℕ) → 1 ≤ x → x ≡ 0 → ⊥
-    nonzero x h e = omega arith
+    asked : (b : Bool) → (names rs ≡ true → ⊥) → b ≡ true → not b || names rs ≡ true → ⊥
+    asked true rest f m = rest m
+    asked false rest f m = false-not-true f
 
-lowest : (lo hi x : ℕ) → In (lo to hi ∷ []) x → lo ≤ x
-lowest lo hi x h = ⊎-elim (λ p. p .0) (λ p. absurd p) h
+    by : (x : Rule) → (names rs ≡ true → ⊥) → not (allows x) || names rs ≡ true → Keeps x past v vs → ⊥
+    by (among ss) rest m k = asked (allowed ss 0) rest (in-allowed ss 0 (subst (In ss) (e .0) k)) m
+    by (rising hi) rest m k = rest m
+    by spare rest m k = rest m
 
--- the slots of a frame
-abbrev pub slotsIn : List ℕ → SlotKind → List (List ℕ)
-slotsIn s k = each (slotTable k .count) (λ i. map (cut s) (slotRows (slotTable k) (slotTable k .first + slotTable k .bits * i)))
+pub behind-used : (k : Slots) (vs : List (List ℕ)) → SlotsFilled k (k .first) vs → names (k .rows) ≡ true → SlotsKept k vs
+    → (i : ℕ) → usedAmong vs ≤ i → i < length vs → empty (getD vs i []) ≡ true
+behind-used k [] f n h i u l = absurd (not-suc-le-zero l)
+behind-used k (v ∷ vs) f n h i u l = by i (rw (first-counted v vs used) at u) l
+  where
+    shifted-names : (a : ℕ) (rs : List Row) → names (shifted a rs) ≡ names rs
+    shifted-names a [] = refl
+    shifted-names a (r ∷ rs) = ap (λ (b : Bool). not (allows (r .rule)) || b) (shifted-names a rs)
 
-pub behind-used : (s : List ℕ) (k : SlotKind) → SlotsKept (slotTable k) (slotsIn s k) → (i : ℕ) → usedAmong (slotsIn s k) ≤ i → i < slotTable k .count
-    → empty (getD (slotsIn s k) i []) ≡ true
-behind-used s NoSlots h i u l = absurd (not-suc-le-zero l)
-behind-used s Prefectures h zero u l = absurd (not-suc-le-zero (rw (first-counted _ _ (starts _ _ (lowest 1 7 _ (h .0 .0)))) at u))
-behind-used s Prefectures h (suc i) u l =
-    later-empty Prefectures 78 _ (h .1) i (le-of-suc-le-suc (rw (first-counted _ _ (starts _ _ (lowest 1 7 _ (h .0 .0)))) at u)) (le-of-suc-le-suc l)
-behind-used s Places h zero u l = absurd (not-suc-le-zero (rw (first-counted _ _ (starts _ _ (lowest 1 6 _ (h .0 .0)))) at u))
-behind-used s Places h (suc i) u l =
-    later-empty Places 112 _ (h .1) i (le-of-suc-le-suc (rw (first-counted _ _ (starts _ _ (lowest 1 6 _ (h .0 .0)))) at u)) (le-of-suc-le-suc l)
+    used : empty v ≡ false
+    used = not-empty v (empty v) refl (not-silent [] (slotRows k (k .first)) v (f .0) (shifted-names (k .first) (k .rows) ∙ n) (h .0))
+
+    by : (i : ℕ) → suc (usedAmong vs) ≤ i → i < suc (length vs) → empty (getD (v ∷ vs) i []) ≡ true
+    by zero u l = absurd (not-suc-le-zero u)
+    by (suc i) u l = later-empty k (k .first + k .bits) vs (h .1) i (le-of-suc-le-suc u) (le-of-suc-le-suc l)
+
+-- ---- of a frame's slots, all sixteen of them
+
+none-used : (n : ℕ) → usedAmong (map slotParts (replicate n noSlot)) ≡ 0
+unfolding usedAmong empty
+none-used zero = refl
+none-used (suc n) = refl
+
+by-silence : (b c : Bool) (m n : ℕ) → b ≡ c → m ≡ n → cond b 0 (suc m) ≡ cond c 0 (suc n)
+by-silence b c m n e f = ap₂ (λ (x : Bool) (y : ℕ). cond x 0 (suc y)) e f
+
+each-used : (k : Slots) → Suited k → (s : List ℕ) (n m : ℕ) (g : ℕ → ℕ)
+    → usedAmong (map slotParts (each n (λ i. slotOf k s (g i)) ++ replicate m noSlot)) ≡ usedAmong (each n (λ i. map (cut s) (slotRows k (g i))))
+unfolding usedAmong
+each-used k t s zero m g = none-used m
+each-used k t s (suc n) m g = by-silence _ _ _ _ (same-silence k t s (g 0)) (each-used k t s n m (λ i. g (suc i)))
+
+pub frame-used : (k : Slots) → Suited k → (s : List ℕ)
+    → usedAmong (map slotParts (slotsOf s k)) ≡ usedAmong (each (k .count) (λ i. map (cut s) (slotRows k (k .first + k .bits * i))))
+unfolding slotsOf
+frame-used k t s = each-used k t s (k .count) (16 - k .count) (λ i. k .first + k .bits * i)

@@ -1,8 +1,7 @@
-// The sixteen slots of a record: a slot from a frame and onto it, its rules, and silence: which slots are
-// used, and what must be zero in them. What a category lists in its slots is told by its kind.
-pub mod kind; // what the slots of a category list
-pub mod slot; // one slot, and what is empty in it
-pub mod decode; // bits as slots
-pub mod check; // the rules, on slots
-pub mod encode; // slots as bits
+// The sixteen slots of a record, whatever a category lists in them: one slot, silence (which slots are used,
+// and what must be zero), the order in which slots are judged, and slots laid on a frame. Where the slots of
+// a category stand and what may stand in them is for its own crate.
+pub mod slot; // one slot, and whether it is empty
 pub mod silence; // which slots are used, and what must be zero
+pub mod run; // what has been found among the slots so far
+pub mod encode; // slots as bits

@@ -1,20 +1,19 @@
 // Silence in slots: which are used, and what must be zero.
 ghost use mathlib.Core.Path.{_≡_};
 ghost use mathlib.Core.List.{map};
-ghost use lib.ListN.{take};
-ghost use Rattle.slots.specs.Slots.{slotTable, slotValues, tidySlots, usedAmong};
-use crate::kind::SlotKind;
+ghost use Rattle.slots.specs.Slots.{slotParts, tidySlots, usedAmong};
+ghost use Rattle.slots.specs.Runs.{widthsIn};
 use crate::slot::Slot;
+use crate::slot::is_vacant;
 
-// How many slots are used, 0 in a category without slots: those before the first empty one.
-pub fn used(kind: SlotKind, slots: [Slot; 16]) -> usize
-    ensures { λ r. ⌜ r ≡ usedAmong (map (slotValues kind) (take (slotTable kind .count) slots)) ⌝ }
+// How many slots are used: those before the first empty one.
+pub fn used(slots: [Slot; 16]) -> usize
+    ensures { λ r. ⌜ r ≡ usedAmong (map slotParts slots) ⌝ }
 {
-    let count = kind.count();
     let mut k = 0;
-    while k < count {
+    while k < 16 {
         let s = slots[k];
-        if s.empty(kind) {
+        if s.is_empty() {
             return k;
         }
         k += 1;
@@ -22,14 +21,26 @@ pub fn used(kind: SlotKind, slots: [Slot; 16]) -> usize
     k
 }
 
-// Nothing stands in what the category does not use: neither in its slots nor in those behind them.
-pub fn are_tidy(kind: SlotKind, slots: [Slot; 16]) -> bool
-    ensures { λ r. ⌜ r ≡ tidySlots kind (slotTable kind .count) slots ⌝ }
+// The widths of what slot i has: past the category's slots, nothing.
+fn widths_in(i: usize, count: usize, widths: [u8; 5]) -> [u8; 5]
+    ensures { λ r. ⌜ r ≡ widthsIn i count widths ⌝ }
+{
+    if i < count {
+        return widths;
+    }
+    [0u8; 5]
+}
+
+// Nothing stands in what a category with so many slots of these fields does not use: neither in its slots
+// nor in those behind them.
+pub fn are_tidy(count: usize, widths: [u8; 5], slots: [Slot; 16]) -> bool
+    ensures { λ r. ⌜ r ≡ tidySlots widths count slots ⌝ }
 {
     let mut i = 0;
     while i < 16 {
         let s = slots[i];
-        if !s.is_tidy(kind.of_slot(i)) {
+        let held = widths_in(i, count, widths);
+        if !is_vacant(held, s.values()) {
             return false;
         }
         i += 1;

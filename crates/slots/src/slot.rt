@@ -1,42 +1,74 @@
 // One slot: what it holds, and whether that is nothing.
 ghost use mathlib.Core.Path.{_≡_};
 ghost use Rattle.rows.specs.Runs.Verdict.{empty};
-ghost use Rattle.slots.specs.Slots.{slotValues, unused};
-use crate::kind::SlotKind;
+ghost use Rattle.slots.specs.Slots.{noSlot, slotParts, vacant};
+ghost use mathlib.Core.Bool.{cond, true};
+ghost use lib.Dec.{eqb};
 
-// A place that shakes (category 3: no hour, `strength` is the intensity, `place` the prefecture) or
-// on which ash falls (category 9).
+// A place that a report names: when, how strong, and where. A category does not have all of it: in an
+// intensity report `strength` is the intensity and `place` the prefecture. What it does not have is zero.
 pub struct Slot {
+    pub day: u8,
     pub hour: u8,
+    pub minute: u8,
     pub strength: u8,
-    pub place: u32,
+    pub place: u64,
+}
+
+// The value is zero, where it has no bits.
+fn is_held(width: u8, value: u64) -> bool
+    ensures { λ r. ⌜ r ≡ cond (eqb width 0) (eqb value 0) true ⌝ }
+{
+    if width == 0 {
+        return value == 0;
+    }
+    true
+}
+
+// Nothing stands in the fields of which no bit is on the wire.
+pub(crate) fn is_vacant(widths: [u8; 5], values: [u64; 5]) -> bool
+    ensures { λ r. ⌜ r ≡ vacant widths values ⌝ }
+{
+    let mut i = 0;
+    while i < 5 {
+        if !is_held(widths[i], values[i]) {
+            return false;
+        }
+        i += 1;
+    }
+    true
 }
 
 impl Slot {
-    // All its bits are zero: "an empty slot is never named".
-    pub(crate) fn empty(self, kind: SlotKind) -> bool
-        ensures { λ r. ⌜ r ≡ empty (slotValues kind self) ⌝ }
+    pub fn none() -> Slot
+        ensures { λ r. ⌜ r ≡ noSlot ⌝ }
     {
-        match kind {
-            SlotKind::NoSlots => true,
-            SlotKind::Prefectures => self.strength == 0 && self.place == 0,
-            SlotKind::Places => {
-                if self.hour != 0 {
-                    return false;
-                }
-                self.strength == 0 && self.place == 0
-            }
+        Slot {
+            day: 0,
+            hour: 0,
+            minute: 0,
+            strength: 0,
+            place: 0,
         }
     }
 
-    // Nothing stands in what its category does not use.
-    pub(crate) fn is_tidy(self, kind: SlotKind) -> bool
-        ensures { λ r. ⌜ r ≡ empty (unused kind self) ⌝ }
+    // All it holds, in the order of the wire.
+    pub fn values(self) -> [u64; 5]
+        ensures { λ r. ⌜ r ≡ slotParts self ⌝ }
     {
-        match kind {
-            SlotKind::NoSlots => self.empty(SlotKind::Places),
-            SlotKind::Prefectures => self.hour == 0,
-            SlotKind::Places => true,
-        }
+        [
+            self.day as u64,
+            self.hour as u64,
+            self.minute as u64,
+            self.strength as u64,
+            self.place,
+        ]
+    }
+
+    // "An empty slot is never named".
+    pub fn is_empty(self) -> bool
+        ensures { λ r. ⌜ r ≡ empty (slotParts self) ⌝ }
+    {
+        is_vacant([0u8; 5], self.values())
     }
 }

@@ -4,7 +4,7 @@ use mathlib.Core.List.{List}
 use Prim.Native.Nat.{ℕ, _+_, _-_, _≤_, _<_}
 use native.Mathlib.Omega.{arith}
 use lib.ListN.{length, getD, drop}
-use Rattle.bits.specs.Frame.{placedIn, laidIn}
+use Rattle.bits.specs.Frame.{placedAny, laidIn}
 use Rattle.bits.proofs.LayLoop.{lay-more, lay-short, lay-behind, lay-done}
 use borrow.Author.Needs.{needs}
 use Rattle.bits.proofs.lay.Statement.{statement}
@@ -38,14 +38,14 @@ shared-slice-read-bits-in c = search needs
 bits-in-requires : tie.Need-bits-in-requires Inv-loop μ-loop
 bits-in-requires c κs = search needs
 
-mul-put : tie.Need-mul-put Inv-loop μ-loop
-mul-put c = search needs
+mul-put-any : tie.Need-mul-put-any Inv-loop μ-loop
+mul-put-any c = search needs
 
-shared-slice-read-put : tie.Need-shared-slice-read-put Inv-loop μ-loop
-shared-slice-read-put c = search needs
+shared-slice-read-put-any : tie.Need-shared-slice-read-put-any Inv-loop μ-loop
+shared-slice-read-put-any c = search needs
 
-put-requires : tie.Need-put-requires Inv-loop μ-loop
-put-requires c κs = search needs
+put-any-requires : tie.Need-put-any-requires Inv-loop μ-loop
+put-any-requires c κs = search needs
 
 add-at : tie.Need-add-at Inv-loop μ-loop
 add-at c = search needs
@@ -62,8 +62,8 @@ loop-again c =
     let a = c .before .before .before .before .before .before .before .before .before .before .args in
     let w = c .before .before .bits-in .ensures .0 in (
       omega arith,
-      (λ j. laidIn (c .put .ensures j) (l .at + w j) (drop (l .k + 1) (a .widths .now)) (drop (l .k + 1) (a .values .now)))
-          ∙ ap (λ (x : ℕ). laidIn (placedIn (l .next) (l .at) x (getD (a .values .now) (l .k) 0)) (l .at + getD (a .widths .now) (l .k) 0) (drop (l .k + 1) (a .widths .now)) (drop (l .k + 1) (a .values .now))) w
+      (λ j. laidIn (c .put-any .ensures j) (l .at + w j) (drop (l .k + 1) (a .widths .now)) (drop (l .k + 1) (a .values .now)))
+          ∙ ap (λ (x : ℕ). laidIn (placedAny (l .next) (l .at) x (getD (a .values .now) (l .k) 0)) (l .at + getD (a .widths .now) (l .k) 0) (drop (l .k + 1) (a .widths .now)) (drop (l .k + 1) (a .values .now))) w
           ∙ lay-more (l .next) (a .widths .now) (a .values .now) (l .at) (l .k) (omega arith) (omega arith) (omega arith)
           ∙ l .inv .1,
     )
@@ -85,9 +85,9 @@ lay-spec =
     returns-2
     shared-slice-read-bits-in
     bits-in-requires
-    mul-put
-    shared-slice-read-put
-    put-requires
+    mul-put-any
+    shared-slice-read-put-any
+    put-any-requires
     add-at
     add-k
     loop-less

@@ -1,30 +1,27 @@
 -- The values of the record of a frame are the values of the frame.
-use Rattle.report.specs.declared.record.Body.{Body}
-use mathlib.Core.Bool.{true}
-use mathlib.Core.Path.{_≡_, refl, ap, ap₂, _∙_, subst}
-use mathlib.Core.Logic.{⊎-elim}
-use Prim.Native.Nat.{ℕ, _+_, _≤_, _-_, _*_}
-use native.Mathlib.Omega.{arith}
+use mathlib.Core.Path.{_≡_, ap, ap₂, _∙_}
+use Prim.Native.Nat.{ℕ}
 use mathlib.Core.List.{List, map}
 use borrow.Author.Tests.{eqb-true}
-use Rattle.bits.specs.Frame.{fieldIn, fieldOf}
+use Rattle.bits.specs.Frame.{fieldOf}
 use Rattle.rows.specs.declared.refusal.Verdict.{Verdict}
 use Rattle.rows.specs.declared.refusal.Verdict.the-variants.{Fine}
 use Rattle.report.specs.declared.record.Record.{Record}
 use Rattle.report.specs.declared.read.Reading.{Reading}
-use Rattle.rows.specs.Layout.{slotRows, Layout, common, ending}
-use Rattle.report.specs.Layout.{slotKind, firstBit, firstWidth, layout, categories}
-use Rattle.rows.specs.Values.{each, Values, cut, valuesOf, lastValues}
+use Rattle.rows.specs.Layout.{Layout, common, ending}
+use Rattle.rows.specs.Values.{Values, cut, valuesOf, lastValues, Sides, commonOf, headValues, spareIn}
 use Rattle.rows.specs.Runs.Verdict.{verdict}
-use Rattle.report.specs.Records.{slotsValues, behindValues, commonOf, bodyBy, bodyOf, textOf, recordAs, recordOf, headValues, bodyValues, values}
+use Rattle.report.specs.Records.{bodyOf, textOf, recordAs, recordOf, values}
 use Rattle.report.specs.Runs.Reading.{outerOf, innerOf, reading}
 use Rattle.rows.specs.Kept.{In}
 use Rattle.rows.proofs.Rules.Spans.{allowed-in}
 use Rattle.rows.proofs.Rules.Outcomes.{fine-both, unless-fine}
-use Rattle.slots.proofs.Agree.{slots-agree}
-use Rattle.report.specs.Runs.Writing.{known}
-use Rattle.slots.specs.Slots.{slotsOf}
-use Rattle.report.proofs.Tables.Lengths.{kind-table}
+use Rattle.report.specs.Categories.{categories, layout}
+use lib.ListN.{length, length-map, take}
+use Rattle.slots.proofs.Tables.{slots-agree}
+use Rattle.report.proofs.Tables.{suited-slots}
+use Rattle.report.proofs.Categories.{suits}
+use lib.Seq.{take-at}
 
 -- what 5, 6 and 7 leave
 pub record Outer (s : List ℕ) : Type 0 where
@@ -43,63 +40,42 @@ outer s e =
       category = allowed-in categories _ (unless-fine _ _ (v .1));
     }
 
--- what holds of each category holds of all
-by-category : (P : ℕ → Type 0) → P 2 → P 3 → P 4 → P 9 → (dc : ℕ) → In categories dc → P dc
-by-category P two three four nine dc h =
-    ⊎-elim (λ k. subst P (only 2 dc k) two)
-    (λ h. ⊎-elim (λ k. subst P (only 3 dc k) three)
-    (λ h. ⊎-elim (λ k. subst P (only 4 dc k) four) (λ h. ⊎-elim (λ k. subst P (only 9 dc k) nine) (λ h. absurd h) h) h) h)
-    h
-  where
-    only : (n dc : ℕ) → (n ≤ dc) × (dc ≤ n) → n ≡ dc
-    only n dc k = omega arith
-
--- the spares of a frame, as the code reads them: that at bit 43, and that behind the slots, which ends before bit 214
-abbrev pub spareFront : List ℕ → Layout → ℕ
-spareFront s l = fieldIn 57 s 43 (firstWidth (l .front))
-
-abbrev pub spareBehind : List ℕ → Layout → ℕ
-spareBehind s l = fieldIn 57 s (firstBit (l .behind)) (214 - firstBit (l .behind))
-
--- a body that was made by the code dc
-pub record Suits (s : List ℕ) (dc : ℕ) : Type 0 where
-  pub code : layout (bodyBy s dc) .code ≡ dc
-  pub front : bodyValues (bodyBy s dc) (textOf s (bodyBy s dc)) (spareFront s (layout (bodyBy s dc))) ≡ map (cut s) (layout (bodyBy s dc) .front)
-  pub behind : behindValues (layout (bodyBy s dc)) (spareBehind s (layout (bodyBy s dc))) ≡ map (cut s) (layout (bodyBy s dc) .behind)
-  pub known : known (bodyBy s dc) ≡ true
-
-pub suits : (s : List ℕ) (dc : ℕ) → In categories dc → Suits s dc
-unfolding bodyBy bodyValues textOf
-suits s = by-category (Suits s) (record { code = refl; front = refl; behind = refl; known = refl }) (record { code = refl; front = refl; behind = refl; known = refl })
-    (record { code = refl; front = refl; behind = refl; known = refl }) (record { code = refl; front = refl; behind = refl; known = refl })
-
 -- ---- part by part
 
 head-agrees : (s : List ℕ) (l : Layout) → fieldOf s 8 6 ≡ 43 → l .code ≡ fieldOf s 17 4 → headValues (commonOf s) (l .code) ≡ map (cut s) (common l)
 head-agrees s l m e = rw (e, ← m)
 
-pub body-slots : (s : List ℕ) (b : Body) → slotsValues b (slotsOf s (slotKind b))
-    ≡ each (layout b .slots .count) (λ i. map (cut s) (slotRows (layout b .slots) (layout b .slots .first + layout b .slots .bits * i)))
-body-slots s b = rw (kind-table b) at (slots-agree s (slotKind b))
+-- the text of a frame, cut from the record's 18 bytes
+pub text-agrees : (s : List ℕ) (l : Layout) → take (length (l .text)) (textOf s l) ≡ map (cut s) (l .text)
+text-agrees s l = take-at (map (cut s) (l .text)) _ (length (l .text)) (length-map (l .text) (cut s))
 
 last-agrees : (s : List ℕ) → fieldOf s 214 6 ≡ 1 → lastValues (fieldOf s 220 6) ≡ map (cut s) ending
 last-agrees s e = rw (← e)
 
 -- ---- together
 
-same : (h h′ f f′ : List ℕ) (t t′ : List (List ℕ)) (b b′ e e′ : List ℕ) → h ≡ h′ → f ≡ f′ → t ≡ t′ → b ≡ b′ → e ≡ e′
-    → _≡_ {A = Values} (record { head = h; front = f; slots = t; behind = b; last = e }) (record { head = h′; front = f′; slots = t′; behind = b′; last = e′ })
-same h h′ f f′ t t′ b b′ e e′ p q r s u = λ i. record { head = p i; front = q i; slots = r i; behind = s i; last = u i }
+same : (h h′ f f′ : List ℕ) (t t′ : List (List ℕ)) (x x′ b b′ e e′ : List ℕ) → h ≡ h′ → f ≡ f′ → t ≡ t′ → x ≡ x′ → b ≡ b′ → e ≡ e′
+    → _≡_ {A = Values} (record { head = h; front = f; slots = t; text = x; behind = b; last = e }) (record { head = h′; front = f′; slots = t′; text = x′; behind = b′; last = e′ })
+same h h′ f f′ t t′ x x′ b b′ e e′ p q r u v w = λ i. record { head = p i; front = q i; slots = r i; text = u i; behind = v i; last = w i }
 
-pub agree : (s : List ℕ) → Outer s → values (recordOf s) (spareFront s (layout (bodyOf s))) (spareBehind s (layout (bodyOf s))) ≡ valuesOf s (layout (bodyOf s))
+-- the spares of a frame
+abbrev pub spareFront : List ℕ → ℕ
+spareFront s = spareIn s (layout (bodyOf s) .front)
+
+abbrev pub spareBehind : List ℕ → ℕ
+spareBehind s = spareIn s (layout (bodyOf s) .behind)
+
+pub agree : (s : List ℕ) → Outer s → values (recordOf s) (spareFront s) (spareBehind s) ≡ valuesOf s (layout (bodyOf s))
 unfolding values valuesOf recordAs
 agree s o =
     let fits = suits s (fieldOf s 17 4) (o .category) in
-    same _ _ _ _ _ _ _ _ _ _ (head-agrees s (layout (bodyOf s)) (o .message) (fits .code)) (fits .front) (body-slots s (bodyOf s)) (fits .behind) (last-agrees s (o .version))
+    let l = layout (bodyOf s) in
+    same _ _ _ _ _ _ _ _ _ _ _ _ (head-agrees s l (o .message) (fits .code)) (ap (λ (v : Sides). v .front) (fits .sides)) (slots-agree (l .slots) (suited-slots (bodyOf s)) s)
+    (text-agrees s l) (ap (λ (v : Sides). v .behind) (fits .sides)) (last-agrees s (o .version))
 
 -- so a record that is checked beside its spares is judged as its frame is
-pub judged : (s : List ℕ) (r : Record) (x y : ℕ) (v : Verdict) (out : Reading) → Outer s → r ≡ recordOf s → x ≡ spareFront s (layout (r .body))
-    → y ≡ spareBehind s (layout (r .body)) → v ≡ verdict (layout (r .body)) (values r x y)
+pub judged : (s : List ℕ) (r : Record) (x y : ℕ) (v : Verdict) (out : Reading) → Outer s → r ≡ recordOf s → x ≡ spareFront s → y ≡ spareBehind s
+    → v ≡ verdict (layout (r .body)) (values r x y)
     → out ≡ reading v r → out ≡ reading (innerOf s) (recordOf s)
 unfolding recordAs
 judged s r x y v out o e f g h k =
@@ -107,6 +83,6 @@ judged s r x y v out o e f g h k =
     ∙ ap₂ reading
     (h
     ∙ ap₂ (λ (x y : ℕ). verdict (layout (r .body)) (values r x y)) f g
-    ∙ ap (λ (q : Record). verdict (layout (q .body)) (values q (spareFront s (layout (q .body))) (spareBehind s (layout (q .body))))) e
+    ∙ ap (λ (q : Record). verdict (layout (q .body)) (values q (spareFront s) (spareBehind s))) e
     ∙ ap (verdict (layout (bodyOf s))) (agree s o))
     e

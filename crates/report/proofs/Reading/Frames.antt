@@ -13,7 +13,6 @@ use Rattle.rows.specs.declared.refusal.Verdict.the-variants.{Fine, Refused}
 use Rattle.rows.specs.declared.refusal.Refusal.{Refusal}
 use Rattle.rows.specs.declared.refusal.Refusal.the-variants.{Length, Padding, Preamble, Parity, Message, Version, Category, Range, Gap}
 use Rattle.rows.specs.Layout.{Layout}
-use Rattle.report.specs.Layout.{layout, preambles, categories}
 use Rattle.rows.specs.Values.{Values, valuesOf}
 use Rattle.rows.specs.Runs.Verdict.{allowed}
 use Rattle.report.specs.Records.{bodyOf}
@@ -26,9 +25,10 @@ use Rattle.rows.proofs.Rules.Outcomes.{then-assoc}
 use Rattle.rows.proofs.Rules.Judged.{turn-place, turn}
 use Rattle.rows.proofs.Rules.Spans.{allowed-in, in-allowed}
 use Rattle.rows.proofs.Rules.JudgedFrames.{JudgesAll}
-use Rattle.report.proofs.Reading.JudgedFrames.{whole}
 use Rattle.rows.proofs.Rules.Ordered.{Met, Answers, unquestioned, question, past}
 use Rattle.rows.proofs.Layouts.Lengths.{length-each}
+use Rattle.report.specs.Categories.{categories, layout, preambles}
+use Rattle.report.proofs.Tables.{judged-all}
 
 -- ---- 8, 9, 10
 
@@ -41,7 +41,7 @@ frameValues s = valuesOf s (layoutOf s)
 
 inner : (s : List ℕ) → JudgesAll (layoutOf s) (frameValues s)
 unfolding valuesOf
-inner s = whole (bodyOf s) (frameValues s) (length-each (layoutOf s .slots .count) _)
+inner s = judged-all (bodyOf s) (frameValues s) (length-each (layoutOf s .slots .count) _)
 
 lowest : (s : List ℕ) (x : Refusal) → innerOf s ≡ Refused x → Lowest (layoutOf s) (frameValues s) x
 lowest s x e = record { there = inner s .found x e; lowest = λ y f. turn-place x y (inner s .earliest x y e f) }

@@ -4,7 +4,7 @@ use mathlib.Core.Bool.{true}
 use Prim.Native.Nat.{ℕ, zero, suc, _≤_, _<_}
 use native.Mathlib.Omega.{arith}
 use Rattle.rows.specs.Runs.Verdict.{allowed}
-use Rattle.report.specs.Layout.{categories}
+use Rattle.report.specs.Categories.{categories}
 
 -- a `match` puts the categories 2, 3 and 4 into one range
 pub two-to-four : (v : ℕ) → 2 ≤ v → v < 5 → allowed categories v ≡ true

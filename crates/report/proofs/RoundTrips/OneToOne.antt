@@ -11,9 +11,9 @@ use Rattle.report.specs.Records.{bodyOf, recordOf}
 use Rattle.report.specs.Runs.Reading.{readOf}
 use Rattle.report.specs.Conforms.{Conforms}
 use Rattle.report.specs.Runs.Writing.{frame, Valid}
-use Rattle.report.proofs.Tables.Shapes.{Shaped, frame-shaped}
 use Rattle.report.proofs.RoundTrips.ReadThenWritten.{reads, record-read, frame-valid, frame-again}
 use Rattle.report.proofs.RoundTrips.WrittenThenRead.{returns}
+use Rattle.report.proofs.Shaped.{Shaped, frame-shaped}
 
 -- a frame that is read is the frame that its record writes
 pub frame-of-record : (s : List ℕ) (r : Record) → Bytes s → readOf s ≡ record { answer = Fine; «record» = r } → s ≡ bytesOf (frame r)

@@ -1,5 +1,5 @@
 -- What is read and then written is the frame.
-use mathlib.Core.Bool.{true}
+use mathlib.Core.Bool.{true, Bool, cond, false}
 use mathlib.Core.Path.{ap₂, _≡_, refl, sym, ap, _∙_, subst}
 use Prim.Native.Nat.{ℕ, _+_, _*_, _/_, _%_, _^_, _<_}
 use native.Mathlib.Nat.{mod-eq-of-lt}
@@ -7,7 +7,7 @@ use mathlib.Core.List.{map, [], List, _∷_}
 use lib.ListN.{length}
 use lib.Pow.{shr-lt}
 use Rattle.bits.specs.Layout.{encode}
-use Rattle.bits.specs.Frame.{Bytes, number, bytesOf, fieldOf}
+use Rattle.bits.specs.Frame.{Bytes, number, bytesOf, fieldOf, fieldIn, lies}
 use Rattle.bits.proofs.Layouts.{encode-decode}
 use Rattle.bits.proofs.Bytes.{bytesOf-number}
 use Rattle.bits.proofs.Frames.{number-256}
@@ -15,62 +15,67 @@ use Rattle.parity.specs.Parity.{parityOfFront}
 use Rattle.parity.proofs.Front.{parity-of-front}
 use Rattle.rows.specs.declared.refusal.Verdict.{Verdict}
 use Rattle.rows.specs.declared.refusal.Verdict.the-variants.{Fine, Refused}
-use Rattle.report.specs.declared.record.Body.{Body}
-use Rattle.report.specs.declared.record.Body.the-variants.{NoCategory, Hypocenter, Intensity, Nankai, AshFall}
 use Rattle.report.specs.declared.record.Record.{Record}
-use Rattle.report.specs.Layout.{layout}
 use Rattle.report.specs.Records.{bodyOf, recordAs, recordOf, values}
-use Rattle.rows.specs.Values.{cut, valuesOf, flat}
+use Rattle.rows.specs.Values.{cut, valuesOf, flat, isSpare, spareIn}
 use Rattle.report.specs.Runs.Reading.{readAnswer, reading, readOf}
 use Rattle.report.specs.Conforms.{Conforms}
-use Rattle.rows.specs.Kept.{Kept, Holds}
-use Rattle.report.specs.Runs.Writing.{known, frontWidths, front, frame, written, writeAnswer, writeOf, Valid}
+use Rattle.rows.specs.Kept.{Kept, Holds, In, Keeps}
+use Rattle.report.specs.Runs.Writing.{known, frontWidths, front, frame, written, writeAnswer, writeOf, Valid, tidy}
 use Rattle.report.specs.Rules.{KeepsRules}
-use Rattle.report.proofs.Reading.Agree.{spareBehind, spareFront, Outer, suits, agree}
+use Rattle.report.proofs.Reading.Agree.{Outer, agree}
 use Rattle.report.proofs.Reading.Frames.{layoutOf, frameValues, fine-conforming}
-use Rattle.report.proofs.Tables.Shapes.{frame-shaped}
-use Rattle.report.proofs.Tables.Rows.{front-total, front-fields}
 use Rattle.rows.proofs.Layouts.Rows.{values-flat}
 use Rattle.report.proofs.Writing.Unused.{is-tidy, frame-tidy}
-use Rattle.report.proofs.Writing.Validity.{is-known, keeps-valid}
+use Rattle.report.proofs.Writing.Validity.{is-known, keeps-valid, above}
 use Rattle.report.proofs.Writing.Ends.{ended-again}
-use Rattle.rows.proofs.Rules.Outcomes.{false-not-true}
+use Rattle.rows.specs.Layout.{Row, Rule, among, rising, spare}
+use Rattle.report.specs.Categories.{categories, layout}
+use Rattle.report.proofs.Shaped.{frame-shaped}
+use Rattle.report.proofs.Tables.{front-fields, front-total}
+use borrow.Author.Tests.{lt-ltb}
+use lib.Dec.{ltb}
+use Rattle.report.proofs.Categories.{suits}
 
 -- ---- the values of the record are those of the frame, for the frame's spares are zero
 
 outer-of : (s : List ℕ) → Conforms s → Outer s
 outer-of s c = record { message = c .message; version = c .version; category = c .category }
 
--- the spare in front is the first row of every table, so a frame that conforms has zero there, and so it has behind the slots
-first-zero : (s : List ℕ) (b : Body) → Kept [] (layout b .front) (map (cut s) (layout b .front)) → spareFront s (layout b) ≡ 0
-first-zero s NoCategory k = k .0
-first-zero s (Hypocenter q) k = k .0
-first-zero s (Intensity t) k = k .0
-first-zero s (Nankai p) k = k .0
-first-zero s (AshFall e) k = k .0
+-- a spare that keeps its rule is zero
+zero-in : (s : List ℕ) (r : Row) → fieldOf s (r .first) (r .width) ≡ 0 → fieldIn 57 s (r .first) (r .width) ≡ 0
+zero-in s r e = by (lies 57 (r .first) (r .width))
+  where
+    by : (b : Bool) → cond b (fieldOf s (r .first) (r .width)) 0 ≡ 0
+    by true = e
+    by false = refl
 
-behind-zero : (s : List ℕ) (b : Body) → known b ≡ true → Kept [] (layout b .behind) (map (cut s) (layout b .behind)) → spareBehind s (layout b) ≡ 0
-behind-zero s NoCategory h k = absurd (false-not-true h)
-behind-zero s (Hypocenter q) h k = k .0
-behind-zero s (Intensity t) h k = k .0
-behind-zero s (Nankai p) h k = k .0
-behind-zero s (AshFall e) h k = k .0
+spare-zero : (s : List ℕ) (past : List ℕ) (rs : List Row) → Kept past rs (map (cut s) rs) → spareIn s rs ≡ 0
+spare-zero s past [] k = refl
+spare-zero s past (r ∷ rs) k = by (r .rule) (k .0) (spare-zero s (cut s r ∷ past) rs (k .1))
+  where
+    by : (x : Rule) → Keeps x past (cut s r) (map (cut s) rs) → spareIn s rs ≡ 0 → cond (isSpare x) (fieldIn 57 s (r .first) (r .width)) (spareIn s rs) ≡ 0
+    by (among ss) h e = e
+    by (rising hi) h e = e
+    by spare h e = zero-in s r h
 
 pub same-values : (s : List ℕ) → Conforms s → values (recordOf s) 0 0 ≡ frameValues s
 unfolding valuesOf
 same-values s c =
-    let known = suits s (fieldOf s 17 4) (c .category) .known in
-    ap₂ (values (recordOf s)) (sym (first-zero s (bodyOf s) (c .rows .front))) (sym (behind-zero s (bodyOf s) known (c .rows .behind)))
+    ap₂ (values (recordOf s)) (sym (spare-zero s [] (layout (bodyOf s) .front) (c .rows .front))) (sym (spare-zero s [] (layout (bodyOf s) .behind) (c .rows .behind)))
     ∙ agree s (outer-of s c)
 
 -- ---- so it is valid
+
+frame-known : (s : List ℕ) → In categories (fieldOf s 17 4) → known (bodyOf s) ≡ true
+frame-known s h = ap (ltb 0) (suits s (fieldOf s 17 4) h .code) ∙ lt-ltb 0 (fieldOf s 17 4) (above categories (fieldOf s 17 4) refl h)
 
 pub frame-keeps : (s : List ℕ) → Conforms s → KeepsRules (recordOf s)
 unfolding recordAs
 frame-keeps s c =
     record {
       preamble = c .preamble;
-      category = is-known (bodyOf s) (suits s (fieldOf s 17 4) (c .category) .known);
+      category = is-known (bodyOf s) (frame-known s (c .category));
       tidy = is-tidy (recordOf s) (frame-tidy s (bodyOf s));
       rows = subst (Holds (layoutOf s)) (sym (same-values s c)) (c .rows);
     }

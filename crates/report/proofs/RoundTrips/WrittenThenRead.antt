@@ -2,8 +2,7 @@
 use mathlib.Core.Path.{_≡_, refl, sym, ap, ap₂, _∙_, subst}
 use Prim.Native.Nat.{ℕ, _+_, _*_, _/_, _%_, _^_, _<_}
 use native.Mathlib.Nat.{mod-eq-of-lt}
-use native.Mathlib.Omega.{arith}
-use mathlib.Core.Logic.{inl, inr}
+use mathlib.Core.Logic.{⊎-elim}
 use mathlib.Core.List.{List, _∷_, map}
 use lib.ListN.{length, getD, drop}
 use Rattle.bits.specs.Layout.{encode, decode, Fit}
@@ -13,36 +12,34 @@ use Rattle.bits.proofs.Bytes.{number-bytesOf}
 use Rattle.parity.specs.Parity.{parityOf, parityOfFront}
 use Rattle.parity.proofs.Front.{parity-of-front}
 use Rattle.rows.specs.declared.refusal.Verdict.the-variants.{Fine}
-use Rattle.report.specs.declared.record.Body.{Body}
-use Rattle.report.specs.declared.record.Body.the-variants.{NoCategory, Hypocenter, Intensity, Nankai, AshFall}
 use Rattle.report.specs.declared.record.Record.{Record}
-use Rattle.report.specs.Layout.{slotKind, layout, preambles, categories}
 use Rattle.rows.specs.Layout.{allRows}
-use Rattle.rows.specs.Values.{Values, cut, valuesOf}
-use Rattle.report.specs.Records.{bodyOf, recordAs, recordOf, values}
+use Rattle.rows.specs.Values.{Values, cut, valuesOf, partWidths, sidesAt}
+use Rattle.report.specs.Records.{bodyOf, recordAs, recordOf, values, bodyBy}
 use Rattle.slots.specs.Slots.{slotsOf, tidySlots}
 use Rattle.report.specs.Runs.Reading.{reading, readOf}
 use Rattle.rows.specs.Kept.{In, Holds}
 use Rattle.report.specs.Conforms.{Conforms}
-use Rattle.report.specs.Runs.Writing.{frontValues, frontWidths, tidyText, front, frame, writeOf, Valid}
+use Rattle.report.specs.Runs.Writing.{frontValues, frontWidths, front, frame, writeOf, Valid}
 use Rattle.report.specs.Rules.{KeepsRules}
 use Rattle.rows.proofs.Rules.Outcomes.{and-both}
 use Rattle.report.proofs.Reading.Frames.{conforming-fine}
 use Rattle.rows.proofs.Layouts.Lengths.{frame-filled}
-use Rattle.report.proofs.Tables.Lengths.{kind-table, record-filled}
-use Rattle.report.proofs.Tables.Shapes.{Shaped, frame-shaped}
-use Rattle.report.proofs.Tables.Rows.{fits-all, front-total, front-fields}
 use Rattle.rows.proofs.Layouts.Rows.{values-flat}
 use Rattle.rows.proofs.Layouts.Fits.{in-below, holds-fit}
 use Rattle.rows.proofs.Layouts.Flattened.{flat-same}
-use Rattle.report.proofs.RoundTrips.Parts.{same-body, same-text}
-use Rattle.slots.proofs.Same.{same-slots}
 use Rattle.report.proofs.Writing.Unused.{tidy-is}
-use Rattle.slots.proofs.Tidy.{frame-slots-tidy}
 use Rattle.report.proofs.Writing.Validity.{valid-keeps}
 use Rattle.report.proofs.Writing.Ends.{parity-lt, ended-lt, ended-front, ended-parity, ended-padding}
 use Rattle.report.proofs.RoundTrips.ReadThenWritten.{valid-written}
-use Rattle.report.proofs.Reading.Agree.{body-slots}
+use Rattle.report.specs.declared.body.Body.{Body}
+use Rattle.report.specs.declared.body.Body.the-variants.{NoCategory}
+use Rattle.report.proofs.Shaped.{Shaped, frame-shaped, record-filled}
+use Rattle.report.proofs.Categories.{body-again, text-apart, told-apart}
+use Rattle.report.specs.Categories.{categories, layout, preambles, sidesOf}
+use Rattle.report.proofs.Tables.{fits-all, front-fields, front-total, suited-slots}
+use Rattle.slots.proofs.Tables.{frame-slots-tidy, same-slots, slots-agree}
+use Rattle.report.proofs.Texts.{same-text}
 
 -- ---- the number that is written
 
@@ -50,7 +47,7 @@ use Rattle.report.proofs.Reading.Agree.{body-slots}
 pub front-fit : (r : Record) → Shaped r → KeepsRules r → Fit (frontWidths (layout (r .body))) (frontValues r)
 front-fit r s k =
     let l = layout (r .body) in
-    (in-below 256 preambles (r .preamble) refl (k .preamble), holds-fit l (values r 0 0) (record-filled r 0 0 (s .slots) (s .text)) (fits-all (r .body)) (k .rows))
+    (in-below 256 preambles (r .preamble) refl (k .preamble), holds-fit l (values r 0 0) (record-filled r 0 0 s) (fits-all (r .body)) (k .rows))
 
 pub front-lt : (r : Record) → Shaped r → KeepsRules r → front r < 2 ^ 226
 unfolding front
@@ -90,7 +87,7 @@ wrote r h k =
       padding = ap (λ (x : ℕ). x / 1 % 2 ^ 6) n ∙ ended-padding m p small;
       parity = parity-of-front s ∙ ap parityOfFront f ∙ sym (ap (λ (x : ℕ). x / 2 ^ 6 % 2 ^ 24) n ∙ ended-parity m p small);
       preamble = ap (λ (vs : List ℕ). getD vs 0 0) e;
-      same = flat-same l (valuesOf s l) (values r 0 0) (frame-filled s l) (record-filled r 0 0 (h .slots) (h .text)) (values-flat s l ∙ ap (drop 1) e);
+      same = flat-same l (valuesOf s l) (values r 0 0) (frame-filled s l) (record-filled r 0 0 h) (values-flat s l ∙ ap (drop 1) e);
     }
 
 -- ---- its record
@@ -107,23 +104,24 @@ seen : (r : Record) (s : List ℕ) → Shaped r → KeepsRules r → Wrote r s �
 unfolding valuesOf values recordAs
 seen r s h keeps w =
     let l = layout (r .body) in
-    let k = slotKind (r .body) in
-    let n = l .slots .count in
+    let k = l .slots in
+    let fits = suited-slots (r .body) in
     let e = w .same in
     -- the value i of the head, and of the last fields
     let head : (i : ℕ) → getD (valuesOf s l .head) i 0 ≡ getD (values r 0 0 .head) i 0 = λ i. ap (λ (v : Values). getD (v .head) i 0) e in
     let last : (i : ℕ) → getD (valuesOf s l .last) i 0 ≡ getD (values r 0 0 .last) i 0 = λ i. ap (λ (v : Values). getD (v .last) i 0) e in
-    let t = and-both (tidySlots k n (r .slots)) (tidyText (r .body) (r .text)) (tidy-is r (keeps .tidy)) in
+    let sides : sidesAt s l ≡ sidesOf (r .body) 0 0 = λ i. record { front = e i .front; behind = e i .behind } in
+    let t = and-both (tidySlots (partWidths k) (k .count) (r .slots)) _ (tidy-is r (keeps .tidy)) in
     let slots : slotsOf s k ≡ r .slots =
-    same-slots k n (slotsOf s k) (r .slots) (frame-shaped s (r .body) .slots ∙ sym (h .slots)) (rw (kind-table (r .body)) at (frame-slots-tidy s k)) (t .0)
-    (body-slots s (r .body) ∙ ap (λ (v : Values). v .slots) e)
+    same-slots k fits (k .count) (slotsOf s k) (r .slots) (frame-shaped s (r .body) .slots ∙ sym (h .slots)) (frame-slots-tidy k fits s) (t .0)
+    (slots-agree k fits s ∙ ap (λ (v : Values). v .slots) e)
     in
-    let text = same-text s (r .body) (r .text) 0 (h .text) (t .1) (ap (λ (v : Values). v .front) e) in
+    let text = same-text s l (r .text) (text-apart (r .body)) (h .text) (keeps .tidy .text) (ap (λ (v : Values). v .text) e) in
     record {
       message = head 0;
       version = last 0;
       code = head 2;
-      body = same-body s (r .body) (r .text) 0 (h .text) (head 2) (ap (λ (v : Values). v .front) e);
+      body = ap (bodyBy s) (head 2) ∙ body-again (r .body) 0 0 (sidesAt s) sides;
       whole = λ i. record {
         preamble = w .preamble i;
         reserved = last 1 i;
@@ -137,11 +135,7 @@ seen r s h keeps w =
 -- ---- so it conforms
 
 known-category : (b : Body) → (b ≡ NoCategory → ⊥) → In categories (layout b .code)
-known-category NoCategory h = absurd (h refl)
-known-category (Hypocenter q) h = inl (omega arith, omega arith)
-known-category (Intensity t) h = inr (inl (omega arith, omega arith))
-known-category (Nankai p) h = inr (inr (inl (omega arith, omega arith)))
-known-category (AshFall e) h = inr (inr (inr (inl (omega arith, omega arith))))
+known-category b h = ⊎-elim (λ e. absurd (h e)) (λ k. k) (told-apart b)
 
 -- the frame that a valid record writes conforms, and its record is that record
 pub record Returns (r : Record) (s : List ℕ) : Type 0 where

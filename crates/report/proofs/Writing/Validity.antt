@@ -1,22 +1,18 @@
 -- What writing a record answers, and what the record is.
 use mathlib.Core.Path.{_≡_, refl, sym, ap, _∙_}
-use mathlib.Core.Bool.{true}
-use Prim.Native.Nat.{ℕ}
-use lib.ListN.{length, take, length-map}
-use lib.Dec.{eqb}
-use borrow.Author.Tests.{eqb-true, eq-eqb}
+use mathlib.Core.Bool.{true, Bool, _&&_}
+use Prim.Native.Nat.{ℕ, _<_}
+use lib.ListN.{length}
+use lib.Dec.{eqb, ltb}
+use borrow.Author.Tests.{eqb-true, eq-eqb, lt-ltb, ltb-true}
 use Rattle.rows.specs.declared.refusal.Verdict.{Verdict}
 use Rattle.rows.specs.declared.refusal.Verdict.the-variants.{Refused}
 use Rattle.rows.specs.declared.refusal.Refusal.{Refusal}
 use Rattle.rows.specs.declared.refusal.Refusal.the-variants.{Length, Preamble, Category, Unused}
-use Rattle.report.specs.declared.record.Body.{Body}
-use Rattle.report.specs.declared.record.Body.the-variants.{NoCategory, Hypocenter, Intensity, Nankai, AshFall}
 use Rattle.report.specs.declared.record.Record.{Record}
-use Rattle.rows.specs.Layout.{Layout}
-use Rattle.report.specs.Layout.{slotKind, layout, preambles}
+use Rattle.rows.specs.Layout.{Layout, Span, _to_}
 use Rattle.rows.specs.Values.{Values}
 use Rattle.rows.specs.Runs.Verdict.{allowed, verdict}
-use Rattle.slots.specs.Slots.{slotTable, slotValues}
 use Rattle.report.specs.Records.{values}
 use Rattle.rows.specs.Kept.{In}
 use Rattle.rows.specs.Faults.{Lowest}
@@ -24,15 +20,21 @@ use Rattle.report.specs.Rules.{Tidy, KeepsRules}
 use Rattle.report.specs.Reasons.{writeQuestions, WhyNotWritten}
 use Rattle.report.specs.Runs.Writing.{known, tidy, writeAnswer, Valid}
 use Rattle.rows.proofs.Rules.Judged.{turn-place}
-use Rattle.rows.proofs.Rules.Outcomes.{false-not-true}
+use Rattle.rows.proofs.Rules.Outcomes.{false-not-true, and-both}
 use Rattle.rows.proofs.Rules.Spans.{allowed-in, in-allowed}
 use Rattle.rows.proofs.Rules.JudgedFrames.{JudgesAll}
-use Rattle.report.proofs.Reading.JudgedFrames.{whole}
 use Rattle.rows.proofs.Rules.Ordered.{Met, Answers, unquestioned, question}
-use Rattle.slots.proofs.SlotLoop.{taken}
-use Rattle.report.proofs.Tables.Shapes.{Shaped}
 use Rattle.report.proofs.Writing.Unused.{is-tidy, tidy-is}
-use Rattle.report.proofs.Tables.Lengths.{kind-table}
+use Rattle.report.specs.declared.body.Body.{Body}
+use mathlib.Core.List.{List, [], _∷_}
+use Rattle.report.specs.declared.body.Body.the-variants.{NoCategory}
+use Rattle.report.proofs.Shaped.{Shaped}
+use Rattle.report.specs.Categories.{categories, layout, preambles}
+use Rattle.report.proofs.Tables.{judged-all, suited-slots}
+use native.Mathlib.Nat.{lt-of-lt-of-le}
+use Rattle.slots.proofs.Tables.{slots-counted}
+use Rattle.report.proofs.Categories.{told-apart}
+use mathlib.Core.Logic.{⊎-elim}
 
 -- ---- 8, 10
 
@@ -48,21 +50,27 @@ innerWrite r = verdict (recordLayout r) (recordValues r)
 
 pub judged-record : (r : Record) → length (r .slots) ≡ 16 → JudgesAll (recordLayout r) (recordValues r)
 unfolding values
-judged-record r n =
-    let k = slotKind (r .body) in
-    whole (r .body) (recordValues r) (rw (kind-table (r .body)) at (length-map (take (slotTable k .count) (r .slots)) (slotValues k) ∙ taken k (r .slots) n))
+judged-record r n = judged-all (r .body) (recordValues r) (slots-counted (layout (r .body) .slots) (suited-slots (r .body)) (r .slots) n)
 
 -- ---- 1, 3, 7, 11
 
 pub is-known : (b : Body) → known b ≡ true → b ≡ NoCategory → ⊥
 is-known b e n = false-not-true (sym (ap known n) ∙ e)
 
-known-is : (b : Body) → (b ≡ NoCategory → ⊥) → known b ≡ true
-known-is NoCategory h = absurd (h refl)
-known-is (Hypocenter q) h = refl
-known-is (Intensity t) h = refl
-known-is (Nankai p) h = refl
-known-is (AshFall e) h = refl
+-- each span starts above n
+abbrev pub allAbove : ℕ → List Span → Bool
+allAbove n [] = true
+allAbove n ((lo to hi) ∷ ss) = ltb n lo && allAbove n ss
+
+-- the code of a category is not zero
+pub above : (ss : List Span) (dc : ℕ) → allAbove 0 ss ≡ true → In ss dc → 0 < dc
+above [] dc t h = absurd h
+above ((lo to hi) ∷ ss) dc t h =
+    let q = and-both (ltb 0 lo) (allAbove 0 ss) t in
+    ⊎-elim (λ k. lt-of-lt-of-le (ltb-true 0 lo (q .0)) (k .0)) (above ss dc (q .1)) h
+
+pub known-is : (b : Body) → (b ≡ NoCategory → ⊥) → known b ≡ true
+known-is b h = ⊎-elim (λ e. absurd (h e)) (λ k. lt-ltb 0 (layout b .code) (above categories (layout b .code) refl k)) (told-apart b)
 
 pub answered : (r : Record) (size : ℕ) → Answers (writeAnswer r size) (writeQuestions r size) (innerWrite r)
 unfolding writeAnswer

@@ -15,7 +15,6 @@ use Rattle.report.specs.declared.record.Record.{Record}
 use Rattle.rows.specs.Refusals.{says}
 use Rattle.rows.specs.Runs.Questions.{_then_, unless}
 use Rattle.rows.specs.Layout.{common, ending}
-use Rattle.report.specs.Layout.{layout}
 use Rattle.rows.specs.Runs.Verdict.{allowed, judge, walk, slotsVerdict, verdict}
 use Rattle.rows.specs.Values.{lastValues}
 use Rattle.report.specs.Records.{values}
@@ -24,8 +23,9 @@ use Rattle.report.specs.Reasons.{writeQuestions}
 use Rattle.report.specs.Runs.Writing.{writeAnswer, Valid}
 use Rattle.rows.proofs.Rules.Outcomes.{fine-both, and-both}
 use Rattle.rows.proofs.Rules.Judged.{turn}
-use Rattle.report.proofs.Tables.Shapes.{Shaped}
 use Rattle.report.proofs.Writing.Validity.{recordLayout, recordValues, innerWrite, judged-record, answered}
+use Rattle.report.proofs.Shaped.{Shaped}
+use Rattle.report.specs.Categories.{layout}
 
 -- ---- the gap
 
@@ -63,21 +63,22 @@ above : (n : ℕ) → 63 < n → walk [] ending (lastValues n) ≡ Refused (Rang
 unfolding walk judge allowed unless _then_
 above n h = simp (le-leb 0 n (omega arith), lt-leb n 63 h)
 
-behind-fine : (a b c d z : Verdict) (x : Refusal) → a then b then c then d then z ≡ Fine → (e : Verdict) → e ≡ Refused x → a then b then c then d then e ≡ Refused x
+behind-fine : (a b c d k z : Verdict) (x : Refusal) → a then b then c then d then k then z ≡ Fine → (e : Verdict) → e ≡ Refused x → a then b then c then d then k then e ≡ Refused x
 unfolding _then_
-behind-fine a b c d z x f e g =
-    let p = fine-both a (b then c then d then z) f in
-    let q = fine-both b (c then d then z) (p .1) in
-    let t = fine-both c (d then z) (q .1) in
-    let u = fine-both d z (t .1) in
-    simp (p .0, q .0, t .0, u .0, g)
+behind-fine a b c d k z x f e g =
+    let p = fine-both a (b then c then d then k then z) f in
+    let q = fine-both b (c then d then k then z) (p .1) in
+    let t = fine-both c (d then k then z) (q .1) in
+    let u = fine-both d (k then z) (t .1) in
+    let v = fine-both k z (u .1) in
+    simp (p .0, q .0, t .0, u .0, v .0, g)
 
 above-inner : (r : Record) (n : ℕ) → 63 < n → innerWrite r ≡ Fine → innerWrite (reserving r n) ≡ Refused (Range 220)
 unfolding verdict values
 above-inner r n h e =
     let l = layout (r .body) in
     let v = values r 0 0 in
-    behind-fine (walk [] (common l) (v .head)) (walk [] (l .front) (v .front)) (slotsVerdict (l .slots) (v .slots)) (walk [] (l .behind) (v .behind)) (walk [] ending (v .last)) (Range 220) e
+    behind-fine (walk [] (common l) (v .head)) (walk [] (l .front) (v .front)) (slotsVerdict (l .slots) (v .slots)) (walk [] (l .text) (v .text)) (walk [] (l .behind) (v .behind)) (walk [] ending (v .last)) (Range 220) e
     (walk [] ending (lastValues n)) (above n h)
 
 pub above-63 : (r : Record) (n : ℕ) → Valid r → 63 < n → writeAnswer (reserving r n) 32 ≡ Refused (Range 220)

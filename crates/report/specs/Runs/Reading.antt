@@ -11,10 +11,13 @@ use Rattle.rows.specs.declared.refusal.Refusal.the-variants.{Length, Padding, P
 use Rattle.report.specs.declared.record.Record.{Record}
 use Rattle.report.specs.declared.read.Reading.{Reading}
 use Rattle.rows.specs.Runs.Questions.{_then_, unless}
-use Rattle.report.specs.Layout.{categories, preambles, layout}
 use Rattle.rows.specs.Runs.Verdict.{allowed, verdict}
-use Rattle.report.specs.Records.{bodyOf, recordOf, zeros}
-use Rattle.rows.specs.Values.{valuesOf}
+use Rattle.report.specs.Records.{bodyOf, recordOf, zeros, textOf}
+use Rattle.rows.specs.Values.{valuesOf, sparesIn}
+use Rattle.report.specs.declared.body.Body.{Body}
+use Rattle.report.specs.declared.body.Content.{Content}
+use Rattle.report.specs.Categories.{categories, layout, preambles}
+use Rattle.slots.specs.Slots.{slotsOf}
 
 -- 2 to 7
 unfoldable pub outerOf : List ℕ → Verdict
@@ -32,6 +35,10 @@ innerOf s = verdict (layout (bodyOf s)) (valuesOf s (layout (bodyOf s)))
 
 abbrev pub readAnswer : List ℕ → Verdict
 readAnswer s = unless (eqb (length s) 32) Length then outerOf s then innerOf s
+
+-- what stands from bit 43 up to bit 213, spares among it
+abbrev pub contentAs : List ℕ → Body → Content
+contentAs s b = record { body = b; slots = slotsOf s (layout b .slots); text = textOf s (layout b); spares = sparesIn s (layout b) }
 
 -- the answer, with the record where nothing is refused
 abbrev pub reading : Verdict → Record → Reading

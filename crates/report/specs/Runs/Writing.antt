@@ -2,43 +2,41 @@
 -- bit".
 use Prim.Native.Nat.{ℕ, _+_, _*_, _^_}
 use mathlib.Core.Path.{_≡_}
-use mathlib.Core.Bool.{Bool, true, false, _&&_, cond}
+use mathlib.Core.Bool.{Bool, _&&_, cond}
 use mathlib.Core.List.{List, _∷_}
-use lib.ListN.{length}
-use lib.Dec.{eqb}
+use lib.ListN.{length, drop, take}
+use lib.Dec.{eqb, ltb}
 use Rattle.bits.specs.Layout.{encode}
-use Rattle.bits.specs.Frame.{bytesOf}
+use Rattle.bits.specs.Frame.{bytesOf, laid, laidIn}
 use Rattle.parity.specs.Parity.{parityOfFront}
 use Rattle.rows.specs.declared.refusal.Verdict.{Verdict}
 use Rattle.rows.specs.declared.refusal.Verdict.the-variants.{Fine, Refused}
 use Rattle.rows.specs.declared.refusal.Refusal.the-variants.{Length, Preamble, Category, Unused}
-use Rattle.report.specs.declared.record.Body.{Body}
-use Rattle.report.specs.declared.record.Body.the-variants.{NoCategory, Hypocenter, Intensity, Nankai, AshFall}
 use Rattle.report.specs.declared.record.Record.{Record}
 use Rattle.rows.specs.Runs.Questions.{_then_, unless}
 use Rattle.rows.specs.Layout.{Layout, allRows}
-use Rattle.report.specs.Layout.{slotKind, layout, preambles}
 use Rattle.rows.specs.Runs.Verdict.{allowed, empty, verdict}
 use Rattle.slots.specs.Slots.{tidySlots}
 use Rattle.report.specs.Records.{values}
-use Rattle.rows.specs.Values.{flat, widths}
+use Rattle.rows.specs.Values.{flat, widths, partWidths}
+use Rattle.report.specs.declared.body.Body.{Body}
+use Rattle.rows.specs.declared.fields.Fields.{Fields}
+use Rattle.slots.specs.declared.slot.Slot.{Slot}
+use Rattle.report.specs.Categories.{layout, preambles}
+use Rattle.nankai.specs.Nankai.{nankai}
+use Rattle.slots.specs.Runs.{slotsLaid}
 
 -- ---- what is refused
 
 -- 7
 abbrev pub known : Body → Bool
-known NoCategory = false
-known (Hypocenter q) = true
-known (Intensity t) = true
-known (Nankai p) = true
-known (AshFall e) = true
+known b = ltb 0 (layout b .code)
 
--- text stands where the category's table has it
-unfoldable pub tidyText : Body → List ℕ → Bool
-tidyText b text = cond (layout b .text) true (empty text)
-
+-- nothing stands where the category has no slot, no field of a slot, or no text
 abbrev pub tidy : Record → Bool
-tidy r = tidySlots (slotKind (r .body)) (layout (r .body) .slots .count) (r .slots) && tidyText (r .body) (r .text)
+tidy r =
+    let l = layout (r .body) in
+    tidySlots (partWidths (l .slots)) (l .slots .count) (r .slots) && empty (drop (length (l .text)) (r .text))
 
 -- spares are not in a record: they are zero
 unfoldable pub writeAnswer : Record → ℕ → Verdict
@@ -77,3 +75,13 @@ writeOf r buffer = written (writeAnswer r (length buffer)) r buffer
 
 abbrev pub Valid : Record → Type 0
 Valid r = writeAnswer r 32 ≡ Fine
+
+-- ---- how it is written
+
+-- the rows in front, the slots, the text, and the rows behind, laid one behind the other
+unfoldable pub bodyLaid : List ℕ → Fields → List Slot → List ℕ → List ℕ
+bodyLaid f v ss text =
+    let start = laidIn f 43 (v .ahead) (v .front) in
+    let places = slotsLaid start (v .table .first) (v .table .bits) (v .table .widths) (take (v .table .count) ss) in
+    let page = cond (v .table .text) (laid places 57 (widths (nankai .text)) text) places in
+    laidIn page (v .table .rest) (v .after) (v .behind)

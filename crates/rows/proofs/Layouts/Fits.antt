@@ -102,14 +102,16 @@ pub holds-fit : (l : Layout) (v : Values) → Filled l v → allFit (allRows l) 
 holds-fit l v f b h =
     let k = l .slots in
     let rs = slotsRows k (k .count) (k .first) in
-    let p = all-fit-both (common l) (l .front ++ (rs ++ (l .behind ++ ending))) b in
-    let q = all-fit-both (l .front) (rs ++ (l .behind ++ ending)) (p .1) in
-    let t = all-fit-both rs (l .behind ++ ending) (q .1) in
-    let u = all-fit-both (l .behind) ending (t .1) in
+    let ends = l .text ++ (l .behind ++ ending) in
+    let us = v .text ++ (v .behind ++ v .last) in
+    let p = all-fit-both (common l) (l .front ++ (rs ++ ends)) b in
+    let q = all-fit-both (l .front) (rs ++ ends) (p .1) in
+    let t = all-fit-both rs ends (q .1) in
+    let x = all-fit-both (l .text) (l .behind ++ ending) (t .1) in
+    let u = all-fit-both (l .behind) ending (x .1) in
     let s : Fit (widths rs) (joined (v .slots)) = rw (f .slots) at (slots-fit k (v .slots) (f .fields) (rw (f .slots) (t .0)) (h .slots)) in
-    let ends = l .behind ++ ending in
-    let us = v .behind ++ v .last in
     behind-fit (common l) (l .front ++ (rs ++ ends)) (v .head) (v .front ++ (joined (v .slots) ++ us)) (kept-fit [] (common l) (v .head) (f .head) (p .0) (h .head))
     (behind-fit (l .front) (rs ++ ends) (v .front) (joined (v .slots) ++ us) (kept-fit [] (l .front) (v .front) (f .front) (q .0) (h .front))
     (behind-fit rs ends (joined (v .slots)) us s
-    (behind-fit (l .behind) ending (v .behind) (v .last) (kept-fit [] (l .behind) (v .behind) (f .behind) (u .0) (h .behind)) (kept-fit [] ending (v .last) (f .last) (u .1) (h .last)))))
+    (behind-fit (l .text) (l .behind ++ ending) (v .text) (v .behind ++ v .last) (kept-fit [] (l .text) (v .text) (f .text) (x .0) (h .text))
+    (behind-fit (l .behind) ending (v .behind) (v .last) (kept-fit [] (l .behind) (v .behind) (f .behind) (u .0) (h .behind)) (kept-fit [] ending (v .last) (f .last) (u .1) (h .last))))))

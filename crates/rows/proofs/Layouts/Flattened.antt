@@ -29,10 +29,11 @@ slots-same k at (x ∷ xs) (y ∷ ys) us vs f g n e =
 
 pub flat-same : (l : Layout) (v w : Values) → Filled l v → Filled l w → flat v ≡ flat w → v ≡ w
 flat-same l v w f g e =
-    let vs = v .behind ++ v .last in
-    let ws = w .behind ++ w .last in
+    let vs = v .text ++ (v .behind ++ v .last) in
+    let ws = w .text ++ (w .behind ++ w .last) in
     let a = front-same (v .head) (w .head) (v .front ++ (joined (v .slots) ++ vs)) (w .front ++ (joined (w .slots) ++ ws)) (f .head ∙ sym (g .head)) e in
     let b = front-same (v .front) (w .front) (joined (v .slots) ++ vs) (joined (w .slots) ++ ws) (f .front ∙ sym (g .front)) (a .1) in
     let c = slots-same (l .slots) (l .slots .first) (v .slots) (w .slots) vs ws (f .fields) (g .fields) (f .slots ∙ sym (g .slots)) (b .1) in
-    let d = front-same (v .behind) (w .behind) (v .last) (w .last) (f .behind ∙ sym (g .behind)) (c .1) in
-    λ i. record { head = a .0 i; front = b .0 i; slots = c .0 i; behind = d .0 i; last = d .1 i }
+    let t = front-same (v .text) (w .text) (v .behind ++ v .last) (w .behind ++ w .last) (f .text ∙ sym (g .text)) (c .1) in
+    let d = front-same (v .behind) (w .behind) (v .last) (w .last) (f .behind ∙ sym (g .behind)) (t .1) in
+    λ i. record { head = a .0 i; front = b .0 i; slots = c .0 i; text = t .0 i; behind = d .0 i; last = d .1 i }

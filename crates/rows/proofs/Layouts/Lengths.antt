@@ -21,6 +21,7 @@ pub record Filled (l : Layout) (v : Values) : Type 0 where
   pub front : length (v .front) ≡ length (l .front)
   pub slots : length (v .slots) ≡ l .slots .count
   pub fields : SlotsFilled (l .slots) (l .slots .first) (v .slots)
+  pub text : length (v .text) ≡ length (l .text)
   pub behind : length (v .behind) ≡ length (l .behind)
   pub last : length (v .last) ≡ length ending
 
@@ -41,6 +42,7 @@ frame-filled s l = record {
   slots = length-each (l .slots .count) _;
   fields = each-filled (l .slots) (l .slots .first) (l .slots .count) _
       (λ i. length-map (slotRows (l .slots) _) (cut s) ∙ length-shifted _ (l .slots .rows));
+  text = length-map (l .text) (cut s);
   behind = length-map (l .behind) (cut s);
   last = length-map ending (cut s);
 }

@@ -107,4 +107,5 @@ unfolding verdict
 verdict-ten l v =
     then-ten _ _ (walk-ten [] (common l) (v .head))
     (then-ten _ _ (walk-ten [] (l .front) (v .front))
-    (then-ten _ _ (slots-ten (l .slots) (v .slots)) (then-ten _ _ (walk-ten [] (l .behind) (v .behind)) (walk-ten [] ending (v .last)))))
+    (then-ten _ _ (slots-ten (l .slots) (v .slots))
+    (then-ten _ _ (walk-ten [] (l .text) (v .text)) (then-ten _ _ (walk-ten [] (l .behind) (v .behind)) (walk-ten [] ending (v .last))))))

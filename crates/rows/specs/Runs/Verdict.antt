@@ -2,7 +2,7 @@
 -- found on the way is the one with the lowest bit.
 use Prim.Native.Nat.{ℕ, _+_}
 use mathlib.Core.Bool.{Bool, true, false, _&&_, _||_, not, cond}
-use mathlib.Core.List.{List, [], _∷_}
+use mathlib.Core.List.{List, _∷_, []}
 use lib.Dec.{leb, eqb}
 use Rattle.rows.specs.declared.refusal.Verdict.{Verdict}
 use Rattle.rows.specs.declared.refusal.Verdict.the-variants.{Fine}
@@ -10,7 +10,8 @@ use Rattle.rows.specs.declared.refusal.Refusal.the-variants.{Range, Spar
 use Rattle.rows.specs.Runs.Questions.{_then_, unless}
 use Rattle.rows.specs.Layout.{Span, _to_, Rule, among, rising, spare, Row, Slots, Layout, common, ending, slotRows}
 use Rattle.rows.specs.Kept.{latest}
-use Rattle.rows.specs.Values.{Values}
+use Rattle.rows.specs.Values.{Values, Sides}
+use Rattle.rows.specs.declared.common.Common.{Common}
 
 -- ---- one field
 
@@ -53,12 +54,33 @@ unfoldable pub slotsVerdict : Slots → List (List ℕ) → Verdict
 slotsVerdict k [] = Fine
 slotsVerdict k (v ∷ vs) = walk [] (slotRows k (k .first)) v then later k false (k .first + k .bits) vs
 
+-- ---- what every category has
+
+-- bits 8 to 42, where it is known whether Rc and It are allowed: message type and category are what they are
+abbrev pub commonVerdict : Common → Bool → Bool → Verdict
+commonVerdict c rc it =
+    ranged rc 14
+    then ranged (leb 1 (c .month) && leb (c .month) 12) 21
+    then ranged (leb 1 (c .day) && leb (c .day) 31) 25
+    then ranged (leb 0 (c .hour) && leb (c .hour) 23) 30
+    then ranged (leb 0 (c .minute) && leb (c .minute) 59) 35
+    then ranged it 41
+
 -- ---- all of them
+
+-- bits 8 to 213 less a text, of which nothing is asked: "Text at 57: 18 bytes, any"
+unfoldable pub bodyVerdict : Layout → List ℕ → Sides → List (List ℕ) → Verdict
+bodyVerdict l head sides slots =
+    walk [] (common l) head
+    then walk [] (l .front) (sides .front)
+    then slotsVerdict (l .slots) slots
+    then walk [] (l .behind) (sides .behind)
 
 unfoldable pub verdict : Layout → Values → Verdict
 verdict l v =
     walk [] (common l) (v .head)
     then walk [] (l .front) (v .front)
     then slotsVerdict (l .slots) (v .slots)
+    then walk [] (l .text) (v .text)
     then walk [] (l .behind) (v .behind)
     then walk [] ending (v .last)

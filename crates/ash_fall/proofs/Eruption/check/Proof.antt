@@ -1,42 +1,53 @@
 -- `ash_fall::Eruption::check` meets its contract.
-use Rattle.rows.proofs.Rules.Outcomes.{then-assoc, then-fine}
-use Rattle.rows.proofs.Rules.Spans.{allowed-one}
-use Rattle.rows.specs.Runs.Verdict.{walk, judge}
 use borrow.Author.Needs.{needs}
 use Rattle.ash_fall.proofs.Eruption.check.Statement.{statement}
+use mathlib.Core.Bool.{Bool}
+use Rattle.rows.specs.Runs.Questions.{_then_}
+use mathlib.Core.Path.{_∙_, ap₂}
+use Rattle.ash_fall.specs.AshFall.{ashFall, eruptionValues, places}
+use Rattle.rows.proofs.Rules.Walks.{body-found, spare-found}
+use Rattle.rows.specs.Runs.Verdict.{commonVerdict}
+use Rattle.slots.specs.Slots.{slotsValues}
 use Rattle.ash_fall.proofs.Eruption.check.Tie as tie
+
+is-two-or-seven-requires : tie.Need-is-two-or-seven-requires
+is-two-or-seven-requires c κs = search needs
+
+is-corrected-requires : tie.Need-is-corrected-requires
+is-corrected-requires c κs = search needs
+
+common-requires : tie.Need-common-requires
+common-requires c κs = search needs
+
+front-requires : tie.Need-front-requires
+front-requires c κs = search needs
+
+check-places-requires : tie.Need-check-places-requires
+check-places-requires c κs = search needs
 
 spare-requires : tie.Need-spare-requires
 spare-requires c κs = search needs
 
-time-requires : tie.Need-time-requires
-time-requires c κs = search needs
-
-cast-within : tie.Need-cast-within
-cast-within c = search needs
-
-within-requires : tie.Need-within-requires
-within-requires c κs = search needs
-
-cast-within-2 : tie.Need-cast-within-2
-cast-within-2 c = search needs
-
-within-requires-2 : tie.Need-within-requires-2
-within-requires-2 c κs = search needs
-
 returns : tie.Need-returns
-unfolding walk judge
-returns c = simp (
-  c .within2 .ensures,
-  c .before .before .within .ensures,
-  c .before .before .before .before .time2 .ensures,
-  c .before .before .before .before .before .spare .ensures,
-  then-assoc,
-  then-fine,
-  allowed-one,
-)
+returns c =
+    let p = c .before in
+    let f = p .before in
+    let h = f .before in
+    let i = h .before in
+    let k = i .before in
+    let a = k .before .args in
+    body-found ashFall (a .c) (eruptionValues (a .self) (a .spare1) (a .spare2)) (slotsValues places (a .slots)) (a .found) (h .common .result) (f .front .result) (p .check-places .result) (c .spare .result)
+    (h .common .ensures ∙ ap₂ (λ (x y : Bool). a .found then commonVerdict (a .c) x y) (k .is-two-or-seven .ensures) (i .is-corrected .ensures))
+    (f .front .ensures) (p .check-places .ensures) (spare-found _ _ 199 15 (a .spare2) (c .spare .ensures))
 
 pub check-spec : {M : Type 1} → statement M
 check-spec =
     tie.close
-    (tie.spec spare-requires time-requires cast-within within-requires cast-within-2 within-requires-2 returns)
+    (tie.spec
+    is-two-or-seven-requires
+    is-corrected-requires
+    common-requires
+    front-requires
+    check-places-requires
+    spare-requires
+    returns)

@@ -1,94 +1,48 @@
 -- `hypocenter::Quake::check` meets its contract.
-use mathlib.Core.Path.{sym, ap, _∙_}
-use Rattle.rows.specs.declared.refusal.Verdict.{Verdict}
-use Rattle.rows.specs.Runs.Questions.{_then_}
-use Rattle.hypocenter.proofs.Walks.{quake-walk}
-use Rattle.rows.proofs.Rules.Walks.{asked, link}
 use borrow.Author.Needs.{needs}
 use Rattle.hypocenter.proofs.Quake.check.Statement.{statement}
+use mathlib.Core.Bool.{Bool}
+use mathlib.Core.List.{[]}
+use Rattle.rows.specs.Runs.Questions.{_then_}
+use mathlib.Core.Path.{_∙_, ap₂}
+use Rattle.rows.proofs.Rules.Walks.{body-found, no-slots, spare-found}
+use Rattle.rows.specs.Runs.Verdict.{commonVerdict}
+use Rattle.hypocenter.specs.Hypocenter.{hypocenter, quakeValues}
 use Rattle.hypocenter.proofs.Quake.check.Tie as tie
+
+is-two-or-seven-requires : tie.Need-is-two-or-seven-requires
+is-two-or-seven-requires c κs = search needs
+
+is-uncorrected-requires : tie.Need-is-uncorrected-requires
+is-uncorrected-requires c κs = search needs
+
+common-requires : tie.Need-common-requires
+common-requires c κs = search needs
+
+front-requires : tie.Need-front-requires
+front-requires c κs = search needs
 
 spare-requires : tie.Need-spare-requires
 spare-requires c κs = search needs
 
-is-notification-requires : tie.Need-is-notification-requires
-is-notification-requires c κs = search needs
-
-ranged-requires : tie.Need-ranged-requires
-ranged-requires c κs = search needs
-
-is-notification-requires-2 : tie.Need-is-notification-requires-2
-is-notification-requires-2 c κs = search needs
-
-ranged-requires-2 : tie.Need-ranged-requires-2
-ranged-requires-2 c κs = search needs
-
-is-notification-requires-3 : tie.Need-is-notification-requires-3
-is-notification-requires-3 c κs = search needs
-
-ranged-requires-3 : tie.Need-ranged-requires-3
-ranged-requires-3 c κs = search needs
-
-time-requires : tie.Need-time-requires
-time-requires c κs = search needs
-
-is-depth-requires : tie.Need-is-depth-requires
-is-depth-requires c κs = search needs
-
-ranged-requires-4 : tie.Need-ranged-requires-4
-ranged-requires-4 c κs = search needs
-
-is-magnitude-requires : tie.Need-is-magnitude-requires
-is-magnitude-requires c κs = search needs
-
-ranged-requires-5 : tie.Need-ranged-requires-5
-ranged-requires-5 c κs = search needs
-
-cast-within : tie.Need-cast-within
-cast-within c = search needs
-
-within-requires : tie.Need-within-requires
-within-requires c κs = search needs
-
-check-requires : tie.Need-check-requires
-check-requires c κs = search needs
-
-check-requires-2 : tie.Need-check-requires-2
-check-requires-2 c κs = search needs
-
 returns : tie.Need-returns
 returns c =
-    let s = c .before .before .before .before .before .before .before .before .before .before .before .before .before .before .before .before .before .before .before in
-    link _ _ _ _ _ (c .before .before .before .before .before .before .before .before .before .before .before .before .before .before .before .spare .ensures)
-    (link _ _ _ _ _ (asked _ _ _ _ _ (c .before .before .before .before .before .before .before .before .before .before .before .before .before .ranged .ensures) (c .before .before .before .before .before .before .before .before .before .before .before .before .before .before .is-notification .ensures))
-    (link _ _ _ _ _ (asked _ _ _ _ _ (c .before .before .before .before .before .before .before .before .before .before .before .ranged2 .ensures) (c .before .before .before .before .before .before .before .before .before .before .before .before .is-notification2 .ensures))
-    (link _ _ _ _ _ (asked _ _ _ _ _ (c .before .before .before .before .before .before .before .before .before .ranged3 .ensures) (c .before .before .before .before .before .before .before .before .before .before .is-notification3 .ensures))
-    (link _ _ _ _ _ (c .before .before .before .before .before .before .before .before .time2 .ensures)
-    (link _ _ _ _ _ (asked _ _ _ _ _ (c .before .before .before .before .before .before .ranged4 .ensures) (c .before .before .before .before .before .before .before .is-depth .ensures))
-    (link _ _ _ _ _ (asked _ _ _ _ _ (c .before .before .before .before .ranged5 .ensures) (c .before .before .before .before .before .is-magnitude .ensures))
-    (link _ _ _ _ _ (c .before .before .within .ensures)
-    (link _ _ _ _ _ (c .before .check .ensures)
-    (c .check2 .ensures)))))))))
-    ∙ sym (ap (λ (v : Verdict). s .args .found then v) (quake-walk (s .args .self) (s .args .spare)))
+    let f = c .before in
+    let h = f .before in
+    let i = h .before in
+    let k = i .before in
+    let a = k .before .args in
+    body-found hypocenter (a .c) (quakeValues (a .self) (a .spare1) (a .spare2)) [] (a .found) (h .common .result) (f .front .result) (f .front .result) (c .spare .result)
+    (h .common .ensures ∙ ap₂ (λ (x y : Bool). a .found then commonVerdict (a .c) x y) (k .is-two-or-seven .ensures) (i .is-uncorrected .ensures))
+    (f .front .ensures) (no-slots (f .front .result) (hypocenter .slots)) (spare-found _ _ 163 51 (a .spare2) (c .spare .ensures))
 
 pub check-spec : {M : Type 1} → statement M
 check-spec =
     tie.close
     (tie.spec
+    is-two-or-seven-requires
+    is-uncorrected-requires
+    common-requires
+    front-requires
     spare-requires
-    is-notification-requires
-    ranged-requires
-    is-notification-requires-2
-    ranged-requires-2
-    is-notification-requires-3
-    ranged-requires-3
-    time-requires
-    is-depth-requires
-    ranged-requires-4
-    is-magnitude-requires
-    ranged-requires-5
-    cast-within
-    within-requires
-    check-requires
-    check-requires-2
     returns)

@@ -1,20 +1,53 @@
 -- `intensity::Shaking::check` meets its contract.
-use Rattle.rows.proofs.Rules.Outcomes.{then-assoc, then-fine}
-use Rattle.rows.proofs.Rules.Spans.{allowed-one}
-use Rattle.rows.specs.Runs.Verdict.{walk, judge}
 use borrow.Author.Needs.{needs}
 use Rattle.intensity.proofs.Shaking.check.Statement.{statement}
+use mathlib.Core.Bool.{Bool}
+use Rattle.rows.specs.Runs.Questions.{_then_}
+use mathlib.Core.Path.{_∙_, ap₂}
+use Rattle.rows.proofs.Rules.Walks.{body-found, spare-found}
+use Rattle.rows.specs.Runs.Verdict.{commonVerdict}
+use Rattle.intensity.specs.Intensity.{intensity, prefectures, shakingValues}
+use Rattle.slots.specs.Slots.{slotsValues}
 use Rattle.intensity.proofs.Shaking.check.Tie as tie
+
+is-two-or-seven-requires : tie.Need-is-two-or-seven-requires
+is-two-or-seven-requires c κs = search needs
+
+is-uncorrected-requires : tie.Need-is-uncorrected-requires
+is-uncorrected-requires c κs = search needs
+
+common-requires : tie.Need-common-requires
+common-requires c κs = search needs
+
+front-requires : tie.Need-front-requires
+front-requires c κs = search needs
+
+check-prefectures-requires : tie.Need-check-prefectures-requires
+check-prefectures-requires c κs = search needs
 
 spare-requires : tie.Need-spare-requires
 spare-requires c κs = search needs
 
-time-requires : tie.Need-time-requires
-time-requires c κs = search needs
-
 returns : tie.Need-returns
-unfolding walk judge
-returns c = simp (c .time2 .ensures, c .before .spare .ensures, then-assoc, then-fine, allowed-one)
+returns c =
+    let p = c .before in
+    let f = p .before in
+    let h = f .before in
+    let i = h .before in
+    let k = i .before in
+    let a = k .before .args in
+    body-found intensity (a .c) (shakingValues (a .self) (a .spare1) (a .spare2)) (slotsValues prefectures (a .slots)) (a .found) (h .common .result) (f .front .result) (p .check-prefectures .result) (c .spare .result)
+    (h .common .ensures ∙ ap₂ (λ (x y : Bool). a .found then commonVerdict (a .c) x y) (k .is-two-or-seven .ensures) (i .is-uncorrected .ensures))
+    (f .front .ensures) (p .check-prefectures .ensures) (spare-found _ _ 213 1 (a .spare2) (c .spare .ensures))
 
 pub check-spec : {M : Type 1} → statement M
-check-spec = tie.close (tie.spec spare-requires time-requires returns)
+check-spec =
+    tie.close
+    (tie.spec
+    is-two-or-seven-requires
+    is-uncorrected-requires
+    common-requires
+    front-requires
+    check-prefectures-requires
+    spare-requires
+    returns)

@@ -1,12 +1,12 @@
 -- `report::codes::is_category` meets its contract.
 use Rattle.report.proofs.Reading.KnownCodes.{two-to-four}
 use Rattle.rows.proofs.Rules.Spans.{not-allowed}
-use Rattle.report.specs.Layout.{categories}
 use Rattle.rows.specs.Runs.Verdict.{allowed}
 use mathlib.Core.Logic.{⊎-elim}
 use mathlib.Core.Path.{sym, ap}
 use native.Mathlib.Omega.{arith}
 use Rattle.report.proofs.codes.is_category.Statement.{statement}
+use Rattle.report.specs.Categories.{categories}
 use Rattle.report.proofs.codes.is_category.Tie as tie
 
 -- `report::codes::is_category` meets its contract.

@@ -1,15 +1,15 @@
 -- `report::encode::encode` meets its contract.
-use Prim.Native.Nat.{ℕ}
-use Rattle.bits.specs.Frame.{laid}
-use Rattle.report.proofs.Writing.Encoding.{encoded, valid-known}
-use Rattle.report.proofs.Tables.Shapes.{Shaped}
-use Rattle.bits.proofs.Arrays.{unmapped}
-use Rattle.report.specs.Layout.{layout}
-use Rattle.report.specs.Runs.Writing.{frontWidths, frontValues}
 use borrow.Author.Needs.{needs, length-unmapped}
-use mathlib.Core.List.{List}
-use mathlib.Core.Path.{ap, _∙_}
 use Rattle.report.proofs.encode.encode.Statement.{statement}
+use mathlib.Core.List.{List}
+use mathlib.Core.Path.{_∙_, ap}
+use Rattle.report.proofs.Writing.Encoding.{encoded, valid-known}
+use Rattle.report.specs.Runs.Writing.{frontValues, frontWidths}
+use Rattle.bits.specs.Frame.{laid}
+use Rattle.report.specs.Categories.{layout}
+use Prim.Native.Nat.{ℕ}
+use Rattle.report.proofs.Shaped.{Shaped}
+use Rattle.bits.proofs.Arrays.{unmapped}
 use Rattle.report.proofs.encode.encode.Tie as tie
 
 -- what the types of its arrays tell of a record

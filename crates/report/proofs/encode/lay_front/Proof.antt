@@ -1,20 +1,17 @@
 -- `report::encode::lay_front` meets its contract.
-use Rattle.report.specs.declared.record.Shape.{Shape}
-use Rattle.report.proofs.Tables.Lengths.{kind-table}
-use Rattle.report.specs.Layout.{slotKind}
-use Rattle.bits.specs.Frame.{laid}
-use Rattle.report.proofs.Writing.Encoding.{all-laid}
-use Rattle.report.proofs.Tables.Shapes.{Shaped}
-use Rattle.bits.proofs.Arrays.{unmapped}
-use Rattle.rows.specs.Layout.{slotsRows, Slots}
-use Rattle.slots.specs.Slots.{slotValues, slotTable}
-use Rattle.rows.specs.Values.{widths, joined}
-use Rattle.slots.specs.declared.kind.SlotKind.{SlotKind}
 use borrow.Author.Needs.{needs, length-unmapped}
-use lib.ListN.{take}
-use mathlib.Core.List.{map}
-use mathlib.Core.Path.{ap, _∙_}
 use Rattle.report.proofs.encode.lay_front.Statement.{statement}
+use Rattle.rows.specs.declared.fields.Fields.{Fields}
+use mathlib.Core.List.{List}
+use mathlib.Core.Path.{_∙_, ap}
+use Rattle.report.proofs.Writing.Encoding.{all-laid}
+use Rattle.report.specs.Runs.Writing.{bodyLaid}
+use Rattle.rows.specs.Layout.{common, noCategory}
+use Rattle.rows.specs.Values.{headValues, widths}
+use Rattle.bits.specs.Frame.{laid, placed}
+use Prim.Native.Nat.{ℕ}
+use Rattle.report.proofs.Shaped.{Shaped}
+use Rattle.bits.proofs.Arrays.{unmapped}
 use Rattle.report.proofs.encode.lay_front.Tie as tie
 
 -- what the types of its arrays tell of a record
@@ -23,6 +20,9 @@ shaped c =
     let r = c .args .r in
     let good = c .good .1 .0 in
     record { slots = unmapped _ (r .slots) 16 (good .1 .1 .1 .1 .1 .1 .0 .1 .0 .1); text = length-unmapped _ (r .text) 18 (good .1 .1 .1 .1 .1 .1 .1 .0 .1 .0 .1) }
+
+fields-requires : tie.Need-fields-requires
+fields-requires c κs = search needs
 
 cast-put : tie.Need-cast-put
 cast-put c = search needs
@@ -36,39 +36,42 @@ lay-common-requires c κs = search needs
 lay-body-requires : tie.Need-lay-body-requires
 lay-body-requires c κs = search needs
 
-shape-requires : tie.Need-shape-requires
-shape-requires c κs = search needs
+put-requires-2 : tie.Need-put-requires-2
+put-requires-2 c κs = search needs
 
-lay-slots-requires : tie.Need-lay-slots-requires
-lay-slots-requires c κs = search needs
+cast-put-2 : tie.Need-cast-put-2
+cast-put-2 c = search needs
 
-lay-last-requires : tie.Need-lay-last-requires
-lay-last-requires c κs = search needs
+put-requires-3 : tie.Need-put-requires-3
+put-requires-3 c κs = search needs
 
 returns : tie.Need-returns
 returns c =
-    let k = c .before .before in
-    let b = k .before in
-    let p = b .before .before in
-    let s = p .before .before .before .before .before in
+    let w = c .before .before in
+    let i = w .before in
+    let h = i .before in
+    let p = h .before in
+    let t = p .before in
+    let f = t .before .before in
+    let s = f .before .before .before .before in
     let r = s .args .r in
-    all-laid r (shaped s) (s .args .f) (p .put .result) (b .before .lay-common .result) (b .lay-body .result) (c .before .lay-slots .result) (c .lay-last .result)
-    (p .put .ensures) (b .before .lay-common .ensures) (b .lay-body .ensures)
-    (c .before .lay-slots .ensures
-    ∙ ap (λ (x : SlotKind). laid (b .lay-body .result) (slotTable x .first) (widths (slotsRows (slotTable x) (slotTable x .count) (slotTable x .first))) (joined (map (slotValues x) (take (slotTable x .count) (r .slots)))))
-    (ap (λ (s : Shape). s .slots) (k .shape .ensures))
-    ∙ ap (λ (t : Slots). laid (b .lay-body .result) (t .first) (widths (slotsRows t (t .count) (t .first))) (joined (map (slotValues (slotKind (r .body))) (take (t .count) (r .slots))))) (kind-table (r .body)))
-    (c .lay-last .ensures)
+    let v = f .fields .ensures in
+    all-laid r (shaped s) (s .pre) (s .args .f) (p .put .result) (h .lay-common .result) (i .lay-body .result) (c .put3 .result)
+    (p .put .ensures)
+    (h .lay-common .ensures ∙ ap (λ (x : Fields). laid (p .put .result) 8 (widths (common noCategory)) (headValues (r .common) (x .table .code))) v)
+    (i .lay-body .ensures ∙ ap (λ (x : Fields). bodyLaid (h .lay-common .result) x (r .slots) (r .text)) v)
+    (c .put3 .ensures ∙ ap (λ (x : List ℕ). placed x 220 6 (r .reserved)) (w .put2 .ensures))
 
 pub lay-front-spec : {M : Type 1} → statement M
 lay-front-spec =
     tie.close
     (tie.spec
+    fields-requires
     cast-put
     put-requires
     lay-common-requires
     lay-body-requires
-    shape-requires
-    lay-slots-requires
-    lay-last-requires
+    put-requires-2
+    cast-put-2
+    put-requires-3
     returns)

@@ -1,37 +1,24 @@
--- `report::read::inner` meets its contract: the values of the record are those of the frame.
-use Rattle.report.specs.declared.record.Shape.{Shape}
-use Rattle.report.proofs.Tables.Rows.{low-spare}
-use Prim.Native.Nat.{_-_, ℕ}
-use Rattle.bits.specs.Frame.{fieldIn}
-use Rattle.report.proofs.Reading.Agree.{outer, judged}
+-- `report::read::inner` meets its contract.
 use borrow.Author.Needs.{needs}
-use mathlib.Core.Path.{ap, _∙_}
-use native.Mathlib.Omega.{arith}
 use Rattle.report.proofs.read.inner.Statement.{statement}
+use Rattle.report.specs.declared.body.Content.{Content}
+use Rattle.report.specs.declared.record.Record.{Record}
+use mathlib.Core.Path.{_≡_, ap}
+use Rattle.report.proofs.Reading.Agree.{judged, outer}
+use Rattle.report.specs.Records.{recordOf, recordAs}
 use Rattle.report.proofs.read.inner.Tie as tie
 
-decode-requires : tie.Need-decode-requires
-decode-requires c κs = search needs
+of-requires : tie.Need-of-requires
+of-requires c κs = search needs
 
-shape-requires : tie.Need-shape-requires
-shape-requires c κs = search needs
+field8-requires : tie.Need-field8-requires
+field8-requires c κs = search needs
 
-cast-first : tie.Need-cast-first
-cast-first c = search needs
+field8-requires-2 : tie.Need-field8-requires-2
+field8-requires-2 c κs = search needs
 
-cast-field64 : tie.Need-cast-field64
-cast-field64 c = search needs
-
-field64-requires : tie.Need-field64-requires
-field64-requires c κs = search needs
-
-sub-field64 : tie.Need-sub-field64
-sub-field64 c =
-    let h = c .before .before .before in
-    omega (arith, ap (λ (s : Shape). s .behind) (h .shape .ensures), low-spare (h .before .decode .result .body))
-
-field64-requires-2 : tie.Need-field64-requires-2
-field64-requires-2 c κs = search needs
+of-requires-2 : tie.Need-of-requires-2
+of-requires-2 c κs = search needs
 
 check-requires : tie.Need-check-requires
 check-requires c κs = search needs
@@ -40,29 +27,30 @@ conclude-requires : tie.Need-conclude-requires
 conclude-requires c κs = search needs
 
 returns : tie.Need-returns
+unfolding recordAs
 returns c =
     let k = c .before in
-    let two = k .before in
-    let one = two .before in
-    let h = one .before .before .before in
-    let d = h .before in
+    let o = k .before in
+    let b = o .before in
+    let a = b .before in
+    let d = a .before .before .before .before in
     let s = d .before in
     let f = s .args .f in
-    judged f (d .decode .result) (one .field64 .result) (two .field642 .result) (k .check .result) (c .conclude .result)
-    (outer f (s .pre)) (d .decode .ensures) (one .field64 .ensures .0 ∙ ap (λ (s : Shape). fieldIn 57 f 43 (s .spare)) (h .shape .ensures))
-    (two .field642 .ensures .0 ∙ ap (λ (s : Shape). fieldIn 57 f (s .behind) (214 - s .behind)) (h .shape .ensures)) (k .check .ensures) (c .conclude .ensures)
+    let e = d .of .ensures in
+    let same : _≡_ {A = Record} (record { preamble = a .field8 .result; reserved = b .field82 .result; common = o .of2 .result; body = d .of .result .body; slots = d .of .result .slots; text = d .of .result .text }) (recordOf f) =
+    λ i. record { preamble = a .field8 .ensures .0 i; reserved = b .field82 .ensures .0 i; common = o .of2 .ensures i; body = e i .body; slots = e i .slots; text = e i .text }
+    in
+    judged f _ (d .of .result .spares .front) (d .of .result .spares .behind) (k .check .result) (c .conclude .result)
+    (outer f (s .pre)) same (ap (λ (x : Content). x .spares .front) e) (ap (λ (x : Content). x .spares .behind) e) (k .check .ensures) (c .conclude .ensures)
 
 pub inner-spec : {M : Type 1} → statement M
 inner-spec =
     tie.close
     (tie.spec
-    decode-requires
-    shape-requires
-    cast-first
-    cast-field64
-    field64-requires
-    sub-field64
-    field64-requires-2
+    of-requires
+    field8-requires
+    field8-requires-2
+    of-requires-2
     check-requires
     conclude-requires
     returns)

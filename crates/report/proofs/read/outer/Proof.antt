@@ -3,12 +3,12 @@ use mathlib.Core.Path.{ap, _∙_}
 use Prim.Native.Nat.{ℕ}
 use lib.Dec.{eqb}
 use Rattle.rows.specs.Runs.Verdict.{allowed}
-use Rattle.report.specs.Layout.{preambles, categories}
 use Rattle.report.specs.Runs.Reading.{outerOf}
 use Rattle.rows.proofs.Rules.Outcomes.{fine-then}
 use Rattle.rows.proofs.Rules.Walks.{asked, link}
 use borrow.Author.Needs.{needs}
 use Rattle.report.proofs.read.outer.Statement.{statement}
+use Rattle.report.specs.Categories.{categories, preambles}
 use Rattle.report.proofs.read.outer.Tie as tie
 
 field8-requires : tie.Need-field8-requires

@@ -1,17 +1,21 @@
 -- `report::write::write_answer` meets its contract.
-use Rattle.report.specs.declared.record.Shape.{Shape}
-use Rattle.rows.proofs.Rules.Outcomes.{fine-then}
-use Rattle.rows.proofs.Rules.Walks.{asked, link}
-use Rattle.rows.specs.Runs.Questions.{_then_}
-use Rattle.report.specs.Runs.Writing.{writeAnswer}
-use Rattle.rows.specs.declared.refusal.Verdict.{Verdict}
-use borrow.Author.Needs.{needs}
-use mathlib.Core.Path.{ap, _∙_}
 use Rattle.report.proofs.write.write_answer.Statement.{statement}
+use borrow.Author.Needs.{needs}
+use Rattle.rows.specs.declared.fields.Fields.{Fields}
+use Rattle.rows.specs.declared.refusal.Verdict.{Verdict}
+use Rattle.rows.specs.Runs.Questions.{_then_}
+use mathlib.Core.Path.{_∙_, ap}
+use Rattle.rows.proofs.Rules.Walks.{asked, link}
+use lib.Dec.{eqb}
+use Rattle.rows.proofs.Rules.Outcomes.{fine-then}
+use Rattle.report.proofs.Writing.Blank.{nonzero}
+use mathlib.Core.Bool.{not}
+use Rattle.report.specs.Runs.Writing.{writeAnswer}
+use Rattle.report.specs.Categories.{layout}
 use Rattle.report.proofs.write.write_answer.Tie as tie
 
-shape-requires : tie.Need-shape-requires
-shape-requires c κs = search needs
+fields-requires : tie.Need-fields-requires
+fields-requires c κs = search needs
 
 unless-requires : tie.Need-unless-requires
 unless-requires c κs = search needs
@@ -40,18 +44,26 @@ then-requires c κs = search needs
 returns : tie.Need-returns
 unfolding writeAnswer
 returns c =
-    link _ _ _ _ _ (c .before .before .before .before .before .before .before .unless .ensures)
-    (link _ _ _ _ _ (asked _ _ _ _ _ (c .before .before .before .before .before .unless2 .ensures) (c .before .before .before .before .before .before .is-preamble .ensures))
-    (link _ _ _ _ _ (asked _ _ _ _ _ (c .before .before .before .before .unless3 .ensures) (ap (λ (s : Shape). s .known) (c .before .before .before .before .before .before .before .before .shape .ensures)))
-    (link _ _ _ _ _ (asked _ _ _ _ _ (c .before .before .unless4 .ensures) (c .before .before .before .is-tidy .ensures))
-    (c .then .ensures ∙ ap (λ (v : Verdict). c .before .before .unless4 .result then v) (c .before .check .ensures)))))
+    let k = c .before in
+    let four = k .before in
+    let tidy = four .before in
+    let three = tidy .before in
+    let two = three .before .before in
+    let preamble = two .before in
+    let one = preamble .before in
+    let f = one .before .before in
+    link _ _ _ _ _ (one .unless .ensures)
+    (link _ _ _ _ _ (asked _ _ _ _ _ (two .unless2 .ensures) (preamble .is-preamble .ensures))
+    (link _ _ _ _ _ (asked _ _ _ _ _ (three .unless3 .ensures) (ap (λ (v : Fields). not (eqb (v .table .code) 0)) (f .fields .ensures) ∙ nonzero (layout (f .before .args .r .body) .code)))
+    (link _ _ _ _ _ (asked _ _ _ _ _ (four .unless4 .ensures) (tidy .is-tidy .ensures))
+    (c .then .ensures ∙ ap (λ (v : Verdict). four .unless4 .result then v) (k .check .ensures)))))
     ∙ fine-then _
 
 pub write-answer-spec : {M : Type 1} → statement M
 write-answer-spec =
     tie.close
     (tie.spec
-    shape-requires
+    fields-requires
     unless-requires
     is-preamble-requires
     unless-requires-2

@@ -1,72 +1,57 @@
--- `slots::encode::lay_slots` meets its contract: the slots passed are laid.
-use Prim.Native.Nat.{ℕ, _+_, _-_, _*_, _≤_, _<_}
-use Rattle.bits.specs.Frame.{laid}
-use Rattle.slots.proofs.Laying.{runs, slots-widths, slot-more}
-use Rattle.slots.proofs.SlotLoop.{at-most-sixteen, slot-place, start-place, more-place}
-use Rattle.rows.specs.Layout.{slotRows}
-use Rattle.slots.specs.Slots.{slotTable, noSlot, slotValues}
-use Rattle.rows.specs.Values.{widths, joined}
-use Rattle.slots.specs.declared.kind.SlotKind.{SlotKind}
-use borrow.Author.Needs.{needs}
-use lib.ListN.{length, getD, take}
-use mathlib.Core.List.{List, map}
-use mathlib.Core.Path.{_≡_, refl, sym, ap, _∙_}
-use native.Mathlib.Omega.{arith}
+-- `slots::encode::lay_slots` meets its contract: what is left to lay, laid on what stands, is the whole.
 use Rattle.slots.proofs.encode.lay_slots.Statement.{statement}
+use Prim.Native.Nat.{_*_, _+_, _-_, _≤_, _<_}
+use mathlib.Core.Path.{_≡_, refl, _∙_, ap, sym}
+use native.Mathlib.Omega.{arith}
+use lib.ListN.{drop, length, take, getD}
+use borrow.Author.Needs.{needs}
+use Rattle.slots.specs.Runs.{slotsLaid}
+use Rattle.slots.proofs.Loops.{all-laid, none-behind, none-left, one-laid, one-more}
+use Rattle.bits.specs.Frame.{laidIn}
+use Rattle.slots.specs.Slots.{noSlot}
 use Rattle.slots.proofs.encode.lay_slots.Tie as tie
 
 abbrev Inv-loop : tie.InvT-loop
-Inv-loop kind slots count bits next₀ at₀ k₀ next at k =
-    (k ≤ count)
-    × ((at ≡ slotTable kind .first + slotTable kind .bits * k) × (next ≡ laid next₀ (slotTable kind .first) (runs kind k) (joined (map (slotValues kind) (take k slots)))))
+Inv-loop first bits count widths slots next₀ at₀ k₀ next at k =
+    ((k ≤ 16) × (k ≤ count))
+    × ((at ≤ 255 * k + 255) × (slotsLaid next at bits widths (drop k (take count slots)) ≡ slotsLaid next₀ first bits widths (take count slots)))
 
 abbrev μ-loop : tie.MeasureT-loop
-μ-loop kind slots count bits next₀ at₀ k₀ next at k = count - k
+μ-loop first bits count widths slots next₀ at₀ k₀ next at k = 16 - k
 
-sixteen : (c : tie.Start Inv-loop μ-loop) → length (c .args .t3) ≡ 16
-sixteen c = c .good .1 .1 .0 .1 .0 .1
-
--- in the loop there is such a slot
-kind : tie.In-loop Inv-loop μ-loop → SlotKind
-kind c = c .before .before .before .before .before .args .kind
-
-there : (c : tie.In-loop Inv-loop μ-loop) → c .before .loop .k < slotTable (kind c) .count
-unfolding kind
-there c = omega (arith, c .loop-test .taken, c .before .before .before .before .count .ensures)
-
-low : (c : tie.In-loop Inv-loop μ-loop) → c .before .loop .at ≤ 204
-unfolding kind
-low c = omega (arith, c .before .loop .inv .1 .0, slot-place (kind c) (c .before .loop .k) (there c))
-
-count-requires : tie.Need-count-requires Inv-loop μ-loop
-count-requires c κs = search needs
-
-bits-requires : tie.Need-bits-requires Inv-loop μ-loop
-bits-requires c κs = search needs
-
-cast-bits : tie.Need-cast-bits Inv-loop μ-loop
-cast-bits c = search needs
-
-first-requires : tie.Need-first-requires Inv-loop μ-loop
-first-requires c κs = search needs
-
-cast-at : tie.Need-cast-at Inv-loop μ-loop
-cast-at c = search needs
+sixteen : (c : tie.Start Inv-loop μ-loop) → length (c .args .t6) ≡ 16
+sixteen c = c .good .1 .1 .1 .1 .1 .0 .1 .0 .1
 
 loop-holds : tie.Need-loop-holds Inv-loop μ-loop
-loop-holds c = (omega arith, (start-place (c .before .before .before .args .kind) (c .first .result) (c .first .ensures), refl))
+loop-holds c = ((omega arith, omega arith), (omega arith, refl))
+
+returns : tie.Need-returns Inv-loop μ-loop
+returns c =
+    let l = c .before .before .loop in
+    let a = c .before .before .before .args in
+    sym (ap (slotsLaid (l .next) (l .at) (a .bits) (a .t5)) (none-left (a .count) (a .t6) (l .k) (omega arith)) ∙ all-laid (a .bits) (a .t5) (l .next) (l .at))
+    ∙ l .inv .1 .1
 
 mul-s : tie.Need-mul-s Inv-loop μ-loop
-mul-s c = omega (arith, there c, at-most-sixteen (kind c))
+mul-s c = omega arith
 
 array-copy-out-s : tie.Need-array-copy-out-s Inv-loop μ-loop
-array-copy-out-s c = omega (arith, there c, at-most-sixteen (kind c))
+array-copy-out-s c = omega arith
 
-lay-slot-requires : tie.Need-lay-slot-requires Inv-loop μ-loop
-lay-slot-requires c κs = omega (arith, low (c .before))
+values-requires : tie.Need-values-requires Inv-loop μ-loop
+values-requires c κs = search needs
+
+slice-aggregate-lay : tie.Need-slice-aggregate-lay Inv-loop μ-loop
+slice-aggregate-lay c = search needs
+
+slice-aggregate-lay-2 : tie.Need-slice-aggregate-lay-2 Inv-loop μ-loop
+slice-aggregate-lay-2 c = search needs
+
+lay-requires : tie.Need-lay-requires Inv-loop μ-loop
+lay-requires c κs = search needs
 
 add-at : tie.Need-add-at Inv-loop μ-loop
-add-at c = omega (arith, low (c .before .before))
+add-at c = omega arith
 
 add-k : tie.Need-add-k Inv-loop μ-loop
 add-k c = omega arith
@@ -76,28 +61,29 @@ loop-less c = omega arith
 
 loop-again : tie.Need-loop-again Inv-loop μ-loop
 loop-again c =
-    let i = c .before .before in
-    let l = i .before .loop in
-    let s = i .before .before .before .before .before in
+    let v = c .before .before .before in
+    let i = v .before .before .before .before in
+    let l = i .loop in
+    let s = i .before in
     let a = s .args in
-    let b : i .before .before .before .bits .result ≡ slotTable (a .kind) .bits = i .before .before .before .bits .ensures in (
-      omega arith,
+    let more : l .k < a .count = omega (arith, v .before .before .if1 .left) in (
+      (omega arith, omega arith),
       (
-        ap (λ (x : ℕ). l .at + x) b ∙ more-place (a .kind) (l .k) (l .at) (l .inv .1 .0),
-        slot-more (a .f) (c .lay-slot .result) (a .kind) (a .t3) (slotTable (a .kind) .first) (l .k) (l .at) (omega (arith, sixteen s, there i, at-most-sixteen (a .kind))) (l .inv .1 .0)
-            (c .lay-slot .ensures ∙ ap (λ (f : List ℕ). laid f (l .at) (widths (slotRows (slotTable (a .kind)) (l .at))) (slotValues (a .kind) (getD (a .t3) (l .k) noSlot))) (l .inv .1 .1)),
+        omega arith,
+        one-laid (a .bits) (a .t5) (l .next) (c .lay .result) (l .at) (getD (a .t6) (l .k) noSlot) (drop (l .k + 1) (take (a .count) (a .t6)))
+            (c .lay .ensures ∙ ap (laidIn (l .next) (l .at) (a .t5)) (v .values .ensures))
+            ∙ ap (slotsLaid (l .next) (l .at) (a .bits) (a .t5)) (sym (one-more (a .count) (a .t6) (l .k) more (omega (arith, sixteen s))))
+            ∙ l .inv .1 .1,
       ),
     )
 
-returns : tie.Need-returns Inv-loop μ-loop
-returns c =
+returns-2 : tie.Need-returns-2 Inv-loop μ-loop
+returns-2 c =
     let l = c .before .loop in
-    let t = c .before .before .before .before in
-    let a = t .before .args in
-    let last : l .k ≡ slotTable (a .kind) .count = omega (arith, t .count .ensures) in
-    l .inv .1 .1
-    ∙ ap (λ (k : ℕ). laid (a .f) (slotTable (a .kind) .first) (runs (a .kind) k) (joined (map (slotValues (a .kind)) (take k (a .t3))))) last
-    ∙ ap (λ (ws : List ℕ). laid (a .f) (slotTable (a .kind) .first) ws (joined (map (slotValues (a .kind)) (take (slotTable (a .kind) .count) (a .t3))))) (sym (slots-widths (a .kind) (slotTable (a .kind) .count) (slotTable (a .kind) .first)))
+    let s = c .before .before in
+    let a = s .args in
+    sym (ap (slotsLaid (l .next) (l .at) (a .bits) (a .t5)) (none-behind (a .count) (a .t6) (l .k) (omega (arith, sixteen s))) ∙ all-laid (a .bits) (a .t5) (l .next) (l .at))
+    ∙ l .inv .1 .1
 
 pub lay-slots-spec : {M : Type 1} → statement M
 lay-slots-spec =
@@ -105,17 +91,16 @@ lay-slots-spec =
     (tie.spec
     Inv-loop
     μ-loop
-    count-requires
-    bits-requires
-    cast-bits
-    first-requires
-    cast-at
     loop-holds
+    returns
     mul-s
     array-copy-out-s
-    lay-slot-requires
+    values-requires
+    slice-aggregate-lay
+    slice-aggregate-lay-2
+    lay-requires
     add-at
     add-k
     loop-less
     loop-again
-    returns)
+    returns-2)

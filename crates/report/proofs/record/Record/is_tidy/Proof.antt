@@ -1,48 +1,66 @@
 -- `report::record::Record::is_tidy` meets its contract.
-use Rattle.report.specs.declared.record.Shape.{Shape}
-use Rattle.report.specs.Layout.{layout, slotKind}
-use Rattle.rows.specs.Layout.{Slots}
-use Rattle.report.proofs.Tables.Lengths.{kind-table}
-use Rattle.slots.specs.Slots.{tidySlots, slotTable}
-use Rattle.report.specs.Runs.Writing.{tidyText}
-use Rattle.slots.specs.declared.kind.SlotKind.{SlotKind}
-use borrow.Author.Needs.{needs}
-use mathlib.Core.Bool.{Bool, _&&_}
-use mathlib.Core.Path.{_≡_, sym, ap, _∙_}
 use Rattle.report.proofs.record.Record.is_tidy.Statement.{statement}
+use borrow.Author.Needs.{needs, length-unmapped}
+use mathlib.Core.Bool.{Bool, _&&_}
+use mathlib.Core.Path.{_∙_, ap, ap₂, sym, _≡_}
+use lib.ListN.{drop, length}
+use Rattle.rows.specs.Runs.Verdict.{empty}
+use Rattle.report.specs.Categories.{layout}
+use borrow.Author.Tests.{not-false, not-true}
+use Rattle.report.proofs.Categories.{text-apart}
+use Rattle.report.proofs.Texts.{text-held, text-none}
+use Rattle.rows.specs.declared.fields.Fields.{Fields}
+use Rattle.report.specs.declared.record.Record.{Record}
+use Rattle.rows.specs.Values.{any, partWidths}
+use Rattle.slots.specs.Slots.{tidySlots}
 use Rattle.report.proofs.record.Record.is_tidy.Tie as tie
 
--- what was found of the slots
-found : (c : tie.After-are-tidy)
-    → let r = c .before .before .before .before .args .self in (c .are-tidy .result ≡ tidySlots (slotKind (r .body)) (layout (r .body) .slots .count) (r .slots))
-found c =
-    let r = c .before .before .before .before .args .self in
-    c .are-tidy .ensures
-    ∙ ap (λ (k : SlotKind). tidySlots k (slotTable k .count) (r .slots)) (ap (λ (s : Shape). s .slots) (c .before .shape .ensures))
-    ∙ ap (λ (t : Slots). tidySlots (slotKind (r .body)) (t .count) (r .slots)) (kind-table (r .body))
+abbrev record-of : tie.After-are-tidy → Record
+record-of c = c .before .before .before .before .before .before .args .self
 
-shape-requires : tie.Need-shape-requires
-shape-requires c κs = search needs
+-- what the slots were found to be
+found : (c : tie.After-are-tidy) → let r = record-of c in let k = layout (r .body) .slots in (c .are-tidy .result ≡ tidySlots (partWidths k) (k .count) (r .slots))
+found c =
+    let r = record-of c in
+    c .are-tidy .ensures ∙ ap (λ (v : Fields). tidySlots (v .table .widths) (v .table .count) (r .slots)) (c .before .before .before .fields .ensures)
+
+-- whether the category has text
+has-text : (c : tie.After-are-tidy) → any (layout (record-of c .body) .text) ≡ c .before .before .before .fields .result .table .text
+has-text c = sym (ap (λ (v : Fields). v .table .text) (c .before .before .before .fields .ensures))
+
+eighteen : (c : tie.After-are-tidy) → length (record-of c .text) ≡ 18
+eighteen c = length-unmapped _ (record-of c .text) 18 (c .before .before .before .before .before .before .good .0 .1 .1 .1 .1 .1 .1 .1 .0 .1 .0 .1)
+
+fields-requires : tie.Need-fields-requires
+fields-requires c κs = search needs
 
 are-tidy-requires : tie.Need-are-tidy-requires
 are-tidy-requires c κs = search needs
 
-has-tidy-text-requires : tie.Need-has-tidy-text-requires
-has-tidy-text-requires c κs = search needs
-
 returns : tie.Need-returns
 returns c =
-    let t = c .before .before in
-    let r = t .before .before .before .before .args .self in
-    c .has-tidy-text .ensures ∙ sym (ap (λ (b : Bool). b && tidyText (r .body) (r .text)) (sym (found t) ∙ c .before .if1 .taken))
+    let t = c .before in
+    let r = record-of t in
+    sym (ap (λ (b : Bool). b && empty (drop (length (layout (r .body) .text)) (r .text))) (sym (found t) ∙ not-true _ (c .if1 .taken)))
 
 returns-2 : tie.Need-returns-2
 returns-2 c =
-    let t = c .before in
-    let r = t .before .before .before .before .args .self in
-    sym (ap (λ (b : Bool). b && tidyText (r .body) (r .text)) (sym (found t) ∙ c .if1 .left))
+    let t = c .before .before in
+    let r = record-of t in
+    sym (ap₂ _&&_ (sym (found t) ∙ not-false _ (c .before .if1 .left)) (text-held (layout (r .body) .text) (r .text) (text-apart (r .body)) (eighteen t) (has-text t ∙ c .if2 .taken)))
+
+is-blank-requires : tie.Need-is-blank-requires
+is-blank-requires c κs = search needs
+
+returns-3 : tie.Need-returns-3
+returns-3 c =
+    let e = c .before in
+    let t = e .before .before in
+    let r = record-of t in
+    c .is-blank .ensures
+    ∙ sym (ap₂ _&&_ (sym (found t) ∙ not-false _ (e .before .if1 .left)) (text-none (layout (r .body) .text) (r .text) (text-apart (r .body)) (has-text t ∙ e .if2 .left)))
 
 pub is-tidy-spec : {M : Type 1} → statement M
 is-tidy-spec =
     tie.close
-    (tie.spec shape-requires are-tidy-requires has-tidy-text-requires returns returns-2)
+    (tie.spec fields-requires are-tidy-requires returns returns-2 is-blank-requires returns-3)

@@ -1,0 +1,39 @@
+-- `ash_fall::places::place_at` meets its contract.
+use borrow.Author.Needs.{needs}
+use Rattle.ash_fall.proofs.places.place_at.Statement.{statement}
+use Prim.Native.Nat.{_+_}
+use mathlib.Core.Path.{_∙_}
+use native.Mathlib.Nat.{add-zero}
+use native.Mathlib.Omega.{arith}
+use Rattle.bits.proofs.Inside.{field-in}
+use Rattle.ash_fall.proofs.places.place_at.Tie as tie
+
+field8-requires : tie.Need-field8-requires
+field8-requires c κs = search needs
+
+add-field8 : tie.Need-add-field8
+add-field8 c = search needs
+
+field8-requires-2 : tie.Need-field8-requires-2
+field8-requires-2 c κs = search needs
+
+add-field64 : tie.Need-add-field64
+add-field64 c = search needs
+
+field64-requires : tie.Need-field64-requires
+field64-requires c κs = search needs
+
+returns : tie.Need-returns
+returns c =
+    let a = c .before .before .before .args in
+    simp (
+      add-zero,
+      c .field64 .ensures .0 ∙ field-in 57 (a .f) (a .at + 6) 23 (omega arith) (omega arith),
+      c .before .field82 .ensures .0 ∙ field-in 8 (a .f) (a .at + 3) 3 (omega arith) (omega arith),
+      c .before .before .field8 .ensures .0 ∙ field-in 8 (a .f) (a .at) 3 (omega arith) (omega arith),
+    )
+
+pub place-at-spec : {M : Type 1} → statement M
+place-at-spec =
+    tie.close
+    (tie.spec field8-requires add-field8 field8-requires-2 add-field64 field64-requires returns)

@@ -1,0 +1,163 @@
+-- What is known of each category: its table is listed, and a body and its values tell each other. A category that is added has its
+-- lines here; the other laws go by these.
+use Rattle.report.specs.declared.body.Body.the-variants.{AshFall, Hypocenter, Intensity, Nankai, NoCategory}
+use Rattle.report.specs.declared.body.Body.{Body}
+use mathlib.Core.Bool.{Bool, _&&_, true, not}
+use Rattle.rows.specs.Kept.{In}
+use Rattle.rows.specs.Layout.{Layout, Row, Rule, among, noCategory, rising, spare}
+use mathlib.Core.List.{List, [], _∷_}
+use Rattle.rows.specs.Values.{Sides, sidesAt, spareIn, isSpare}
+use mathlib.Core.Path.{_∙_, _≡_, ap, refl, subst, sym}
+use Prim.Native.Nat.{_≤_, suc, zero, ℕ}
+use mathlib.Core.Logic.{_⊎_, inl, inr, ⊎-elim}
+use Rattle.rows.proofs.Rules.Outcomes.{and-both, false-not-true}
+use native.Mathlib.Omega.{arith}
+use Rattle.ash_fall.specs.AshFall.{ashFall, eruptionFrom}
+use Rattle.report.specs.Records.{bodyBy}
+use lib.ListN.{getD, length, drop}
+use Rattle.hypocenter.specs.Hypocenter.{hypocenter, quakeFrom, quakeValues}
+use Rattle.intensity.specs.Intensity.{intensity, shakingFrom}
+use Rattle.nankai.specs.Nankai.{nankai, numbersFrom}
+use Rattle.report.specs.Categories.{bodyFrom, categories, layout, sidesOf, pagedOf}
+use Rattle.report.specs.declared.body.Paged.the-variants.{NoPages, Numbers}
+use Rattle.nankai.specs.declared.PageNumbers.{PageNumbers}
+
+-- ---- tables
+
+abbrev pub layouts : List Layout
+layouts = noCategory ∷ hypocenter ∷ intensity ∷ nankai ∷ ashFall ∷ []
+
+abbrev pub all : (Layout → Bool) → List Layout → Bool
+all test [] = true
+all test (l ∷ ls) = test l && all test ls
+
+-- where a table stands in the list
+abbrev placeOf : Body → ℕ
+placeOf NoCategory = 0
+placeOf (Hypocenter q) = 1
+placeOf (Intensity t) = 2
+placeOf (Nankai p) = 3
+placeOf (AshFall e) = 4
+
+in-list : (b : Body) → getD layouts (placeOf b) noCategory ≡ layout b
+in-list NoCategory = refl
+in-list (Hypocenter q) = refl
+in-list (Intensity t) = refl
+in-list (Nankai p) = refl
+in-list (AshFall e) = refl
+
+one-of-all : (test : Layout → Bool) (ls : List Layout) (i : ℕ) (d : Layout) → all test ls ≡ true → test d ≡ true → test (getD ls i d) ≡ true
+one-of-all test [] i d e f = f
+one-of-all test (l ∷ ls) zero d e f = and-both (test l) (all test ls) e .0
+one-of-all test (l ∷ ls) (suc i) d e f = one-of-all test ls i d (and-both (test l) (all test ls) e .1) f
+
+-- what was computed of all tables holds of the table of any body
+pub listed : (test : Layout → Bool) → all test layouts ≡ true → (b : Body) → test (layout b) ≡ true
+listed test e b = ap test (sym (in-list b)) ∙ one-of-all test layouts (placeOf b) noCategory e (and-both (test noCategory) _ e .0)
+
+-- ---- values
+
+-- each row has its value
+pub sides-filled : (b : Body) (x y : ℕ) → (length (sidesOf b x y .front) ≡ length (layout b .front)) × (length (sidesOf b x y .behind) ≡ length (layout b .behind))
+sides-filled NoCategory x y = (refl, refl)
+sides-filled (Hypocenter q) x y = (refl, refl)
+sides-filled (Intensity t) x y = (refl, refl)
+sides-filled (Nankai p) x y = (refl, refl)
+sides-filled (AshFall e) x y = (refl, refl)
+
+-- a body is what its values say
+pub body-again : (b : Body) (x y : ℕ) (v : Layout → Sides) → v (layout b) ≡ sidesOf b x y → bodyFrom v (layout b .code) ≡ b
+unfolding bodyFrom
+body-again NoCategory x y v e = refl
+body-again (Hypocenter q) x y v e = ap (λ (s : Sides). Hypocenter (quakeFrom s)) e
+body-again (Intensity t) x y v e = ap (λ (s : Sides). Intensity (shakingFrom s)) e
+body-again (Nankai p) x y v e = ap (λ (s : Sides). Nankai (numbersFrom s)) e
+body-again (AshFall u) x y v e = ap (λ (s : Sides). AshFall (eruptionFrom s)) e
+
+not-paged : (p : PageNumbers) → NoPages ≡ Numbers p → ⊥
+not-paged p e = let z : _≡_ {A = ℕ} 0 1 = cc in apart z
+  where
+    apart : _≡_ {A = ℕ} 0 1 → ⊥
+    apart z = omega arith
+
+-- a body has a category or none
+pub told-apart : (b : Body) → (b ≡ NoCategory) ⊎ In categories (layout b .code)
+told-apart NoCategory = inl refl
+told-apart (Hypocenter q) = inr (inl (omega arith, omega arith))
+told-apart (Intensity t) = inr (inr (inl (omega arith, omega arith)))
+told-apart (Nankai p) = inr (inr (inr (inl (omega arith, omega arith))))
+told-apart (AshFall e) = inr (inr (inr (inr (inl (omega arith, omega arith)))))
+
+-- what brings a page is of category 4
+pub paged-back : (b : Body) (p : PageNumbers) → pagedOf b ≡ Numbers p → b ≡ Nankai p
+paged-back NoCategory p e = absurd (not-paged p e)
+paged-back (Hypocenter q) p e = absurd (not-paged p e)
+paged-back (Intensity t) p e = absurd (not-paged p e)
+paged-back (Nankai q) p e = cc
+paged-back (AshFall u) p e = absurd (not-paged p e)
+
+-- a category has no text, or one where category 4 has it
+pub text-apart : (b : Body) → (layout b .text ≡ []) ⊎ (layout b .text ≡ nankai .text)
+text-apart NoCategory = inl refl
+text-apart (Hypocenter q) = inl refl
+text-apart (Intensity t) = inl refl
+text-apart (Nankai p) = inr refl
+text-apart (AshFall e) = inl refl
+
+-- ---- a body that was made by the code dc from a frame
+
+pub record Suits (s : List ℕ) (dc : ℕ) : Type 0 where
+  pub code : layout (bodyBy s dc) .code ≡ dc
+  pub sides : sidesOf (bodyBy s dc) (spareIn s (layout (bodyBy s dc) .front)) (spareIn s (layout (bodyBy s dc) .behind)) ≡ sidesAt s (layout (bodyBy s dc))
+
+-- what holds of each category holds of all
+by-category : (P : ℕ → Type 0) → P 2 → P 3 → P 4 → P 9 → (dc : ℕ) → In categories dc → P dc
+by-category P two three four nine dc h =
+    ⊎-elim (λ k. subst P (only 2 dc k) two)
+    (λ h. ⊎-elim (λ k. subst P (only 3 dc k) three)
+    (λ h. ⊎-elim (λ k. subst P (only 4 dc k) four) (λ h. ⊎-elim (λ k. subst P (only 9 dc k) nine) (λ h. absurd h) h) h) h)
+    h
+  where
+    only : (n dc : ℕ) → (n ≤ dc) × (dc ≤ n) → n ≡ dc
+    only n dc k = omega arith
+
+pub suits : (s : List ℕ) (dc : ℕ) → In categories dc → Suits s dc
+unfolding bodyFrom
+suits s = by-category (Suits s) (record { code = refl; sides = refl }) (record { code = refl; sides = refl }) (record { code = refl; sides = refl }) (record { code = refl; sides = refl })
+
+-- ---- spares of zero
+
+-- a spare has the value zero
+abbrev pub Spared : Rule → ℕ → Type 0
+Spared (among ss) v = Unit
+Spared (rising hi) v = Unit
+Spared spare v = v ≡ 0
+
+abbrev pub AllSpared : List Row → List ℕ → Type 0
+AllSpared [] vs = Unit
+AllSpared (r ∷ rs) [] = Unit
+AllSpared (r ∷ rs) (v ∷ vs) = Spared (r .rule) v × AllSpared rs vs
+
+-- rows without a spare
+abbrev pub ruled : List Row → Bool
+ruled [] = true
+ruled (r ∷ rs) = not (isSpare (r .rule)) && ruled rs
+
+rule-spared : (r : Rule) (v : ℕ) → not (isSpare r) ≡ true → Spared r v
+rule-spared (among ss) v e = tt
+rule-spared (rising hi) v e = tt
+rule-spared spare v e = absurd (false-not-true e)
+
+pub all-spared : (rs : List Row) (vs : List ℕ) → ruled rs ≡ true → AllSpared rs vs
+all-spared [] vs e = tt
+all-spared (r ∷ rs) [] e = tt
+all-spared (r ∷ rs) (v ∷ vs) e =
+    let q = and-both (not (isSpare (r .rule))) (ruled rs) e in
+    (rule-spared (r .rule) v (q .0), all-spared rs vs (q .1))
+
+pub sides-spared : (b : Body) → AllSpared (layout b .front) (sidesOf b 0 0 .front) × AllSpared (layout b .behind) (sidesOf b 0 0 .behind)
+sides-spared NoCategory = search
+sides-spared (Hypocenter q) = ((refl, all-spared (drop 1 (hypocenter .front)) (drop 1 (quakeValues q 0 0 .front)) refl), (refl, tt))
+sides-spared (Intensity t) = search
+sides-spared (Nankai p) = search
+sides-spared (AshFall e) = search

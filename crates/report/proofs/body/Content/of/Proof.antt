@@ -1,0 +1,136 @@
+-- `report::body::Content::of` meets its contract.
+use borrow.Author.Needs.{needs}
+use Rattle.report.proofs.body.Content.of.Statement.{statement}
+use Rattle.report.specs.declared.body.Body.the-variants.{NoCategory}
+use mathlib.Core.Path.{_∙_, _≡_, ap, sym}
+use Rattle.report.specs.Categories.{bodyFrom}
+use Rattle.report.specs.Runs.Reading.{contentAs}
+use Rattle.bits.specs.Frame.{fieldOf}
+use borrow.Author.Tests.{ne-eqb}
+use Rattle.rows.specs.Values.{sidesAt}
+use Rattle.slots.specs.Slots.{slotsOf}
+use Prim.Native.Nat.{ℕ}
+use Rattle.report.proofs.body.Content.of.Tie as tie
+
+field8-requires : tie.Need-field8-requires
+field8-requires c κs = search needs
+
+of-requires : tie.Need-of-requires
+of-requires c κs = search needs
+
+none-requires : tie.Need-none-requires
+none-requires c κs = search needs
+
+spares-requires : tie.Need-spares-requires
+spares-requires c κs = search needs
+
+of-requires-2 : tie.Need-of-requires-2
+of-requires-2 c κs = search needs
+
+prefectures-of-requires : tie.Need-prefectures-of-requires
+prefectures-of-requires c κs = search needs
+
+spares-requires-2 : tie.Need-spares-requires-2
+spares-requires-2 c κs = search needs
+
+of-requires-3 : tie.Need-of-requires-3
+of-requires-3 c κs = search needs
+
+none-requires-2 : tie.Need-none-requires-2
+none-requires-2 c κs = search needs
+
+page-text-requires : tie.Need-page-text-requires
+page-text-requires c κs = search needs
+
+spares-requires-3 : tie.Need-spares-requires-3
+spares-requires-3 c κs = search needs
+
+of-requires-4 : tie.Need-of-requires-4
+of-requires-4 c κs = search needs
+
+places-of-requires : tie.Need-places-of-requires
+places-of-requires c κs = search needs
+
+spares-requires-4 : tie.Need-spares-requires-4
+spares-requires-4 c κs = search needs
+
+none-requires-3 : tie.Need-none-requires-3
+none-requires-3 c κs = search needs
+
+field64-requires : tie.Need-field64-requires
+field64-requires c κs = search needs
+
+returns : tie.Need-returns
+unfolding bodyFrom slotsOf
+returns c =
+    let k = c .before .before .before .before in
+    let f = k .before .args .f in
+    let code : fieldOf f 17 4 ≡ 2 = sym (k .field8 .ensures .0) ∙ c .before .before .before .match .keys1 in
+    _∙_ {b = contentAs f (bodyFrom (sidesAt f) 2)} (simp (c .spares .ensures, c .before .none .ensures, c .before .before .of .ensures)) (ap (λ (dc : ℕ). contentAs f (bodyFrom (sidesAt f) dc)) (sym code))
+
+returns-2 : tie.Need-returns-2
+unfolding bodyFrom slotsOf
+returns-2 c =
+    let k = c .before .before .before .before in
+    let f = k .before .args .f in
+    let code : fieldOf f 17 4 ≡ 3 = sym (k .field8 .ensures .0) ∙ c .before .before .before .match .keys2 in
+    _∙_ {b = contentAs f (bodyFrom (sidesAt f) 3)} (simp (c .spares2 .ensures, c .before .prefectures-of .ensures, c .before .before .of2 .ensures)) (ap (λ (dc : ℕ). contentAs f (bodyFrom (sidesAt f) dc)) (sym code))
+
+returns-3 : tie.Need-returns-3
+unfolding bodyFrom slotsOf
+returns-3 c =
+    let k = c .before .before .before .before .before in
+    let f = k .before .args .f in
+    let code : fieldOf f 17 4 ≡ 4 = sym (k .field8 .ensures .0) ∙ c .before .before .before .before .match .keys3 in
+    _∙_ {b = contentAs f (bodyFrom (sidesAt f) 4)} (simp (c .spares3 .ensures, c .before .page-text .ensures, c .before .before .none2 .ensures, c .before .before .before .of3 .ensures)) (ap (λ (dc : ℕ). contentAs f (bodyFrom (sidesAt f) dc)) (sym code))
+
+returns-4 : tie.Need-returns-4
+unfolding bodyFrom slotsOf
+returns-4 c =
+    let k = c .before .before .before .before in
+    let f = k .before .args .f in
+    let code : fieldOf f 17 4 ≡ 9 = sym (k .field8 .ensures .0) ∙ c .before .before .before .match .keys4 in
+    _∙_ {b = contentAs f (bodyFrom (sidesAt f) 9)} (simp (c .spares4 .ensures, c .before .places-of .ensures, c .before .before .of4 .ensures)) (ap (λ (dc : ℕ). contentAs f (bodyFrom (sidesAt f) dc)) (sym code))
+
+returns-5 : tie.Need-returns-5
+unfolding bodyFrom slotsOf
+returns-5 c =
+    let m = c .before .before in
+    let k = m .before in
+    let f = k .before .args .f in
+    let e = k .field8 .ensures .0 in
+    let other = m .match .rest in
+    let none : bodyFrom (sidesAt f) (fieldOf f 17 4) ≡ NoCategory = simp (
+      ne-eqb _ 2 (λ q. other .0 .0 .0 .1 (e ∙ q)),
+      ne-eqb _ 3 (λ q. other .0 .0 .1 (e ∙ q)),
+      ne-eqb _ 4 (λ q. other .0 .1 (e ∙ q)),
+      ne-eqb _ 9 (λ q. other .1 (e ∙ q)),
+    )
+    in
+    _∙_ {b = contentAs f NoCategory} (simp (c .field64 .ensures .0, c .before .none3 .ensures)) (ap (contentAs f) (sym none))
+
+pub of-spec : {M : Type 1} → statement M
+of-spec =
+    tie.close
+    (tie.spec
+    field8-requires
+    of-requires
+    none-requires
+    spares-requires
+    of-requires-2
+    prefectures-of-requires
+    spares-requires-2
+    of-requires-3
+    none-requires-2
+    page-text-requires
+    spares-requires-3
+    of-requires-4
+    places-of-requires
+    spares-requires-4
+    none-requires-3
+    field64-requires
+    returns
+    returns-2
+    returns-3
+    returns-4
+    returns-5)

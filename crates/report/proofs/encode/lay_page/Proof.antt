@@ -1,0 +1,16 @@
+-- `report::encode::lay_page` meets its contract.
+use borrow.Author.Needs.{needs}
+use Rattle.report.proofs.encode.lay_page.Statement.{statement}
+use Rattle.report.proofs.encode.lay_page.Tie as tie
+
+lay-text-requires : tie.Need-lay-text-requires
+lay-text-requires c κs = search needs
+
+returns : tie.Need-returns
+returns c = simp (c .before .if1 .taken, c .lay-text .ensures)
+
+returns-2 : tie.Need-returns-2
+returns-2 c = simp (c .if1 .left)
+
+pub lay-page-spec : {M : Type 1} → statement M
+lay-page-spec = tie.close (tie.spec lay-text-requires returns returns-2)

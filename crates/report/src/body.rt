@@ -1,0 +1,172 @@
+// What a category has, each in its own crate: a category that is added is added here.
+ghost use mathlib.Core.Path.{_≡_};
+ghost use Rattle.report.specs.declared.body.Body.{Body};
+ghost use mathlib.Core.List.{[]};
+ghost use Rattle.rows.specs.Runs.Questions.{_then_};
+ghost use Rattle.report.specs.Records.{bodyOf};
+ghost use Rattle.rows.specs.Runs.Verdict.{bodyVerdict};
+ghost use Rattle.report.specs.Runs.Reading.{contentAs};
+ghost use Rattle.rows.specs.Values.{fieldsIn, headValues};
+ghost use Rattle.report.specs.Categories.{layout, sidesOf, pagedOf};
+ghost use Rattle.rows.specs.Layout.{noCategory};
+ghost use Rattle.slots.specs.Slots.{slotsValues};
+use ash_fall::Eruption;
+use ash_fall::places::places_of;
+use hypocenter::Quake;
+use intensity::Shaking;
+use intensity::prefectures::prefectures_of;
+use nankai::PageNumbers;
+use rows::codes::is_two_or_seven;
+use rows::codes::is_uncorrected;
+use rows::common::Common;
+use rows::fields::Fields;
+use rows::fields::Spares;
+use rows::fields::Table;
+use rows::refusal::Verdict;
+use slots::slot::Slot;
+
+// What the category of a record has beside slots and text. `NoCategory` is none: the record of
+// zeros has it.
+pub enum Body {
+    NoCategory,
+    Hypocenter(Quake),
+    Intensity(Shaking),
+    Nankai(PageNumbers),
+    AshFall(Eruption),
+}
+
+// Which page of a bulletin a body brings, where its category has pages.
+pub enum Paged {
+    NoPages,
+    Numbers(PageNumbers),
+}
+
+// What stands from bit 43 up to bit 213.
+pub struct Content {
+    pub body: Body,
+    pub slots: [Slot; 16],
+    pub text: [u8; 18],
+    pub spares: Spares,
+}
+
+impl Content {
+    pub(crate) fn of(f: [u8; 32]) -> Content
+        ensures { λ r. ⌜ r ≡ contentAs f (bodyOf f) ⌝ }
+    {
+        match bits::field8(f, 17, 4) {
+            2 => Content {
+                body: Body::Hypocenter(Quake::of(f)),
+                slots: [Slot::none(); 16],
+                text: [0u8; 18],
+                spares: hypocenter::spares(f),
+            },
+            3 => Content {
+                body: Body::Intensity(Shaking::of(f)),
+                slots: prefectures_of(f),
+                text: [0u8; 18],
+                spares: intensity::spares(f),
+            },
+            4 => Content {
+                body: Body::Nankai(PageNumbers::of(f)),
+                slots: [Slot::none(); 16],
+                text: nankai::page_text(f),
+                spares: nankai::spares(f),
+            },
+            9 => Content {
+                body: Body::AshFall(Eruption::of(f)),
+                slots: places_of(f),
+                text: [0u8; 18],
+                spares: ash_fall::spares(f),
+            },
+            _ => Content {
+                body: Body::NoCategory,
+                slots: [Slot::none(); 16],
+                text: [0u8; 18],
+                spares: Spares {
+                    front: bits::field64(f, 43, 10),
+                    behind: 0,
+                },
+            },
+        }
+    }
+}
+
+// What is asked where there is no category.
+fn check_none(found: Verdict, c: Common, spare1: u64, spare2: u64) -> Verdict
+    ensures { λ r. ⌜ r ≡ found then bodyVerdict noCategory (headValues c 0) (sidesOf Body.NoCategory spare1 spare2) [] ⌝ }
+{
+    found
+        .common(c, is_two_or_seven(c.rc), is_uncorrected(c.it))
+        .spare(43, spare1)
+        .spare(53, spare2)
+}
+
+// The table of no category, all spare.
+fn fields_none(spare1: u64, spare2: u64) -> Fields
+    ensures { λ r. ⌜ r ≡ fieldsIn noCategory (sidesOf Body.NoCategory spare1 spare2) ⌝ }
+{
+    let table = Table {
+        code: 0,
+        count: 0,
+        first: 0,
+        bits: 0,
+        widths: [0u8; 5],
+        text: false,
+        rest: 53,
+    };
+    Fields {
+        table: table,
+        ahead: [10, 0, 0, 0, 0, 0, 0, 0, 0, 0, 0, 0, 0, 0, 0, 0, 0, 0],
+        front: [spare1, 0, 0, 0, 0, 0, 0, 0, 0, 0, 0, 0, 0, 0, 0, 0, 0, 0],
+        after: [161, 0, 0],
+        behind: [spare2, 0, 0],
+    }
+}
+
+impl Body {
+    // All rules from bit 8 to bit 213, behind what has been found.
+    pub(crate) fn check(
+        self,
+        found: Verdict,
+        c: Common,
+        slots: [Slot; 16],
+        spare1: u64,
+        spare2: u64,
+    ) -> Verdict
+        ensures { λ r. ⌜ r ≡ found then bodyVerdict (layout self) (headValues c (layout self .code)) (sidesOf self spare1 spare2) (slotsValues (layout self .slots) slots) ⌝ }
+    {
+        match self {
+            Body::NoCategory => check_none(found, c, spare1, spare2),
+            Body::Hypocenter(q) => q.check(found, c, spare1, spare2),
+            Body::Intensity(s) => s.check(found, c, slots, spare1, spare2),
+            Body::Nankai(p) => p.check(found, c, spare1, spare2),
+            Body::AshFall(e) => e.check(found, c, slots, spare1, spare2),
+        }
+    }
+
+    // The page that it brings.
+    pub fn page(self) -> Paged
+        ensures { λ r. ⌜ r ≡ pagedOf self ⌝ }
+    {
+        match self {
+            Body::NoCategory => Paged::NoPages,
+            Body::Hypocenter(_) => Paged::NoPages,
+            Body::Intensity(_) => Paged::NoPages,
+            Body::Nankai(p) => Paged::Numbers(p),
+            Body::AshFall(_) => Paged::NoPages,
+        }
+    }
+
+    // Its table, and its fields in the table's order.
+    pub fn fields(self, spare1: u64, spare2: u64) -> Fields
+        ensures { λ r. ⌜ r ≡ fieldsIn (layout self) (sidesOf self spare1 spare2) ⌝ }
+    {
+        match self {
+            Body::NoCategory => fields_none(spare1, spare2),
+            Body::Hypocenter(q) => q.fields(spare1, spare2),
+            Body::Intensity(s) => s.fields(spare1, spare2),
+            Body::Nankai(p) => p.fields(spare1, spare2),
+            Body::AshFall(e) => e.fields(spare1, spare2),
+        }
+    }
+}

@@ -1,0 +1,30 @@
+// What the table of a category says, and the fields of a record in its order, as numbers.
+
+// The category's code, 0 for none; how many slots it has, the first bit of the first one, how many bits each
+// has, and how many of them its day, hour, minute, strength and place have; whether it has text; and the first
+// bit behind the slots and the text.
+pub struct Table {
+    pub code: u8,
+    pub count: usize,
+    pub first: u8,
+    pub bits: u8,
+    pub widths: [u8; 5],
+    pub text: bool,
+    pub rest: u8,
+}
+
+// The fields in front of the slots and behind them, spares among them, one behind the other, each list with
+// its widths before it. Behind the last field there are no bits and no numbers.
+pub struct Fields {
+    pub table: Table,
+    pub ahead: [u8; 18],
+    pub front: [u64; 18],
+    pub after: [u8; 3],
+    pub behind: [u64; 3],
+}
+
+// What stands in the spares in front of the slots and behind them; 0 where there is none.
+pub struct Spares {
+    pub front: u64,
+    pub behind: u64,
+}

@@ -1,0 +1,112 @@
+-- Which of its fields a slot has in a category: its values are those fields, and what is not among them is zero.
+use mathlib.Core.Bool.{Bool, _&&_, cond, false, true}
+use Rattle.bits.proofs.LayLoop.{Fieldlike}
+use mathlib.Core.List.{List, [], _∷_}
+use Prim.Native.Nat.{_+_, _≤_, suc, ℕ}
+use mathlib.Core.Path.{_≡_, ap, ap₂, refl, sym}
+use Rattle.rows.proofs.Rules.Outcomes.{and-both}
+use native.Mathlib.Omega.{arith}
+use Rattle.rows.specs.Runs.Verdict.{empty}
+use lib.Dec.{eqb, leb, ltb}
+use borrow.Author.Tests.{eqb-true, le-ltb, leb-true, ltb-true, ne-eqb}
+use Rattle.bits.specs.Frame.{laid, laidIn, placed}
+use lib.ListN.{length}
+use Rattle.bits.proofs.Inside.{placed-in}
+use Rattle.slots.specs.Slots.{sift, vacant}
+use native.Mathlib.Nat.{suc-inj, suc-ne-zero}
+use Rattle.bits.specs.Layout.{total}
+use Rattle.rows.specs.Values.{spread}
+
+-- ---- flags and values
+
+abbrev pub trues : List Bool → ℕ
+trues [] = 0
+trues (true ∷ bs) = suc (trues bs)
+trues (false ∷ bs) = trues bs
+
+pub length-sift : (bs : List Bool) (vs : List ℕ) → length vs ≡ length bs → length (sift bs vs) ≡ trues bs
+length-sift [] vs l = refl
+length-sift (b ∷ bs) [] l = absurd (suc-ne-zero (length bs) (sym l))
+length-sift (true ∷ bs) (v ∷ vs) l = ap suc (length-sift bs vs (suc-inj l))
+length-sift (false ∷ bs) (v ∷ vs) l = length-sift bs vs (suc-inj l)
+
+pub length-spread : (bs : List Bool) (vs : List ℕ) → length (spread bs vs) ≡ length bs
+length-spread [] vs = refl
+length-spread (false ∷ bs) vs = ap suc (length-spread bs vs)
+length-spread (true ∷ bs) [] = ap suc (length-spread bs [])
+length-spread (true ∷ bs) (v ∷ vs) = ap suc (length-spread bs vs)
+
+pub sift-spread : (bs : List Bool) (vs : List ℕ) → length vs ≡ trues bs → sift bs (spread bs vs) ≡ vs
+sift-spread [] [] l = refl
+sift-spread [] (v ∷ vs) l = absurd (suc-ne-zero (length vs) l)
+sift-spread (false ∷ bs) vs l = sift-spread bs vs l
+sift-spread (true ∷ bs) [] l = absurd (suc-ne-zero (trues bs) (sym l))
+sift-spread (true ∷ bs) (v ∷ vs) l = ap (λ (x : List ℕ). v ∷ x) (sift-spread bs vs (suc-inj l))
+
+pub empty-spread : (bs : List Bool) (vs : List ℕ) → length vs ≡ trues bs → empty (spread bs vs) ≡ empty vs
+unfolding empty
+empty-spread [] [] l = refl
+empty-spread [] (v ∷ vs) l = absurd (suc-ne-zero (length vs) l)
+empty-spread (false ∷ bs) vs l = empty-spread bs vs l
+empty-spread (true ∷ bs) [] l = absurd (suc-ne-zero (trues bs) (sym l))
+empty-spread (true ∷ bs) (v ∷ vs) l = ap (λ (b : Bool). eqb v 0 && b) (empty-spread bs vs (suc-inj l))
+
+-- ---- widths: none where there is no flag, some where there is one
+
+abbrev pub allWide : List ℕ → Bool
+allWide [] = true
+allWide (w ∷ ws) = ltb 0 w && (leb w 57 && allWide ws)
+
+pub fieldlike : (ws : List ℕ) → allWide ws ≡ true → Fieldlike ws
+fieldlike [] h = tt
+fieldlike (w ∷ ws) h =
+    let p = and-both (ltb 0 w) _ h in
+    let q = and-both (leb w 57) (allWide ws) (p .1) in
+    ((ltb-true 0 w (p .0), leb-true w 57 (q .0)), fieldlike ws (q .1))
+
+pub spread-vacant : (bs : List Bool) (ws vs : List ℕ) → length ws ≡ trues bs → allWide ws ≡ true → vacant (spread bs ws) (spread bs vs) ≡ true
+unfolding vacant
+spread-vacant [] ws vs l h = refl
+spread-vacant (false ∷ bs) ws vs l h = spread-vacant bs ws vs l h
+spread-vacant (true ∷ bs) [] vs l h = absurd (suc-ne-zero (trues bs) (sym l))
+spread-vacant (true ∷ bs) (w ∷ ws) [] l h = simp (ne-eqb w 0 (wide w (and-both (ltb 0 w) _ h .0))) (spread-vacant bs ws [] (suc-inj l) (and-both (leb w 57) _ (and-both (ltb 0 w) _ h .1) .1))
+  where
+    wide : (w : ℕ) → ltb 0 w ≡ true → w ≡ 0 → ⊥
+    wide w e z = omega (arith, ltb-true 0 w e)
+spread-vacant (true ∷ bs) (w ∷ ws) (v ∷ vs) l h = simp (ne-eqb w 0 (wide w (and-both (ltb 0 w) _ h .0))) (spread-vacant bs ws vs (suc-inj l) (and-both (leb w 57) _ (and-both (ltb 0 w) _ h .1) .1))
+  where
+    wide : (w : ℕ) → ltb 0 w ≡ true → w ≡ 0 → ⊥
+    wide w e z = omega (arith, ltb-true 0 w e)
+
+-- what is vacant is told by its values
+pub vacant-again : (bs : List Bool) (ws vs : List ℕ) → length ws ≡ trues bs → length vs ≡ length bs → vacant (spread bs ws) vs ≡ true → spread bs (sift bs vs) ≡ vs
+unfolding vacant
+vacant-again [] ws [] l m h = refl
+vacant-again [] ws (v ∷ vs) l m h = absurd (suc-ne-zero (length vs) m)
+vacant-again (b ∷ bs) ws [] l m h = absurd (suc-ne-zero (length bs) (sym m))
+vacant-again (false ∷ bs) ws (v ∷ vs) l m h =
+    let p = and-both (eqb v 0) (vacant (spread bs ws) vs) h in
+    ap₂ (λ (x : ℕ) (y : List ℕ). x ∷ y) (sym (eqb-true v 0 (p .0))) (vacant-again bs ws vs l (suc-inj m) (p .1))
+vacant-again (true ∷ bs) [] (v ∷ vs) l m h = absurd (suc-ne-zero (trues bs) (sym l))
+vacant-again (true ∷ bs) (w ∷ ws) (v ∷ vs) l m h =
+    ap (λ (y : List ℕ). v ∷ y) (vacant-again bs ws vs (suc-inj l) (suc-inj m) (and-both (cond (eqb w 0) (eqb v 0) true) (vacant (spread bs ws) vs) h .1))
+
+-- fields without bits are passed over where values are laid
+pub spread-laid : (s : List ℕ) (bs : List Bool) (ws vs : List ℕ) (a : ℕ) → length ws ≡ trues bs → length vs ≡ length bs → allWide ws ≡ true → a + total ws ≤ 256
+    → laidIn s a (spread bs ws) vs ≡ laid s a ws (sift bs vs)
+unfolding laidIn
+spread-laid s [] [] vs a l m h i = refl
+spread-laid s [] (w ∷ ws) vs a l m h i = absurd (suc-ne-zero (length ws) l)
+spread-laid s (b ∷ bs) ws [] a l m h i = absurd (suc-ne-zero (length bs) (sym m))
+spread-laid s (false ∷ bs) ws (v ∷ vs) a l m h i =
+    let j : a ≤ 256 = omega arith in
+    let z : a + 0 ≡ a = omega arith in
+    simp (le-ltb 256 a j, z) (spread-laid s bs ws vs a l (suc-inj m) h i)
+spread-laid s (true ∷ bs) [] (v ∷ vs) a l m h i = absurd (suc-ne-zero (trues bs) (sym l))
+spread-laid s (true ∷ bs) (w ∷ ws) (v ∷ vs) a l m h i =
+    let f = fieldlike (w ∷ ws) h in
+    let j : a ≤ 256 = omega arith in
+    let k : a + w ≤ 256 = omega arith in
+    let z : w ≡ 0 → ⊥ = λ e. omega (arith, f .0 .0, e) in
+    simp (le-ltb 256 a j, ne-eqb w 0 z, placed-in s a w v k (f .0 .1))
+    (spread-laid (placed s a w v) bs ws vs (a + w) (suc-inj l) (suc-inj m) (and-both (leb w 57) _ (and-both (ltb 0 w) _ h .1) .1) (omega arith))
