@@ -9,7 +9,6 @@ use Prim.Native.Nat.{ℕ, _-_, _<_}
 use lib.ListN.{length}
 use Rattle.report.specs.declared.record.Record.{Record}
 use Rattle.nankai.specs.declared.PageNumbers.{PageNumbers}
-use Rattle.report.specs.declared.record.Body.the-variants.{Nankai}
 use Rattle.rows.specs.declared.refusal.Refusal.{Refusal}
 use Rattle.rows.specs.declared.refusal.Refusal.the-variants.{Unsound}
 use Rattle.report.specs.Runs.Writing.{writeAnswer, Valid}
@@ -18,26 +17,27 @@ use Rattle.rows.specs.declared.refusal.Verdict.the-variants.{Fine, Refused}
 use Rattle.pages.specs.declared.name.Name.{Name}
 use Rattle.bulletin.specs.declared.store.Store.{Store}
 use Rattle.bulletin.specs.declared.take.Admission.{Admission}
-use Rattle.bulletin.specs.declared.take.Admission.the-variants.{Number, Refused as NotAdmitted}
-use Rattle.bulletin.specs.declared.take.Taken.the-variants.{New, Same, Disputed, Refused as RefusedTaking}
 use Rattle.pages.specs.Pages.{join, heldPage, disputedPage}
 use Rattle.nankai.specs.Nankai.{nankai}
-use Rattle.report.specs.Records.{values}
 use Rattle.rows.specs.Faults.{Lowest}
-use Rattle.pages.specs.Names.{firstPageOf, nameVerdict, sameName}
+use Rattle.pages.specs.Names.{nameVerdict, sameName, nameValues}
 use Rattle.bulletin.specs.Stores.{noPages, zeroStore, opening, openOf, soundStore, pageBehind}
 use Rattle.bulletin.specs.Takings.{takingAnswer, bulletinOf, pageNumberIn, writable, admission, putPage, taking, takeOf}
 use Rattle.bulletin.specs.Merges.{mergeVerdict, merging, mergeOf}
 use Rattle.bulletin.proofs.Taking.TakingOutcomes.{of-bulletin, writable-record}
 use Rattle.pages.proofs.Ranges.{first-bad-value}
 use Rattle.bulletin.proofs.Taking.HeldTexts.{taking-keeps}
+use Rattle.report.specs.declared.body.Body.the-variants.{Nankai}
+use Rattle.report.specs.Categories.{pagedOf}
+use Rattle.bulletin.specs.declared.take.Admission.the-variants.{Number, Refused as NotAdmitted}
+use Rattle.bulletin.specs.declared.take.Taken.the-variants.{New, Same, Disputed, Refused as RefusedTaking}
 
 -- "So every name in range is opened": without a page
 pub every-name-in-range-is-opened : (n : Name) → nameVerdict n ≡ Fine → openOf n ≡ record { answer = Fine; store = noPages n }
 every-name-in-range-is-opened n e = ap (λ (v : Verdict). opening v n) e
 
 -- "Opening: 8 at the first bad value in frame order": of the values of the bulletin's first page, by the table of category 4
-pub opening-is-refused-at-the-first-bad-value : (n : Name) (x : Refusal) → nameVerdict n ≡ Refused x → Lowest nankai (values (firstPageOf n) 0 0) x
+pub opening-is-refused-at-the-first-bad-value : (n : Name) (x : Refusal) → nameVerdict n ≡ Refused x → Lowest nankai (nameValues n) x
 opening-is-refused-at-the-first-bad-value = first-bad-value
 
 -- "a refused opening [gives] a store of zeros"
@@ -78,7 +78,7 @@ pub a-sound-store-takes-every-page : (s : Store) (r : Record) (p : PageNumbers) 
     → sameName (bulletinOf (r .common) p) (s .name) ≡ true → takeOf s r ≡ putPage s (p .number - 1) (r .text)
 unfolding taking
 a-sound-store-takes-every-page s r p e v f g =
-    ap (λ (a : Admission). taking a s (r .text)) (sym (of-bulletin (s .name) (r .common) (r .body) p f g ∙ writable-record s r (writeAnswer r 32) e refl v))
+    ap (λ (a : Admission). taking a s (r .text)) (sym (of-bulletin (s .name) (r .common) (r .body) p (ap pagedOf f) g ∙ writable-record s r (writeAnswer r 32) e refl v))
 
 -- "Preamble and Reserved play no part"
 asked : (s : Store) (r : Record) → Valid r → admission s r ≡ cond (soundStore s) (pageNumberIn (s .name) (r .common) (r .body)) (NotAdmitted Unsound)

@@ -4,13 +4,9 @@ use mathlib.Core.List.{List}
 use Prim.Native.Nat.{ℕ, _-_}
 use lib.ListN.{set}
 use lib.Dec.{eqb}
-use Rattle.report.specs.declared.record.Common.{Common}
-use Rattle.report.specs.declared.record.Body.{Body}
-use Rattle.report.specs.declared.record.Body.the-variants.{NoCategory, Hypocenter, Intensity, Nankai, AshFall}
 use Rattle.report.specs.declared.record.Record.{Record}
 use Rattle.nankai.specs.declared.PageNumbers.{PageNumbers}
 use Rattle.rows.specs.declared.refusal.Verdict.{Verdict}
-use Rattle.rows.specs.declared.refusal.Verdict.the-variants.{Fine, Refused as Refuses}
 use Rattle.rows.specs.declared.refusal.Refusal.the-variants.{NoPage, OtherBulletin, Unsound}
 use Rattle.report.specs.Runs.Writing.{writeAnswer}
 use Rattle.pages.specs.declared.page.Page.{Page}
@@ -20,10 +16,16 @@ use Rattle.bulletin.specs.declared.take.Taken.{Taken}
 use Rattle.bulletin.specs.declared.take.Taken.the-variants.{New, Same, Disputed, Refused}
 use Rattle.bulletin.specs.declared.take.Taking.{Taking}
 use Rattle.bulletin.specs.declared.take.Admission.{Admission}
-use Rattle.bulletin.specs.declared.take.Admission.the-variants.{Number, Refused as NotAdmitted}
 use Rattle.pages.specs.Pages.{join, heldPage}
 use Rattle.pages.specs.Names.{sameName}
 use Rattle.bulletin.specs.Stores.{soundStore, pageBehind}
+use Rattle.report.specs.declared.body.Body.{Body}
+use Rattle.rows.specs.declared.common.Common.{Common}
+use Rattle.report.specs.declared.body.Paged.the-variants.{NoPages, Numbers}
+use Rattle.report.specs.declared.body.Paged.{Paged}
+use Rattle.report.specs.Categories.{pagedOf}
+use Rattle.rows.specs.declared.refusal.Verdict.the-variants.{Fine, Refused as Refuses}
+use Rattle.bulletin.specs.declared.take.Admission.the-variants.{Number, Refused as NotAdmitted}
 
 -- "new where it was absent, same where it was held with those 18 bytes, and disputed otherwise": by the page before and after
 unfoldable pub takingAnswer : Page → Page → Taken
@@ -34,12 +36,12 @@ abbrev pub bulletinOf : Common → PageNumbers → Name
 bulletinOf c p = record { common = c; serial = p .serial; total = p .total }
 
 -- 12, then 13
+abbrev pub numberIn : Name → Common → Paged → Admission
+numberIn n c NoPages = NotAdmitted NoPage
+numberIn n c (Numbers p) = cond (sameName (bulletinOf c p) n) (Number (p .number)) (NotAdmitted OtherBulletin)
+
 unfoldable pub pageNumberIn : Name → Common → Body → Admission
-pageNumberIn n c (Nankai p) = cond (sameName (bulletinOf c p) n) (Number (p .number)) (NotAdmitted OtherBulletin)
-pageNumberIn n c NoCategory = NotAdmitted NoPage
-pageNumberIn n c (Hypocenter q) = NotAdmitted NoPage
-pageNumberIn n c (Intensity t) = NotAdmitted NoPage
-pageNumberIn n c (AshFall e) = NotAdmitted NoPage
+pageNumberIn n c b = numberIn n c (pagedOf b)
 
 abbrev pub writable : Verdict → Admission → Admission
 writable Fine a = a

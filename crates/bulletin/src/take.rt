@@ -6,7 +6,7 @@ ghost use Rattle.bulletin.specs.Steps.{soundness, admissionVerdict, refu
 use crate::store::Store;
 use pages::name::Name;
 use pages::page::Page;
-use report::record::Body;
+use report::body::Paged;
 use report::record::Record;
 use report::write::write_answer;
 use rows::refusal::Refusal;
@@ -51,7 +51,7 @@ fn admit(name: Name, came: Record) -> Admission
 {
     let common = came.common;
     let body = came.body;
-    let Body::Nankai(page) = body else {
+    let Paged::Numbers(page) = body.page() else {
         return Admission::Refused(Refusal::NoPage);
     };
     let found = Name {

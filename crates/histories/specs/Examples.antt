@@ -3,10 +3,10 @@
 use mathlib.Core.Path.{refl}
 use mathlib.Core.List.{List, [], _∷_}
 use lib.ListN.{replicate}
-use Rattle.report.specs.declared.record.Body.the-variants.{Nankai}
 use Rattle.slots.specs.Slots.{noSlot}
 use Rattle.pages.specs.declared.name.Name.{Name}
 use Rattle.histories.specs.Frames.{Frame}
+use Rattle.report.specs.declared.body.Body.the-variants.{Nankai}
 
 -- a bulletin of two pages
 abbrev pub ofTwoPages : Name

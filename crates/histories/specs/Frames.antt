@@ -4,7 +4,6 @@ use mathlib.Core.List.{List, [], _∷_}
 use mathlib.Core.Logic.{_⊎_}
 use Prim.Native.Nat.{ℕ, _-_}
 use lib.ListN.{length}
-use Rattle.report.specs.declared.record.Body.the-variants.{Nankai}
 use Rattle.report.specs.declared.record.Record.{Record}
 use Rattle.report.specs.Runs.Writing.{Valid}
 use Rattle.pages.specs.declared.page.Page.{Page}
@@ -12,6 +11,7 @@ use Rattle.pages.specs.declared.name.Name.{Name}
 use Rattle.bulletin.specs.declared.store.Store.{Store}
 use Rattle.bulletin.specs.Stores.{openOf, pageBehind}
 use Rattle.bulletin.specs.Takings.{takeOf}
+use Rattle.report.specs.declared.body.Body.the-variants.{Nankai}
 
 -- a frame is what its record says: "sixteen slots (hour, strength or intensity, place) and 18 text bytes"
 pub record Frame : Type 0 where

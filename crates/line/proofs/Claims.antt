@@ -12,8 +12,8 @@ use Rattle.report.specs.declared.record.Record.{Record}
 use Rattle.report.specs.Records.{zeros}
 use Rattle.report.specs.Runs.Reading.{readOf}
 use Rattle.report.specs.Runs.Writing.{frame, Valid}
-use Rattle.report.proofs.Tables.Shapes.{Shaped}
 use Rattle.line.specs.Lines.{worth, capitals, isLine, frameOfLine, lineReading, lineOf}
+use Rattle.report.proofs.Shaped.{Shaped}
 use Rattle.line.proofs.ThereAndBack
 use Rattle.line.proofs.DigitBits as Places
 use Rattle.line.proofs.Pairs as Pairs

@@ -1,6 +1,5 @@
 -- The lines of text of a listing (document 01, "The listing"): "line number from 1, answer (0 when read), first bit for 8, 9, 10, category, slots used in
 -- categories 3 and 9".
-use Rattle.rows.specs.Layout.{Slots}
 use Prim.Native.Nat.{ℕ}
 use mathlib.Core.Bool.{_&&_, cond}
 use mathlib.Core.List.{List, [], _∷_, _++_}
@@ -12,12 +11,12 @@ use Rattle.rows.specs.declared.refusal.Verdict.the-variants.{Fine, Refused}
 use Rattle.report.specs.declared.record.Record.{Record}
 use Rattle.report.specs.declared.read.Reading.{Reading}
 use Rattle.rows.specs.Refusals.{says}
-use Rattle.report.specs.Layout.{layout}
 use Rattle.report.specs.Meaning.{usedOf}
 use Rattle.listing.specs.declared.row.Entry.{Entry}
 use Rattle.listing.specs.declared.row.Entry.the-variants.{Dash, Number}
 use Rattle.listing.specs.declared.row.Row.{Row}
 use Rattle.lent.specs.Numbers.{decimal}
+use Rattle.report.specs.Categories.{layout}
 
 -- ---- what is said of a line
 
@@ -26,15 +25,15 @@ abbrev pub placeEntry : Said → Entry
 placeEntry a = cond (leb 8 (a .number) && leb (a .number) 10) (Number (a .place)) Dash
 
 -- "slots used in categories 3 and 9": in those that have slots
-abbrev pub slotsEntry : Slots → ℕ → Entry
-slotsEntry k n = cond (eqb (k .count) 0) Dash (Number n)
+abbrev pub slotsEntry : ℕ → ℕ → Entry
+slotsEntry count n = cond (eqb count 0) Dash (Number n)
 
 abbrev pub refusedRow : ℕ → Entry → Row
 refusedRow number place = record { answer = number; place = place; category = Dash; slots = Dash }
 
 -- "Category and slots are given only for a frame that was read"
 abbrev pub rowFor : Verdict → Record → Row
-rowFor Fine r = record { answer = 0; place = Dash; category = Number (layout (r .body) .code); slots = slotsEntry (layout (r .body) .slots) (usedOf r) }
+rowFor Fine r = record { answer = 0; place = Dash; category = Number (layout (r .body) .code); slots = slotsEntry (layout (r .body) .slots .count) (usedOf r) }
 rowFor (Refused x) r = refusedRow (says x .number) (placeEntry (says x))
 
 abbrev pub rowOf : Reading → Row

@@ -5,7 +5,6 @@ ghost use lib.ListN.{length};
 ghost use Rattle.rows.specs.Refusals.{says};
 ghost use Rattle.report.specs.Meaning.{usedOf};
 ghost use Rattle.rows.specs.declared.refusal.Verdict.the-variants.{Fine};
-ghost use Rattle.slots.specs.Slots.{slotTable};
 ghost use Rattle.listing.specs.Rows.{rowFor, rowOf, refusedRow, placeEntry, slotsEntry, entryText, rowText, headingText, cutText, filled, filledBy};
 ghost use Rattle.lent.specs.Writing.{Wrote};
 use lent::put_byte;
@@ -16,7 +15,6 @@ use report::record::Record;
 use rows::refusal::Refusal;
 use rows::refusal::Said;
 use rows::refusal::Verdict;
-use slots::kind::SlotKind;
 
 // No line of a listing is longer: its heading is the longest.
 pub const LONGEST: usize = 27;
@@ -60,10 +58,10 @@ impl Row {
     }
 
     // A category without slots has nothing to say of them.
-    fn slots_entry(kind: SlotKind, found: Record) -> Entry
-        ensures { λ r. ⌜ r ≡ slotsEntry (slotTable kind) (usedOf found) ⌝ }
+    fn slots_entry(count: usize, found: Record) -> Entry
+        ensures { λ r. ⌜ r ≡ slotsEntry count (usedOf found) ⌝ }
     {
-        if kind.count() == 0 {
+        if count == 0 {
             return Entry::Dash;
         }
         Entry::Number(found.slots_used() as u8)
@@ -73,13 +71,13 @@ impl Row {
         ensures { λ r. ⌜ r ≡ rowFor Fine found ⌝ }
     {
         let body = found.body;
-        let shape = body.shape();
-        let kind = shape.slots;
-        let slots = Row::slots_entry(kind, found);
+        let fields = body.fields(0, 0);
+        let table = fields.table;
+        let slots = Row::slots_entry(table.count, found);
         Row {
             answer: 0,
             place: Entry::Dash,
-            category: Entry::Number(shape.code),
+            category: Entry::Number(table.code),
             slots: slots,
         }
     }

@@ -1,49 +1,67 @@
 -- What a name in range tells, and one out of range.
-use mathlib.Core.List.{_∷_, []}
-use mathlib.Core.Path.{_≡_, refl}
+use mathlib.Core.List.{[]}
+use mathlib.Core.Path.{_≡_, refl, _∙_}
 use mathlib.Core.Bool.{true}
-use Prim.Native.Nat.{_≤_}
+use Prim.Native.Nat.{_≤_, ℕ, suc, zero}
 use Rattle.rows.specs.declared.refusal.Verdict.{Verdict}
 use Rattle.rows.specs.declared.refusal.Verdict.the-variants.{Fine, Refused}
 use Rattle.rows.specs.declared.refusal.Refusal.{Refusal}
-use Rattle.report.specs.Layout.{layout}
-use Rattle.nankai.specs.Nankai.{nankai}
-use Rattle.report.specs.Records.{values, bodyValues}
+use Rattle.nankai.specs.Nankai.{nankai, numberValues}
 use Rattle.rows.specs.Kept.{Holds}
 use Rattle.rows.specs.Faults.{Lowest}
 use Rattle.rows.proofs.Rules.Judged.{turn-place}
-use Rattle.rows.proofs.Rules.Outcomes.{false-not-true}
-use Rattle.rows.proofs.Rules.JudgedFrames.{JudgesAll}
-use Rattle.report.proofs.Writing.Validity.{judged-record}
+use Rattle.rows.proofs.Rules.Outcomes.{false-not-true, fine-then, then-assoc, then-fine}
+use Rattle.rows.proofs.Rules.JudgedFrames.{JudgesAll, judged}
 use Rattle.pages.specs.declared.name.Name.{Name}
-use Rattle.pages.specs.Names.{firstPageOf, nameVerdict, isFine}
-use Rattle.pages.proofs.Numbered.{Numbered, past-text}
+use Rattle.pages.specs.Names.{nameVerdict, isFine, nameValues, pageOne}
+use Rattle.pages.proofs.Numbered.{Numbered, kept-numbered}
+use Rattle.bits.specs.Frame.{Bytes}
+use Rattle.rows.specs.Runs.Questions.{_then_, unless}
+use Rattle.nankai.proofs.Walks.{any-text-passes}
+use Rattle.rows.specs.Runs.Verdict.{bodyVerdict, verdict, allowed, judge, walk}
+use lib.ListN.{replicate}
+use Rattle.rows.specs.Values.{headValues, lastValues}
+use lib.Dec.{lit<}
+use Rattle.rows.specs.Layout.{ending}
 
 pub is-fine : (v : Verdict) → isFine v ≡ true → v ≡ Fine
 is-fine Fine e = refl
 is-fine (Refused x) e = absurd (false-not-true e)
 
 -- the name is fine where each value of its first page keeps its row's rule, and nowhere else
-judged : (n : Name) → JudgesAll nankai (values (firstPageOf n) 0 0)
-judged n = judged-record (firstPageOf n) refl
+judges : (n : Name) → JudgesAll nankai (nameValues n)
+judges n = judged nankai (nameValues n) refl refl
 
-pub fine-holds : (n : Name) → nameVerdict n ≡ Fine → Holds nankai (values (firstPageOf n) 0 0)
+pub fine-holds : (n : Name) → nameVerdict n ≡ Fine → Holds nankai (nameValues n)
 unfolding nameVerdict
-fine-holds n h = judged n .passed h
+fine-holds n h = judges n .passed h
 
-pub holds-fine : (n : Name) → Holds nankai (values (firstPageOf n) 0 0) → nameVerdict n ≡ Fine
+pub holds-fine : (n : Name) → Holds nankai (nameValues n) → nameVerdict n ≡ Fine
 unfolding nameVerdict
-holds-fine n h = judged n .passes h
+holds-fine n h = judges n .passes h
 
 -- and where it is not, no value that breaks its rule has a lower bit than the one that is named
-pub first-bad-value : (n : Name) (x : Refusal) → nameVerdict n ≡ Refused x → Lowest nankai (values (firstPageOf n) 0 0) x
+pub first-bad-value : (n : Name) (x : Refusal) → nameVerdict n ≡ Refused x → Lowest nankai (nameValues n) x
 unfolding nameVerdict
-first-bad-value n x e = record { there = judged n .found x e; lowest = λ y f. turn-place x y (judged n .earliest x y e f) }
+first-bad-value n x e = record { there = judges n .found x e; lowest = λ y f. turn-place x y (judges n .earliest x y e f) }
+
+-- what the code asks: the rest of that frame passes
+zero-bytes : (n : ℕ) → Bytes (replicate n 0)
+zero-bytes zero i = lit< tt
+zero-bytes (suc n) zero = lit< tt
+zero-bytes (suc n) (suc i) = zero-bytes n i
+
+last-passes : walk [] ending (lastValues 0) ≡ Fine
+unfolding walk judge unless allowed _then_
+last-passes = refl
+
+pub name-found : (n : Name) (v : Verdict) → v ≡ Fine then bodyVerdict nankai (headValues (n .common) 4) (numberValues (pageOne n) 0 0) [] → v ≡ nameVerdict n
+unfolding nameVerdict verdict bodyVerdict
+name-found n v e = e ∙ simp (any-text-passes (replicate 18 0) (zero-bytes 18), last-passes, fine-then, then-fine, then-assoc)
 
 -- its first page is page 1 of a total from 1 to 63
-pub name-numbered : (n : Name) → nameVerdict n ≡ Fine → Numbered (record { serial = n .serial; number = 1; total = n .total })
-unfolding values bodyValues
-name-numbered n h = past-text 18 57 (n .serial ∷ 0 ∷ []) (firstPageOf n .text) _ refl (fine-holds n h .front .1 .1)
+pub name-numbered : (n : Name) → nameVerdict n ≡ Fine → Numbered (pageOne n)
+name-numbered n h = kept-numbered (pageOne n) (fine-holds n h .behind)
 
 pub total-most : (n : Name) → nameVerdict n ≡ Fine → n .total ≤ 63
 total-most n h = name-numbered n h .most

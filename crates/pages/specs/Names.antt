@@ -2,35 +2,39 @@
 use mathlib.Core.Bool.{Bool, true, false, _&&_}
 use lib.Dec.{eqb}
 use lib.ListN.{replicate}
-use Rattle.report.specs.declared.record.Common.{Common}
-use Rattle.report.specs.declared.record.Body.the-variants.{Nankai}
-use Rattle.report.specs.declared.record.Record.{Record}
 use Rattle.rows.specs.declared.refusal.Verdict.{Verdict}
 use Rattle.rows.specs.declared.refusal.Verdict.the-variants.{Fine, Refused}
-use Rattle.nankai.specs.Nankai.{nankai}
-use Rattle.slots.specs.Slots.{noSlot}
-use Rattle.report.specs.Records.{values}
+use Rattle.nankai.specs.Nankai.{nankai, numberValues}
 use Rattle.rows.specs.Runs.Verdict.{verdict}
 use Rattle.pages.specs.declared.name.Name.{Name}
+use Rattle.rows.specs.declared.common.Common.{Common}
+use Rattle.nankai.specs.declared.PageNumbers.{PageNumbers}
+use Rattle.rows.specs.Values.{Values, headValues, lastValues}
+use mathlib.Core.List.{[]}
+use Rattle.bits.specs.Frame.{number}
 
 abbrev pub zeroName : Name
 zeroName = record { common = record { rc = 0; month = 0; day = 0; hour = 0; minute = 0; it = 0 }; serial = 0; total = 0 }
 
--- page 1 of the bulletin, without text: what stands in it beside the name passes
-abbrev pub firstPageOf : Name → Record
-firstPageOf n = record {
-  preamble = 0;
-  reserved = 0;
-  common = n .common;
-  body = Nankai (record { serial = n .serial; number = 1; total = n .total });
-  slots = replicate 16 noSlot;
+-- the numbers of page 1 of the bulletin
+abbrev pub pageOne : Name → PageNumbers
+pageOne n = record { serial = n .serial; number = 1; total = n .total }
+
+-- the values of a frame with that page and without text: what stands in it beside the name passes
+abbrev pub nameValues : Name → Values
+nameValues n = record {
+  head = headValues (n .common) 4;
+  front = numberValues (pageOne n) 0 0 .front;
+  slots = [];
   text = replicate 18 0;
+  behind = numberValues (pageOne n) 0 0 .behind;
+  last = lastValues 0;
 }
 
 -- "Opening: 8 at the first bad value in frame order; the total is 1-63, at bit 207": what the table of category 4 says of
 -- that page, whose total is at least the page number, 1
 unfoldable pub nameVerdict : Name → Verdict
-nameVerdict n = verdict nankai (values (firstPageOf n) 0 0)
+nameVerdict n = verdict nankai (nameValues n)
 
 abbrev pub isFine : Verdict → Bool
 isFine Fine = true

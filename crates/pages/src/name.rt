@@ -1,14 +1,10 @@
 // Which bulletin a page is of: report classification, issue time, information type, kind of
 // information and page total.
 ghost use mathlib.Core.Path.{_≡_};
-ghost use Rattle.pages.specs.Names.{zeroName, firstPageOf, nameVerdict, nameInRange, sameCommon, sameName};
+ghost use Rattle.pages.specs.Names.{zeroName, nameVerdict, nameInRange, sameCommon, sameName};
 use nankai::PageNumbers;
-use report::check::check;
-use report::record::Body;
-use report::record::Common;
-use report::record::Record;
+use rows::common::Common;
 use rows::refusal::Verdict;
-use slots::slot::Slot;
 
 pub struct Name {
     pub common: Common,
@@ -56,37 +52,18 @@ impl Name {
         }
     }
 
-    // Page 1 of the bulletin, without text.
-    fn first_page(self) -> Record
-        ensures { λ r. ⌜ r ≡ firstPageOf self ⌝ }
-    {
-        let common = self.common;
-        let body = Body::Nankai(PageNumbers {
-            serial: self.serial,
-            number: 1,
-            total: self.total,
-        });
-        let none = Slot {
-            hour: 0,
-            strength: 0,
-            place: 0,
-        };
-        Record {
-            preamble: 0,
-            reserved: 0,
-            common: common,
-            body: body,
-            slots: [none; 16],
-            text: [0u8; crate::page::Page::BYTES],
-        }
-    }
-
     // 8 at the first value that is out of range, in the order of a frame: a name is in range where
-    // its first page is, so the ranges of a frame's fields stand in one place.
+    // page 1 of its bulletin is, so the ranges of a frame's fields stand in one place.
     pub fn verdict(self) -> Verdict
         ensures { λ r. ⌜ r ≡ nameVerdict self ⌝ }
     {
-        check(self.first_page(), 0, 0)
+        let common = self.common;
+        let page = PageNumbers {
+            serial: self.serial,
+            number: 1,
+            total: self.total,
+        };
+        page.check(Verdict::Fine, common, 0, 0)
     }
 
     pub fn is_in_range(self) -> bool

@@ -1,24 +1,15 @@
 -- The ways out of admitting a record, and of taking it.
 use mathlib.Core.Path.{_≡_, refl, ap, sym, _∙_}
 use mathlib.Core.Bool.{Bool, true, false, cond}
-use mathlib.Core.List.{[], _∷_}
-use mathlib.Core.Logic.{⊎-elim}
 use Prim.Native.Nat.{ℕ, _-_}
 use native.Mathlib.Omega.{arith}
-use denote.Enum.Declared
-use types.Run
-use Rattle.report.specs.declared.record.Common.{Common}
-use Rattle.report.specs.declared.record.Body.{Body}
-use Rattle.report.specs.declared.record.Body.the-variants.{NoCategory, Hypocenter, Intensity, Nankai, AshFall}
 use Rattle.nankai.specs.declared.PageNumbers.{PageNumbers}
 use Rattle.report.specs.declared.record.Record.{Record}
 use Rattle.rows.specs.declared.refusal.Verdict.{Verdict}
-use Rattle.rows.specs.declared.refusal.Verdict.the-variants.{Fine, Refused as Refuses}
 use Rattle.rows.specs.declared.refusal.Refusal.{Refusal}
 use Rattle.rows.specs.declared.refusal.Refusal.the-variants.{NoPage, OtherBulletin, Unsound}
 use Rattle.report.specs.Runs.Writing.{writeAnswer, Valid}
 use Rattle.rows.proofs.Rules.Outcomes.{unless-fine, unless-refused}
-use Rattle.report.proofs.record.Body as B
 use Rattle.pages.specs.declared.name.Name.{Name}
 use Rattle.bulletin.specs.declared.take.Admission.{Admission}
 use Rattle.bulletin.specs.declared.take.Admission.the-variants.{Number, Refused}
@@ -26,34 +17,26 @@ use Rattle.bulletin.specs.declared.store.Store.{Store}
 use Rattle.pages.specs.Names.{sameName}
 use Rattle.bulletin.specs.Stores.{soundStore}
 use Rattle.bulletin.specs.declared.take.Taking.{Taking}
-use Rattle.bulletin.specs.Takings.{bulletinOf, pageNumberIn, writable, admission, putPage, taking, takeOf}
+use Rattle.bulletin.specs.Takings.{bulletinOf, pageNumberIn, writable, admission, putPage, taking, takeOf, numberIn}
 use Rattle.bulletin.specs.Steps.{soundness, refusedTaking}
+use Rattle.report.specs.declared.body.Body.the-variants.{Nankai}
+use Rattle.report.specs.declared.body.Body.{Body}
+use Rattle.rows.specs.declared.common.Common.{Common}
+use Rattle.report.specs.declared.body.Paged.the-variants.{NoPages, Numbers}
+use Rattle.report.specs.declared.body.Paged.{Paged}
+use Rattle.report.proofs.Categories.{paged-back}
+use Rattle.report.specs.Categories.{pagedOf}
+use Rattle.rows.specs.declared.refusal.Verdict.the-variants.{Fine, Refused as Refuses}
 
-no0 : _≡_ {A = ℕ} 3 0 → ⊥
-no0 z = omega arith
-
-no1 : _≡_ {A = ℕ} 3 1 → ⊥
-no1 z = omega arith
-
-no2 : _≡_ {A = ℕ} 3 2 → ⊥
-no2 z = omega arith
-
-no4 : _≡_ {A = ℕ} 3 4 → ⊥
-no4 z = omega arith
-
-pub no-page : (n : Name) (c : Common) (b : Body) → Run.OneOf (0 ∷ 1 ∷ 2 ∷ 4 ∷ []) (Declared.tagOf B.the-type b) → Refused NoPage ≡ pageNumberIn n c b
+pub no-page : (n : Name) (c : Common) (b : Body) (p : Paged) → p ≡ pagedOf b → p ≡ NoPages → Refused NoPage ≡ pageNumberIn n c b
 unfolding pageNumberIn
-no-page n c NoCategory h = refl
-no-page n c (Hypocenter q) h = refl
-no-page n c (Intensity t) h = refl
-no-page n c (Nankai p) h = absurd (⊎-elim no0 (⊎-elim no1 (⊎-elim no2 no4)) h)
-no-page n c (AshFall e) h = refl
+no-page n c b p e f = ap (numberIn n c) (sym f ∙ e)
 
-pub of-bulletin : (n : Name) (c : Common) (b : Body) (p : PageNumbers) → b ≡ Nankai p → sameName (bulletinOf c p) n ≡ true → Number (p .number) ≡ pageNumberIn n c b
+pub of-bulletin : (n : Name) (c : Common) (b : Body) (p : PageNumbers) → pagedOf b ≡ Numbers p → sameName (bulletinOf c p) n ≡ true → Number (p .number) ≡ pageNumberIn n c b
 unfolding pageNumberIn
 of-bulletin n c b p e f = simp (e, f)
 
-pub of-another : (n : Name) (c : Common) (b : Body) (p : PageNumbers) → b ≡ Nankai p → sameName (bulletinOf c p) n ≡ false → Refused OtherBulletin ≡ pageNumberIn n c b
+pub of-another : (n : Name) (c : Common) (b : Body) (p : PageNumbers) → pagedOf b ≡ Numbers p → sameName (bulletinOf c p) n ≡ false → Refused OtherBulletin ≡ pageNumberIn n c b
 unfolding pageNumberIn
 of-another n c b p e f = simp (e, f)
 
@@ -93,19 +76,20 @@ pub record Admits (s : Store) (r : Record) (k : ℕ) : Type 0 where
   pub same : sameName (bulletinOf (r .common) page) (s .name) ≡ true
   pub number : page .number ≡ k
 
+belongs : (n : Name) (c : Common) (g : Paged) (k : ℕ) → numberIn n c g ≡ Number k
+    → (p : PageNumbers) × (g ≡ Numbers p) × (sameName (bulletinOf c p) n ≡ true) × (p .number ≡ k)
+belongs n c NoPages k h = absurd (no-number NoPage k h)
+belongs n c (Numbers p) k h = go (sameName (bulletinOf c p) n) refl h
+  where
+    go : (t : Bool) → sameName (bulletinOf c p) n ≡ t → cond t (Number (p .number)) (Refused OtherBulletin) ≡ Number k
+        → (q : PageNumbers) × (Numbers p ≡ Numbers q) × (sameName (bulletinOf c q) n ≡ true) × (q .number ≡ k)
+    go true e f = (p, refl, e, cc)
+    go false e f = absurd (no-number OtherBulletin k f)
+
 belongs-back : (n : Name) (c : Common) (b : Body) (k : ℕ) → pageNumberIn n c b ≡ Number k
     → (p : PageNumbers) × (b ≡ Nankai p) × (sameName (bulletinOf c p) n ≡ true) × (p .number ≡ k)
 unfolding pageNumberIn
-belongs-back n c NoCategory k h = absurd (no-number NoPage k h)
-belongs-back n c (Hypocenter q) k h = absurd (no-number NoPage k h)
-belongs-back n c (Intensity t) k h = absurd (no-number NoPage k h)
-belongs-back n c (Nankai p) k h = go (sameName (bulletinOf c p) n) refl h
-  where
-    go : (t : Bool) → sameName (bulletinOf c p) n ≡ t → cond t (Number (p .number)) (Refused OtherBulletin) ≡ Number k
-        → (q : PageNumbers) × (Nankai p ≡ Nankai q) × (sameName (bulletinOf c q) n ≡ true) × (q .number ≡ k)
-    go true e f = (p, refl, e, cc)
-    go false e f = absurd (no-number OtherBulletin k f)
-belongs-back n c (AshFall e) k h = absurd (no-number NoPage k h)
+belongs-back n c b k h = let q = belongs n c (pagedOf b) k h in (q .0, paged-back b (q .0) (q .1), q .2, q .3)
 
 pub admits : (s : Store) (r : Record) (k : ℕ) → admission s r ≡ Number k → Admits s r k
 unfolding admission

@@ -7,8 +7,6 @@ use Prim.Native.Nat.{ℕ, _-_, _≤_}
 use native.Mathlib.Omega.{arith}
 use lib.Dec.{eqb}
 use borrow.Author.Tests.{eqb-true, eq-eqb}
-use Rattle.report.specs.declared.record.Common.{Common}
-use Rattle.report.specs.declared.record.Body.the-variants.{Nankai}
 use Rattle.nankai.specs.declared.PageNumbers.{PageNumbers}
 use Rattle.report.specs.declared.record.Record.{Record}
 use Rattle.rows.specs.declared.refusal.Refusal.{Refusal}
@@ -31,6 +29,9 @@ use Rattle.histories.specs.Soundness.{InRange}
 use Rattle.histories.specs.Frames.{Frame, Brings, Came}
 use Rattle.histories.proofs.Soundness.Tested.{sound-tested}
 use Rattle.histories.proofs.Frames.StoreStates.{opened-stands, stands-sound}
+use Rattle.rows.specs.declared.common.Common.{Common}
+use Rattle.report.specs.declared.body.Body.the-variants.{Nankai}
+use Rattle.report.proofs.PaperValues.{number}
 
 -- ---- names compared
 

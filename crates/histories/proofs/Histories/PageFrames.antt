@@ -1,21 +1,17 @@
 -- For each page and each text there is a frame that brings it; and what a frame brings is 18 bytes.
-use mathlib.Core.Path.{_≡_, refl, ap, sym, subst}
-use mathlib.Core.List.{List, [], _∷_, _++_}
+use mathlib.Core.Path.{_≡_, refl, subst, sym}
+use mathlib.Core.List.{List, [], _∷_}
 use mathlib.Core.Logic.{inl, ⊎-elim}
 use Prim.Native.Nat.{ℕ, zero, suc, _+_, _<_, _≤_}
 use native.Mathlib.Omega.{arith}
 use native.Mathlib.Nat.{suc-ne-zero, suc-inj}
-use lib.ListN.{length, getD, replicate, getD-replicate, List·getD-eq-default}
-use Rattle.report.specs.declared.record.Body.{Body}
-use Rattle.report.specs.declared.record.Body.the-variants.{NoCategory}
+use lib.ListN.{length, getD, replicate, getD-replicate, List·getD-eq-default, take, drop-of-length-le}
 use Rattle.slots.specs.declared.slot.Slot.{Slot}
 use Rattle.report.specs.declared.record.Record.{Record}
-use Rattle.rows.specs.Layout.{Row, bytes}
-use Rattle.report.specs.Layout.{layout}
-use Rattle.nankai.specs.Nankai.{pageRows}
-use Rattle.slots.specs.Slots.{noSlot}
-use Rattle.report.specs.Records.{values, bodyValues}
-use Rattle.rows.specs.Kept.{Kept}
+use Rattle.rows.specs.Layout.{bytes}
+use Rattle.slots.specs.Slots.{noSlot, slotParts}
+use Rattle.report.specs.Records.{values}
+use Rattle.rows.specs.Kept.{Kept, Empty}
 use Rattle.report.specs.Rules.{KeepsRules}
 use Rattle.report.proofs.Claims.{valid-keeps-rules, keeping-rules-is-valid}
 use Rattle.pages.specs.declared.name.Name.{Name}
@@ -24,6 +20,11 @@ use Rattle.pages.proofs.Texts.{below?}
 use Rattle.histories.specs.Soundness.{InRange}
 use Rattle.histories.specs.Frames.{Frame, Brings}
 use Rattle.histories.proofs.Soundness.KeptRules.{Bytes18, pageRecord, page-holds}
+use Rattle.report.specs.declared.body.Body.{Body}
+use Rattle.report.specs.declared.body.Body.the-variants.{NoCategory}
+use Rattle.report.specs.Categories.{layout}
+use Rattle.nankai.specs.Nankai.{nankai}
+use lib.Seq.{take-all}
 
 -- ---- the frame of a page
 
@@ -40,8 +41,8 @@ module _ (n : Name) (range : InRange n) (p : ℕ) (t : Text) (low : 1 ≤ p) (hi
     category = λ e. no-nankai e;
     tidy = record {
       slots = λ i h. absurd (none h);
-      others = λ i h. let e = no-slots i in (ap (λ (x : Slot). x .hour) e, (ap (λ (x : Slot). x .strength) e, (ap (λ (x : Slot). x .place) e, tt)));
-      text = tt;
+      others = λ i h. subst (λ (x : Slot). Empty (slotParts x)) (sym (no-slots i)) (refl, (refl, (refl, (refl, (refl, tt)))));
+      text = let all : length t ≤ 18 = omega (arith, is .long) in subst Empty (sym (drop-of-length-le t all)) tt;
     };
     rows = page-holds 0x53 n p (replicate 16 noSlot) t range low high is;
   }
@@ -68,16 +69,16 @@ module _ (n : Name) (range : InRange n) (p : ℕ) (t : Text) (low : 1 ≤ p) (hi
 
 -- ---- what a frame brings
 
-kept-bytes : (k a : ℕ) (past : List ℕ) (t : Text) (rows : List Row) (more : List ℕ) → length t ≡ k → Kept past (bytes k a ++ rows) (t ++ more) → (j : ℕ) → getD t j 0 < 256
-kept-bytes zero a past [] rows more l h j = omega arith
-kept-bytes zero a past (x ∷ t) rows more l h j = absurd (suc-ne-zero (length t) l)
-kept-bytes (suc k) a past [] rows more l h j = absurd (suc-ne-zero k (sym l))
-kept-bytes (suc k) a past (x ∷ t) rows more l h zero = ⊎-elim (λ z. omega arith) (λ z. absurd z) (h .0)
-kept-bytes (suc k) a past (x ∷ t) rows more l h (suc j) = kept-bytes k (a + 8) (x ∷ past) t rows more (suc-inj l) (h .1) j
+kept-bytes : (k a : ℕ) (past : List ℕ) (t : Text) → length t ≡ k → Kept past (bytes k a) t → (j : ℕ) → getD t j 0 < 256
+kept-bytes zero a past [] l h j = omega arith
+kept-bytes zero a past (x ∷ t) l h j = absurd (suc-ne-zero (length t) l)
+kept-bytes (suc k) a past [] l h j = omega arith
+kept-bytes (suc k) a past (x ∷ t) l h zero = ⊎-elim (λ z. omega arith) (λ z. absurd z) (h .0)
+kept-bytes (suc k) a past (x ∷ t) l h (suc j) = kept-bytes k (a + 8) (x ∷ past) t (suc-inj l) (h .1) j
 
 pub brings-bytes : (n : Name) (f : Frame) (p : ℕ) (t : Text) → Brings n (f .came) p t → Bytes18 t
-unfolding values bodyValues
+unfolding values
 brings-bytes n f p t b =
     let r = f .came in
-    let kept = subst (λ (x : Body). Kept [] (layout x .front) (bodyValues x (r .text) 0)) (b .body) (valid-keeps-rules r (record { slots = f .slots; text = f .text }) (b .valid) .rows .front) in
-    subst Bytes18 (b .text) (record { long = f .text; bytes = kept-bytes 18 57 (n .serial ∷ 0 ∷ []) (r .text) pageRows (p ∷ n .total ∷ []) (f .text) (kept .1 .1) })
+    let kept = subst (λ (x : Body). Kept [] (layout x .text) (take (length (layout x .text)) (r .text))) (b .body) (valid-keeps-rules r (record { slots = f .slots; text = f .text }) (b .valid) .rows .text) in
+    subst Bytes18 (b .text) (record { long = f .text; bytes = kept-bytes 18 57 [] (r .text) (f .text) (subst (Kept [] (nankai .text)) (take-all 18 (r .text) (omega (arith, f .text))) kept) })

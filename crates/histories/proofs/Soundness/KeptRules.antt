@@ -1,22 +1,21 @@
 -- A page of a bulletin whose name is in range keeps the rules of category 4.
-use mathlib.Core.Path.{_≡_, refl, sym}
-use mathlib.Core.List.{List, [], _∷_, _++_}
+use mathlib.Core.Path.{_≡_, refl, sym, subst}
+use mathlib.Core.List.{List, [], _∷_}
 use mathlib.Core.Logic.{_⊎_, inl, inr, ⊎-elim}
 use Prim.Native.Nat.{ℕ, zero, suc, _+_, _<_, _≤_}
 use native.Mathlib.Omega.{arith}
-use native.Mathlib.Nat.{suc-ne-zero, suc-inj}
 use lib.ListN.{length, getD, replicate}
-use Rattle.report.specs.declared.record.Body.the-variants.{Nankai}
 use Rattle.report.specs.declared.record.Record.{Record}
 use Rattle.slots.specs.declared.slot.Slot.{Slot}
-use Rattle.rows.specs.Layout.{_to_, bytes}
-use Rattle.report.specs.Layout.{layout}
-use Rattle.nankai.specs.Nankai.{nankai, pageRows}
-use Rattle.report.specs.Records.{values, bodyValues}
+use Rattle.rows.specs.Layout.{bytes, _to_}
+use Rattle.nankai.specs.Nankai.{nankai}
+use Rattle.report.specs.Records.{values}
 use Rattle.rows.specs.Kept.{In, Kept, Holds}
 use Rattle.pages.specs.declared.name.Name.{Name}
 use Rattle.pages.proofs.States.{Text}
 use Rattle.histories.specs.Soundness.{InRange}
+use Rattle.report.specs.declared.body.Body.the-variants.{Nankai}
+use lib.Seq.{take-all}
 
 -- "18 bytes, any"
 pub record Bytes18 (t : Text) : Type 0 where
@@ -45,14 +44,11 @@ codes-two a b v h = ⊎-elim (λ e. inl (omega arith, omega arith)) (λ e. inr (
 only : (v : ℕ) → In (v to v ∷ []) v
 only v = inl (omega arith, omega arith)
 
--- any bytes, and behind them the page number and the total
-kept-page : (k a : ℕ) (past : List ℕ) (t : Text) (p total : ℕ) → length t ≡ k → ((j : ℕ) → getD t j 0 < 256) → 1 ≤ p → p ≤ total → total ≤ 63
-    → Kept past (bytes k a ++ pageRows) (t ++ p ∷ total ∷ [])
-kept-page zero a past [] p total l b low high most = (inl (low, omega arith), ((high, most), tt))
-kept-page zero a past (x ∷ t) p total l b low high most = absurd (suc-ne-zero (length t) l)
-kept-page (suc k) a past [] p total l b low high most = absurd (suc-ne-zero k (sym l))
-kept-page (suc k) a past (x ∷ t) p total l b low high most =
-    (inl (omega arith, omega (arith, b 0)), kept-page k (a + 8) (x ∷ past) t p total (suc-inj l) (λ j. b (suc j)) low high most)
+-- any bytes
+kept-bytes : (k a : ℕ) (past : List ℕ) (t : Text) → ((j : ℕ) → getD t j 0 < 256) → Kept past (bytes k a) t
+kept-bytes zero a past t b = tt
+kept-bytes (suc k) a past [] b = tt
+kept-bytes (suc k) a past (x ∷ t) b = (inl (omega arith, omega (arith, b 0)), kept-bytes k (a + 8) (x ∷ past) t (λ j. b (suc j)))
 
 -- ---- the record of a page
 
@@ -69,7 +65,7 @@ pageRecord preamble n p slots t = record {
 
 pub page-holds : (preamble : ℕ) (n : Name) (p : ℕ) (slots : List Slot) (t : Text) → InRange n → 1 ≤ p → p ≤ n .total → Bytes18 t
     → Holds nankai (values (pageRecord preamble n p slots t) 0 0)
-unfolding values bodyValues
+unfolding values
 page-holds preamble n p slots t range low high is = record {
   head = (
     only 43,
@@ -93,8 +89,9 @@ page-holds preamble n p slots t range low high is = record {
       ),
     ),
   );
-  front = (refl, (inl (range .serial), kept-page 18 57 (n .serial ∷ 0 ∷ []) t p (n .total) (is .long) (is .bytes) low high (range .total .1)));
+  front = (refl, (inl (range .serial), tt));
   slots = tt;
-  behind = (refl, tt);
+  text = subst (Kept [] (nankai .text)) (sym (take-all 18 t (omega (arith, is .long)))) (kept-bytes 18 57 [] t (is .bytes));
+  behind = (inl (low, omega (arith, range .total .1)), ((high, range .total .1), (refl, tt)));
   last = (only 1, (inl (omega arith, omega arith), tt));
 }

@@ -1,28 +1,38 @@
 -- `bulletin::take::admit` meets its contract.
-use mathlib.Core.Path.{sym, _∙_}
-use Rattle.bulletin.proofs.Taking.TakingOutcomes.{no-page, of-bulletin, of-another}
 use borrow.Author.Needs.{needs}
 use Rattle.bulletin.proofs.take.admit.Statement.{statement}
+use mathlib.Core.Path.{_∙_, sym}
+use Rattle.bulletin.proofs.Taking.TakingOutcomes.{no-page, of-another, of-bulletin}
 use Rattle.bulletin.proofs.take.admit.Tie as tie
 
-enum-known-body : tie.Need-enum-known-body
-enum-known-body c = search needs
+page-requires : tie.Need-page-requires
+page-requires c κs = search needs
+
+enum-known-page : tie.Need-enum-known-page
+enum-known-page c = search needs
+
+enum-told : tie.Need-enum-told
+enum-told c = search needs
 
 returns : tie.Need-returns
-returns c = no-page _ _ _ (c .match .keys2)
+returns c = no-page _ _ _ _ (c .before .before .page .ensures) (c .enum-told .given .1)
 
 is-requires : tie.Need-is-requires
 is-requires c κs = search needs
 
 returns-2 : tie.Need-returns-2
-returns-2 c = let i = c .before in
+returns-2 c =
+    let i = c .before in
     let m = i .before .before in
-    of-bulletin _ _ _ _ (m .body .given .1) (sym (i .is .ensures) ∙ c .if1 .taken)
+    of-bulletin _ _ _ _ (sym (m .before .before .page .ensures) ∙ m .page2 .given .1) (sym (i .is .ensures) ∙ c .if1 .taken)
 
 returns-3 : tie.Need-returns-3
-returns-3 c = let i = c .before in
+returns-3 c =
+    let i = c .before in
     let m = i .before .before in
-    of-another _ _ _ _ (m .body .given .1) (sym (i .is .ensures) ∙ c .if1 .left)
+    of-another _ _ _ _ (sym (m .before .before .page .ensures) ∙ m .page2 .given .1) (sym (i .is .ensures) ∙ c .if1 .left)
 
 pub admit-spec : {M : Type 1} → statement M
-admit-spec = tie.close (tie.spec enum-known-body returns is-requires returns-2 returns-3)
+admit-spec =
+    tie.close
+    (tie.spec page-requires enum-known-page enum-told returns is-requires returns-2 returns-3)

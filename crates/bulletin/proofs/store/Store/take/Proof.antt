@@ -1,7 +1,6 @@
 -- `bulletin::store::Store::take` meets its contract.
 use mathlib.Core.Path.{_≡_, ap, sym, _∙_}
 use native.Mathlib.Omega.{arith}
-use Rattle.report.proofs.Tables.Shapes.{Shaped}
 use Rattle.bulletin.specs.Takings.{admission}
 use Rattle.bulletin.specs.Steps.{admissionVerdict}
 use Rattle.bits.proofs.Arrays.{unmapped}
@@ -9,6 +8,7 @@ use Rattle.bulletin.proofs.Taking.TakingOutcomes.{admits, unsound-store
 use Rattle.pages.proofs.Numbered.{numbered}
 use borrow.Author.Needs.{needs}
 use Rattle.bulletin.proofs.store.Store.take.Statement.{statement}
+use Rattle.report.proofs.Shaped.{Shaped}
 use Rattle.bulletin.proofs.store.Store.take.Tie as tie
 
 shaped : (c : tie.Start) → Shaped (c .args .came)
