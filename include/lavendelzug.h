@@ -36,7 +36,7 @@ extern "C" {
 /* ---- Lengths in bytes ---- */
 #define LZ_FRAME_BYTES 32    /* 250 bits, most significant first, then six zeros */
 #define LZ_LINE_DIGITS 63    /* a frame as text, without an end of line */
-#define LZ_RECORD_BYTES 145  /* what a frame says */
+#define LZ_RECORD_BYTES 241  /* what a frame says */
 #define LZ_NAME_BYTES 8      /* which bulletin */
 #define LZ_STORE_BYTES 1205  /* a bulletin's pages */
 #define LZ_COUNT_BYTES 3     /* held, disputed, lowest */
@@ -79,7 +79,7 @@ extern "C" {
 #define LZ_MARK_DISPUTED 2  /* with 15: more than one was */
 
 /*
- * ---- A record: 145 bytes ----
+ * ---- A record: 241 bytes ----
  *
  * Each number stands at a fixed place, in one byte unless more are named, the most
  * significant byte first. The ranges are those that are read and written.
@@ -92,8 +92,8 @@ extern "C" {
  *    4   month, day, hour, minute  1-12, 1-31, 0-23, 0-59: when it was issued
  *    8   It                        0, 2; in category 9 also 1
  *    9   22 bytes by category, zero where the category uses fewer
- *   31   16 slots of 6 bytes
- *  127   18 bytes of text: any in category 4, else zero
+ *   31   16 slots of 12 bytes
+ *  223   18 bytes of text: any in category 4, else zero
  */
 #define LZ_RECORD_CATEGORY 0
 #define LZ_RECORD_PREAMBLE 1
@@ -104,7 +104,7 @@ extern "C" {
 #define LZ_RECORD_HOUR 6
 #define LZ_RECORD_MINUTE 7
 #define LZ_RECORD_IT 8
-#define LZ_RECORD_TEXT 127
+#define LZ_RECORD_TEXT 223
 
 /*
  * Category 2. Depth 501 is deeper than 500 km, 511 unknown. Magnitude 126 is
@@ -150,16 +150,21 @@ extern "C" {
  * used; a later one is empty where all of it is zero, and then so are those
  * behind it. An empty slot has no name in any table.
  *
- *              hour   strength         place (4 bytes)
+ * A category does not have all that a slot can hold. What it does not have is
+ * zero: day and minute in both, and in category 3 the hour.
+ *
+ *              hour   strength         place (8 bytes)
  *   category 3    0   intensity 1-7    prefecture 1-47        16 slots
  *   category 9  1-6   1-7              place 110000-4799999    4 slots
  */
 #define LZ_RECORD_SLOT(i) (31 + LZ_SLOT_BYTES * (i))
 #define LZ_SLOTS 16
-#define LZ_SLOT_BYTES 6
-#define LZ_SLOT_HOUR 0
-#define LZ_SLOT_STRENGTH 1
-#define LZ_SLOT_PLACE 2
+#define LZ_SLOT_BYTES 12
+#define LZ_SLOT_DAY 0
+#define LZ_SLOT_HOUR 1
+#define LZ_SLOT_MINUTE 2
+#define LZ_SLOT_STRENGTH 3
+#define LZ_SLOT_PLACE 4
 
 /*
  * ---- A name: 8 bytes, and a store: 1205 ----
@@ -206,7 +211,7 @@ uint32_t lz_parity(const uint8_t *frame, size_t frame_length);
 /*
  * Reads a frame into a record, whose writing gives the same frame, and answers 0.
  * Where something is refused the record's buffer stays as it was.
- * Refuses: 255 where record_length is not 145; 1, 2, 3, 4, 5, 6, 7; then 8, 9
+ * Refuses: 255 where record_length is not 241; 1, 2, 3, 4, 5, 6, 7; then 8, 9
  * and 10 by the lowest place.
  */
 uint32_t lz_read(const uint8_t *frame, size_t frame_length,
@@ -215,7 +220,7 @@ uint32_t lz_read(const uint8_t *frame, size_t frame_length,
 /*
  * Writes a record to a frame, whose reading gives the same record, and answers 0.
  * Where something is refused the frame's buffer stays as it was.
- * Refuses: 255 where record_length is not 145; 1, 3, 7, 11; then 8 and 10 by the
+ * Refuses: 255 where record_length is not 241; 1, 3, 7, 11; then 8 and 10 by the
  * lowest place.
  */
 uint32_t lz_write(const uint8_t *record_bytes, size_t record_length,
@@ -223,7 +228,7 @@ uint32_t lz_write(const uint8_t *record_bytes, size_t record_length,
 
 /*
  * Reads a line, which is lent without its end of line, into a record as lz_read
- * reads a frame. Refuses: 255 where record_length is not 145; 17; 2 to 10.
+ * reads a frame. Refuses: 255 where record_length is not 241; 17; 2 to 10.
  */
 uint32_t lz_read_line(const uint8_t *line, size_t line_length,
                       uint8_t *record_bytes, size_t record_length);
@@ -241,7 +246,7 @@ uint32_t lz_write_line(const uint8_t *frame, size_t frame_length,
  * ---- The pages of a Nankai bulletin ----
  *
  * Before all else each of these answers 255, and touches nothing, where a name
- * is not 8 bytes long, a store not 1205, a record not 145 or counts not 3.
+ * is not 8 bytes long, a store not 1205, a record not 241 or counts not 3.
  */
 
 /*

@@ -2,10 +2,10 @@
 
 use reference::record::{Angle, Body, Record, Slot, Time};
 
-pub const LENGTH: usize = 145;
+pub const LENGTH: usize = 241;
 pub const SLOTS: usize = 31;
-pub const SLOT_LENGTH: usize = 6;
-pub const TEXT: usize = 127;
+pub const SLOT_LENGTH: usize = 12;
+pub const TEXT: usize = 223;
 
 pub type Bytes = [u8; LENGTH];
 
@@ -66,6 +66,6 @@ fn put_angle(bytes: &mut Bytes, place: usize, angle: &Angle) {
 }
 
 fn put_slot(bytes: &mut Bytes, place: usize, slot: &Slot) {
-    put(bytes, place, &[slot.hour, slot.strength]);
-    put(bytes, place + 2, &slot.place.to_be_bytes());
+    put(bytes, place, &[slot.day, slot.hour, slot.minute, slot.strength]);
+    put(bytes, place + 4, &slot.place.to_be_bytes());
 }

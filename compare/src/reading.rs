@@ -14,7 +14,7 @@ use reference::write::write;
 const ANY_FRAMES: usize = 1_000_000;
 
 /// The number of a prefecture that the samples never name.
-const HOKKAIDO: u32 = 1;
+const HOKKAIDO: u64 = 1;
 
 /// The byte of the page number in category 4.
 const PAGE_NUMBER: usize = 10;
@@ -50,7 +50,7 @@ pub fn slice_lengths(count: &mut Count) {
 pub fn buffer_lengths(count: &mut Count) {
     let mut random = Random::new(46);
     for category in Category::ALL {
-        for length in [0, 144, 146] {
+        for length in [0, LENGTH - 1, LENGTH + 1] {
             refused_buffer(count, &valid_frame(&mut random, category), length);
             refused_buffer(count, &any_frame(&mut random), length);
         }
@@ -108,9 +108,9 @@ pub fn bytes_of(frame: &Frame) -> Bytes {
 }
 
 /// The places of the slots that are used.
-fn places(bytes: &Bytes) -> Vec<u32> {
+fn places(bytes: &Bytes) -> Vec<u64> {
     let slots = bytes[SLOTS..TEXT].chunks(SLOT_LENGTH);
-    let place = |slot: &[u8]| u32::from_be_bytes([slot[2], slot[3], slot[4], slot[5]]);
+    let place = |slot: &[u8]| slot[4..].iter().fold(0, |sum, &byte| 256 * sum + u64::from(byte));
     slots.filter(|slot| slot.iter().any(|&byte| byte != 0)).map(place).collect()
 }
 

@@ -98,6 +98,7 @@ static const struct record_fault record_faults[] = {
     {LZ_RECORD_CATEGORY, 5, 2, LZ_REFUSED_CATEGORY, 0},
     {LZ_RECORD_TEXT + 17, 1, 0, LZ_REFUSED_UNUSED, 0},
     {LZ_RECORD_SLOT(15) + LZ_SLOT_PLACE, 1, 0, LZ_REFUSED_UNUSED, 0},
+    {LZ_RECORD_SLOT(0) + LZ_SLOT_DAY, 1, 0, LZ_REFUSED_UNUSED, 0},
     {LZ_RECORD_RC, 1, 7, LZ_REFUSED_RANGE, 14},
     {LZ_RECORD_IT, 1, 0, LZ_REFUSED_RANGE, 41},
     {LZ_QUAKE_MAGNITUDE, 102, 64, LZ_REFUSED_RANGE, 105},
@@ -137,10 +138,25 @@ static void check_order_of_writing(void)
     SAME_WORD(LZ_FINE, lz_write(record, sizeof record, frame, sizeof frame));
 }
 
+/* What a used slot has beyond its category is 11, and all of a place counts. */
+static void check_slot_refused(void)
+{
+    uint8_t record[LZ_RECORD_BYTES];
+    ash_fall_record(record);
+    record[LZ_RECORD_SLOT(0) + LZ_SLOT_PLACE] = 1;
+    WRITING_IS(refused_at(LZ_REFUSED_RANGE, 89), record, LZ_FRAME_BYTES);
+    record[LZ_RECORD_SLOT(2) + LZ_SLOT_MINUTE] = 1;
+    WRITING_IS(refused(LZ_REFUSED_UNUSED), record, LZ_FRAME_BYTES);
+    intensity_record(record);
+    record[LZ_RECORD_SLOT(8) + LZ_SLOT_HOUR] = 1;
+    WRITING_IS(refused(LZ_REFUSED_UNUSED), record, LZ_FRAME_BYTES);
+}
+
 void check_writing_refused(void)
 {
     uint8_t record[LZ_RECORD_BYTES];
     check_order_of_writing();
+    check_slot_refused();
     intensity_record(record);
     memcpy(record + LZ_RECORD_SLOT(10), record + LZ_RECORD_SLOT(0), LZ_SLOT_BYTES);
     WRITING_IS(refused_at(LZ_REFUSED_GAP, 159), record, LZ_FRAME_BYTES);

@@ -28,12 +28,12 @@ static void issued(uint8_t *record, uint8_t category, uint8_t hour,
 }
 
 static void slot(uint8_t *record, unsigned i, uint8_t hour, uint8_t strength,
-                 uint32_t place)
+                 uint64_t place)
 {
     uint8_t *bytes = record + LZ_RECORD_SLOT(i);
     bytes[LZ_SLOT_HOUR] = hour;
     bytes[LZ_SLOT_STRENGTH] = strength;
-    put_bytes(bytes + LZ_SLOT_PLACE, 4, place);
+    put_bytes(bytes + LZ_SLOT_PLACE, 8, place);
 }
 
 /* Off Hyuganada, 40 km deep, 6.4, at 32 degrees 42 north and 132 degrees 6 east. */
@@ -114,7 +114,7 @@ void put(uint8_t *frame, unsigned first, unsigned width, uint32_t value)
     }
 }
 
-void put_bytes(uint8_t *bytes, unsigned count, uint32_t value)
+void put_bytes(uint8_t *bytes, unsigned count, uint64_t value)
 {
     for (unsigned i = 0; i < count; i++) {
         bytes[i] = (uint8_t)(value >> 8 * (count - 1 - i));

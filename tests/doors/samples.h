@@ -24,6 +24,6 @@ void frame_of(const char *line, uint8_t *frame);
 void put(uint8_t *frame, unsigned first, unsigned width, uint32_t value);
 
 /* Puts a number into as many bytes, the most significant first. */
-void put_bytes(uint8_t *bytes, unsigned count, uint32_t value);
+void put_bytes(uint8_t *bytes, unsigned count, uint64_t value);
 
 #endif

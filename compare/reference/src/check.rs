@@ -9,7 +9,7 @@ pub const SLOT_AFTER_EMPTY: u8 = 10;
 
 /// Every fault of a category's values, in no particular order. The values
 /// may come from a frame or from a record; `value_of` hides which.
-pub fn faults(category: Category, value_of: &dyn Fn(&Field) -> u32) -> Vec<Refusal> {
+pub fn faults(category: Category, value_of: &dyn Fn(&Field) -> u64) -> Vec<Refusal> {
     let fields = fields(category);
     let mut found = out_of_range(&fields, value_of);
     if category == Category::Nankai {
@@ -29,12 +29,12 @@ pub fn reported(faults: &[Refusal]) -> Option<Refusal> {
     faults.iter().copied().min_by_key(|fault| (fault.place, fault.number != SLOT_AFTER_EMPTY))
 }
 
-fn out_of_range(fields: &[Field], value_of: &dyn Fn(&Field) -> u32) -> Vec<Refusal> {
+fn out_of_range(fields: &[Field], value_of: &dyn Fn(&Field) -> u64) -> Vec<Refusal> {
     let bad = fields.iter().filter(|field| !field.allows(value_of(field)));
     bad.map(|field| Refusal::at(OUT_OF_RANGE, field.first)).collect()
 }
 
-fn slot_faults(category: Category, value_of: &dyn Fn(&Field) -> u32) -> Vec<Refusal> {
+fn slot_faults(category: Category, value_of: &dyn Fn(&Field) -> u64) -> Vec<Refusal> {
     let layout = slot_layout(category);
     let mut found = Vec::new();
     let mut used = Vec::new();

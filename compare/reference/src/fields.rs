@@ -14,8 +14,12 @@ pub struct Field {
 }
 
 impl Field {
-    pub fn allows(&self, value: u32) -> bool {
-        self.allowed.iter().any(|&(lowest, highest)| lowest <= value && value <= highest)
+    /// The value may be wider than any field, as in a record it can be.
+    pub fn allows(&self, value: u64) -> bool {
+        let within = |&(lowest, highest): &(u32, u32)| {
+            u64::from(lowest) <= value && value <= u64::from(highest)
+        };
+        self.allowed.iter().any(within)
     }
 }
 

@@ -53,6 +53,11 @@ impl Random {
 
     /// A number of `width` bits, at most 32.
     pub fn bits(&mut self, width: usize) -> u32 {
-        (self.next_number() >> (64 - width)) as u32
+        self.wide_bits(width) as u32
+    }
+
+    /// A number of `width` bits, at most 64.
+    pub fn wide_bits(&mut self, width: usize) -> u64 {
+        self.next_number() >> (64 - width)
     }
 }

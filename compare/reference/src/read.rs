@@ -10,7 +10,7 @@ use crate::record::{Angle, Body, Category, Hypocenter, Record, Refusal, Slot, Ti
 pub fn read(frame: &[u8]) -> Result<Record, Refusal> {
     let frame: &Frame = frame.try_into().map_err(|_| Refusal::plain(1))?;
     let category = envelope(frame)?;
-    let mut found = faults(category, &|field| get(frame, field.first, field.width));
+    let mut found = faults(category, &|field| u64::from(get(frame, field.first, field.width)));
     found.extend(spare_faults(frame, category));
     match reported(&found) {
         Some(refusal) => Err(refusal),
@@ -118,9 +118,14 @@ fn slots(frame: &Frame, category: Category) -> [Slot; 16] {
             Category::AshFall => Slot {
                 hour: byte(frame, first, 3),
                 strength: byte(frame, first + 3, 3),
-                place: get(frame, first + 6, 23),
+                place: get(frame, first + 6, 23).into(),
+                ..Slot::default()
             },
-            _ => Slot { hour: 0, strength: byte(frame, first, 3), place: get(frame, first + 3, 6) },
+            _ => Slot {
+                strength: byte(frame, first, 3),
+                place: get(frame, first + 3, 6).into(),
+                ..Slot::default()
+            },
         };
     }
     slots

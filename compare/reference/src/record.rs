@@ -93,13 +93,16 @@ impl Body {
     }
 }
 
-/// One place with its strength. In category 3 the strength is the intensity,
-/// the place is the prefecture, and the hour stays zero.
+/// One place with its strength and when. In category 3 the strength is the
+/// intensity and the place is the prefecture. What a category does not have
+/// stays zero: in category 9 day and minute, in category 3 the hour as well.
 #[derive(Clone, Copy, PartialEq, Eq, Debug, Default)]
 pub struct Slot {
+    pub day: u8,
     pub hour: u8,
+    pub minute: u8,
     pub strength: u8,
-    pub place: u32,
+    pub place: u64,
 }
 
 #[derive(Clone, Copy, PartialEq, Eq, Debug, Default)]

@@ -26,9 +26,9 @@ pub const NANKAI_TEXT: &str = "南海トラフ沿いのプレート境界で通�
 
 /// Tables 2-4-2 and 2-5-1, rows Pl: Aso city, Takamori town and Minamiaso
 /// village in Kumamoto.
-const ASO: u32 = 4_321_400;
-const TAKAMORI: u32 = 4_342_800;
-const MINAMIASO: u32 = 4_343_300;
+const ASO: u64 = 4_321_400;
+const TAKAMORI: u64 = 4_342_800;
+const MINAMIASO: u64 = 4_343_300;
 
 /// Tables 2-4-2 and 2-5-1, row Vo: Mount Aso.
 const MOUNT_ASO: u16 = 503;
@@ -46,11 +46,11 @@ pub fn hypocenter() -> Vec<Record> {
 
 /// Section 2.1.3, table 2-1-3: nine prefectures, for each delivery.
 pub fn intensity() -> Vec<Record> {
-    const PREFECTURES: [(u8, u32); 9] =
+    const PREFECTURES: [(u8, u64); 9] =
         [(4, 44), (4, 45), (3, 39), (3, 43), (2, 35), (2, 38), (2, 40), (2, 41), (2, 46)];
     let mut slots = [Slot::default(); 16];
     for (slot, (strength, place)) in slots.iter_mut().zip(PREFECTURES) {
-        *slot = Slot { hour: 0, strength, place };
+        *slot = Slot { strength, place, ..Slot::default() };
     }
     let issues = [issue(0, 0, 5), issue(1, 0, 5)];
     let filled = |issue| Record { body: Body::Intensity(same_time(&issue)), slots, ..issue };
@@ -83,7 +83,7 @@ pub fn ash_fall_preliminary() -> Vec<Record> {
 /// Section 2.5.1, table 2-5-1: eighteen places in five messages, for each
 /// delivery. The same place stands twice in a message, at different hours.
 pub fn ash_fall_detailed() -> Vec<Record> {
-    const PLACES: [(u8, u8, u32); 18] = [
+    const PLACES: [(u8, u8, u64); 18] = [
         (1, 2, ASO),
         (1, 2, TAKAMORI),
         (1, 1, MINAMIASO),
@@ -156,10 +156,10 @@ fn hyuganada(issue: &Record) -> Hypocenter {
 }
 
 /// An ash fall message with its places as hour, strength and place.
-fn ash_fall(issue: &Record, warning: u8, places: &[(u8, u8, u32)]) -> Record {
+fn ash_fall(issue: &Record, warning: u8, places: &[(u8, u8, u64)]) -> Record {
     let mut slots = [Slot::default(); 16];
     for (slot, &(hour, strength, place)) in slots.iter_mut().zip(places) {
-        *slot = Slot { hour, strength, place };
+        *slot = Slot { hour, strength, place, ..Slot::default() };
     }
     let body = Body::AshFall { time: same_time(issue), warning, volcano: MOUNT_ASO };
     Record { body, slots, ..*issue }

@@ -11,7 +11,7 @@ use crate::record::{Angle, Body, Category, Hypocenter, Record, Refusal, Slot, Ti
 struct Placed {
     first: usize,
     width: usize,
-    value: u32,
+    value: u64,
 }
 
 /// Writes the frame of a record into a lent buffer, or says which refusal
@@ -29,7 +29,7 @@ pub fn write(record: &Record, frame: &mut [u8]) -> Result<(), Refusal> {
     }
     let placed = placed(record, category);
     let mut found = faults(category, &|field| value_of(&placed, field));
-    if !RESERVED.allows(u32::from(record.reserved)) {
+    if !RESERVED.allows(u64::from(record.reserved)) {
         found.push(Refusal::at(OUT_OF_RANGE, RESERVED.first));
     }
     if let Some(refusal) = reported(&found) {
@@ -43,21 +43,26 @@ pub fn write(record: &Record, frame: &mut [u8]) -> Result<(), Refusal> {
 fn has_something_unused(record: &Record, category: Category) -> bool {
     let own_slots = slot_layout(category).count;
     let slot_too_many = record.slots[own_slots..].iter().any(|slot| *slot != Slot::default());
-    let hour_in_intensity =
-        category == Category::Intensity && record.slots.iter().any(|slot| slot.hour != 0);
+    let part_too_many =
+        record.slots[..own_slots].iter().any(|slot| has_unused_part(slot, category));
     let text_elsewhere =
         category != Category::Nankai && record.text.iter().any(|&character| character != 0);
-    slot_too_many || hour_in_intensity || text_elsewhere
+    slot_too_many || part_too_many || text_elsewhere
+}
+
+/// Whether something stands in a part that the category's slots do not have.
+fn has_unused_part(slot: &Slot, category: Category) -> bool {
+    slot.day != 0 || slot.minute != 0 || (category != Category::AshFall && slot.hour != 0)
 }
 
 /// The value that the record gives a field. Every field of the tables is
 /// placed, so a field that is not found is a mistake in this file.
-fn value_of(placed: &[Placed], field: &Field) -> u32 {
+fn value_of(placed: &[Placed], field: &Field) -> u64 {
     let here = placed.iter().find(|one| one.first == field.first && one.width == field.width);
     here.expect("every field of the category is placed").value
 }
 
-/// The frame of a record without faults.
+/// The frame of a record without faults, whose numbers fit their places.
 fn image(record: &Record, category: Category, placed: &[Placed]) -> Frame {
     let mut frame = [0; 32];
     set(&mut frame, 0, 8, u32::from(record.preamble));
@@ -66,7 +71,7 @@ fn image(record: &Record, category: Category, placed: &[Placed]) -> Frame {
     set(&mut frame, 214, 6, 1);
     set(&mut frame, RESERVED.first, RESERVED.width, u32::from(record.reserved));
     for one in placed {
-        set(&mut frame, one.first, one.width, one.value);
+        set(&mut frame, one.first, one.width, one.value as u32);
     }
     let sum = parity(&frame, 226);
     set(&mut frame, 226, 24, sum);
@@ -103,7 +108,7 @@ fn placed(record: &Record, category: Category) -> Vec<Placed> {
     all
 }
 
-fn place(first: usize, width: usize, value: impl Into<u32>) -> Placed {
+fn place(first: usize, width: usize, value: impl Into<u64>) -> Placed {
     Placed { first, width, value: value.into() }
 }
 

@@ -8,17 +8,17 @@ use Rattle.rows.specs.declared.refusal.Verdict.the-variants.{Refused}
 use Rattle.rows.specs.declared.refusal.Refusal.the-variants.{Unused}
 use Rattle.report.specs.declared.record.Record.{Record}
 use Rattle.rows.specs.Runs.Verdict.{allowed}
-use Rattle.report.specs.Layout.{preambles}
 use Rattle.report.specs.Runs.Writing.{known, writeAnswer}
 use Rattle.record_bytes.specs.Packed.{packed}
 use Rattle.record_bytes.specs.Unpacked.{bodyFrom, stray, unpacked}
+use Rattle.report.specs.Categories.{preambles}
 use Rattle.record_bytes.proofs.ToBytes.Whole as Whole
 use Rattle.record_bytes.proofs.RoundTrip as RoundTrip
 use Rattle.record_bytes.proofs.FromBytes.Refused as Refusing
 
--- A record with "sixteen slots (hour, strength or intensity, place) and 18 text bytes" has 145 bytes, whatever its category.
-pub packed-has-145-bytes : (r : Record) → length (r .slots) ≡ 16 → length (r .text) ≡ 18 → length (packed r) ≡ 145
-packed-has-145-bytes = Whole.length-packed
+-- A record with "sixteen slots (hour, strength or intensity, place) and 18 text bytes" has 241 bytes, whatever its category.
+pub packed-has-241-bytes : (r : Record) → length (r .slots) ≡ 16 → length (r .text) ≡ 18 → length (packed r) ≡ 241
+packed-has-241-bytes = Whole.length-packed
 
 -- Nothing is lost: records whose numbers fit their bytes are told apart by the bytes.
 pub bytes-tell-records-apart : (r s : Record) → RoundTrip.Fits r → RoundTrip.Fits s → packed r ≡ packed s → r ≡ s

@@ -9,18 +9,19 @@ use lib.ListN.{length, getD, drop}
 use lib.Seq.{drop-at}
 use Rattle.bits.specs.Frame.{number}
 use Rattle.bits.proofs.Claims.{decoded-then-encoded}
-use Rattle.report.specs.declared.record.Body.{Body}
-use Rattle.report.specs.declared.record.Body.the-variants.{NoCategory, Hypocenter, Intensity, Nankai, AshFall}
 use Rattle.slots.specs.declared.slot.Slot.{Slot}
 use Rattle.report.specs.declared.record.Record.{Record}
-use Rattle.report.specs.Layout.{layout}
 use Rattle.rows.specs.Runs.Verdict.{empty}
 use Rattle.rows.specs.Values.{each}
 use Rattle.lent.specs.Numbers.{wide}
 use Rattle.record_bytes.specs.Packed.{zeroFilled, headBytes, bodyBytes, slotBytes, slotsBytes, packed}
-use Rattle.record_bytes.specs.Unpacked.{fourAt, slotAt, bodyOfCode, bodyFrom, stray, slotsFrom, slotsOrMisplaced, textInBytes, unpackedAs, unpacked}
+use Rattle.record_bytes.specs.Unpacked.{eightAt, slotAt, bodyOfCode, bodyFrom, stray, slotsFrom, slotsOrMisplaced, textInBytes, unpackedAs, unpacked}
 use Rattle.record_bytes.proofs.ToBytes.Whole.{front, most, length-front, length-most}
 use Rattle.record_bytes.proofs.FromBytes.Places.{each-same, byte-behind}
+use Rattle.report.specs.declared.body.Body.the-variants.{AshFall, Hypocenter, Intensity, Nankai, NoCategory}
+use Rattle.report.specs.declared.body.Body.{Body}
+use Rattle.report.specs.Categories.{layout}
+use Rattle.rows.specs.Faults.{place}
 
 -- ---- the numbers that have more than one byte fit their bytes
 
@@ -34,7 +35,7 @@ BodyFits (AshFall e) = e .volcano < 2 ^ 16
 
 abbrev pub SlotsFit : List Slot → Type 0
 SlotsFit [] = Unit
-SlotsFit (s ∷ ss) = (s .place < 2 ^ 32) × SlotsFit ss
+SlotsFit (s ∷ ss) = (s .place < 2 ^ 64) × SlotsFit ss
 
 pub record Fits (r : Record) : Type 0 where
   pub slots : length (r .slots) ≡ 16
@@ -45,8 +46,8 @@ pub record Fits (r : Record) : Type 0 where
 two-back : (v : ℕ) → v < 2 ^ 16 → number (wide 2 v) ≡ v
 two-back v h = decoded-then-encoded (8 ∷ 8 ∷ []) v ∙ mod-eq-of-lt h
 
-four-back : (v : ℕ) → v < 2 ^ 32 → number (wide 4 v) ≡ v
-four-back v h = decoded-then-encoded (8 ∷ 8 ∷ 8 ∷ 8 ∷ []) v ∙ mod-eq-of-lt h
+place-back : (v : ℕ) → v < 2 ^ 64 → number (wide 8 v) ≡ v
+place-back v h = decoded-then-encoded (8 ∷ 8 ∷ 8 ∷ 8 ∷ 8 ∷ 8 ∷ 8 ∷ 8 ∷ []) v ∙ mod-eq-of-lt h
 
 -- ---- 9 to 30
 
@@ -80,29 +81,35 @@ not-stray r (AshFall e) rest = refl
 
 -- ---- one behind the other
 
-place-behind : (n : ℕ) (l : List ℕ) (j k : ℕ) → j ≡ n + k → fourAt l j ≡ fourAt (drop n l) k
+place-behind : (n : ℕ) (l : List ℕ) (j k : ℕ) → j ≡ n + k → eightAt l j ≡ eightAt (drop n l) k
 place-behind n l j k e = λ i. number (
     byte-behind n l j k e i
     ∷ byte-behind n l (j + 1) (k + 1) (omega (arith, e)) i
     ∷ byte-behind n l (j + 2) (k + 2) (omega (arith, e)) i
-    ∷ byte-behind n l (j + 3) (k + 3) (omega (arith, e)) i ∷ []
+    ∷ byte-behind n l (j + 3) (k + 3) (omega (arith, e)) i
+    ∷ byte-behind n l (j + 4) (k + 4) (omega (arith, e)) i
+    ∷ byte-behind n l (j + 5) (k + 5) (omega (arith, e)) i
+    ∷ byte-behind n l (j + 6) (k + 6) (omega (arith, e)) i
+    ∷ byte-behind n l (j + 7) (k + 7) (omega (arith, e)) i ∷ []
     )
 
 slot-behind : (n : ℕ) (l : List ℕ) (j k : ℕ) → j ≡ n + k → slotAt l j ≡ slotAt (drop n l) k
 slot-behind n l j k e = λ i. record {
-  hour = byte-behind n l j k e i;
-  strength = byte-behind n l (j + 1) (k + 1) (omega (arith, e)) i;
-  place = place-behind n l (j + 2) (k + 2) (omega (arith, e)) i;
+  day = byte-behind n l j k e i;
+  hour = byte-behind n l (j + 1) (k + 1) (omega (arith, e)) i;
+  minute = byte-behind n l (j + 2) (k + 2) (omega (arith, e)) i;
+  strength = byte-behind n l (j + 3) (k + 3) (omega (arith, e)) i;
+  place = place-behind n l (j + 4) (k + 4) (omega (arith, e)) i;
 }
 
-slots-back : (ss : List Slot) (rest : List ℕ) → SlotsFit ss → each (length ss) (λ i. slotAt (slotsBytes ss ++ rest) (6 * i)) ≡ ss
+slots-back : (ss : List Slot) (rest : List ℕ) → SlotsFit ss → each (length ss) (λ i. slotAt (slotsBytes ss ++ rest) (12 * i)) ≡ ss
 unfolding slotsBytes
 slots-back [] rest h = refl
 slots-back (s ∷ ss) rest h =
     let l : List ℕ = slotBytes s ++ slotsBytes ss ++ rest in
-    let first : slotAt l 0 ≡ s = λ i. record { hour = s .hour; strength = s .strength; place = four-back (s .place) (h .0) i } in
-    let others : each (length ss) (λ i. slotAt l (6 * suc i)) ≡ ss =
-    each-same (length ss) (λ i. slotAt l (6 * suc i)) (λ i. slotAt (drop 6 l) (6 * i)) (λ i. slot-behind 6 l (6 * suc i) (6 * i) (omega arith))
+    let first : slotAt l 0 ≡ s = λ i. record { day = s .day; hour = s .hour; minute = s .minute; strength = s .strength; place = place-back (s .place) (h .0) i } in
+    let others : each (length ss) (λ i. slotAt l (12 * suc i)) ≡ ss =
+    each-same (length ss) (λ i. slotAt l (12 * suc i)) (λ i. slotAt (drop 12 l) (12 * i)) (λ i. slot-behind 12 l (12 * suc i) (12 * i) (omega arith))
     ∙ slots-back ss rest (h .1)
     in λ i. first i ∷ others i
 
@@ -128,17 +135,17 @@ module _ (r : Record) (f : Fits r) where
 
   slots-part : slotsFrom (packed r) ≡ r .slots
   slots-part =
-      each-same 16 (λ i. slotAt (packed r) (31 + 6 * i)) (λ i. slotAt (drop 31 (packed r)) (6 * i)) (λ i. slot-behind 31 (packed r) (31 + 6 * i) (6 * i) refl)
-      ∙ ap (λ (l : List ℕ). each 16 (λ i. slotAt (drop 31 l) (6 * i))) behind-front
-      ∙ ap (λ (l : List ℕ). each 16 (λ i. slotAt l (6 * i))) (drop-at (front r) (slotsBytes (r .slots) ++ r .text) 31 (length-front r))
-      ∙ ap (λ (n : ℕ). each n (λ i. slotAt (slotsBytes (r .slots) ++ r .text) (6 * i))) (sym (f .slots))
+      each-same 16 (λ i. slotAt (packed r) (31 + 12 * i)) (λ i. slotAt (drop 31 (packed r)) (12 * i)) (λ i. slot-behind 31 (packed r) (31 + 12 * i) (12 * i) refl)
+      ∙ ap (λ (l : List ℕ). each 16 (λ i. slotAt (drop 31 l) (12 * i))) behind-front
+      ∙ ap (λ (l : List ℕ). each 16 (λ i. slotAt l (12 * i))) (drop-at (front r) (slotsBytes (r .slots) ++ r .text) 31 (length-front r))
+      ∙ ap (λ (n : ℕ). each n (λ i. slotAt (slotsBytes (r .slots) ++ r .text) (12 * i))) (sym (f .slots))
       ∙ slots-back (r .slots) (r .text) (f .places)
 
   text-part : textInBytes (packed r) ≡ r .text
   unfolding packed
   text-part =
-      each-same 18 (λ i. getD (packed r) (127 + i) 0) (λ i. getD (drop 127 (packed r)) i 0) (λ i. byte-behind 127 (packed r) (127 + i) i refl)
-      ∙ ap (λ (l : List ℕ). each 18 (λ i. getD l i 0)) (drop-at (most r) (r .text) 127 (length-most r (f .slots)))
+      each-same 18 (λ i. getD (packed r) (223 + i) 0) (λ i. getD (drop 223 (packed r)) i 0) (λ i. byte-behind 223 (packed r) (223 + i) i refl)
+      ∙ ap (λ (l : List ℕ). each 18 (λ i. getD l i 0)) (drop-at (most r) (r .text) 223 (length-most r (f .slots)))
       ∙ ap (λ (n : ℕ). each n (λ i. getD (r .text) i 0)) (sym (f .text))
       ∙ text-back (r .text)
 

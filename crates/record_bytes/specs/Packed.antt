@@ -1,4 +1,4 @@
--- A record as 145 bytes, for callers that know bytes only. Each number stands in its own width, the most significant byte
+-- A record as 241 bytes, for callers that know bytes only. Each number stands in its own width, the most significant byte
 -- first:
 --
 --   0           the category: 2, 3, 4, 9, or 0 where there is none
@@ -13,8 +13,8 @@
 --                 3  day, hour, minute
 --                 4  Is, page number, page total
 --                 9  day, hour, minute, warning type, volcano (2)
---   31 to 126   sixteen slots of six bytes: hour, strength, place (4)
---   127 to 144  text
+--   31 to 222   sixteen slots of twelve bytes: day, hour, minute, strength, place (8)
+--   223 to 240  text
 use Prim.Native.Nat.{ℕ, _-_}
 use mathlib.Core.Bool.{cond}
 use mathlib.Core.List.{List, [], _∷_, _++_}
@@ -22,13 +22,13 @@ use lib.ListN.{length, replicate}
 use lib.Dec.{eqb}
 use Rattle.lent.specs.Numbers.{wide}
 use Rattle.hypocenter.specs.declared.Quake.{Quake}
-use Rattle.report.specs.declared.record.Body.{Body}
-use Rattle.report.specs.declared.record.Body.the-variants.{NoCategory, Hypocenter, Intensity, Nankai, AshFall}
 use Rattle.slots.specs.declared.slot.Slot.{Slot}
 use Rattle.report.specs.declared.record.Record.{Record}
-use Rattle.report.specs.Layout.{layout}
 use Rattle.rows.specs.Values.{timeValues}
 use Rattle.hypocenter.specs.Hypocenter.{angleValues}
+use Rattle.report.specs.declared.body.Body.the-variants.{AshFall, Hypocenter, Intensity, Nankai, NoCategory}
+use Rattle.report.specs.declared.body.Body.{Body}
+use Rattle.report.specs.Categories.{layout}
 
 -- l, and zeros behind it up to n bytes
 abbrev pub zeroFilled : ℕ → List ℕ → List ℕ
@@ -70,10 +70,10 @@ bodyBytes (Intensity s) = timeValues (s .time)
 bodyBytes (Nankai p) = p .serial ∷ p .number ∷ p .total ∷ []
 bodyBytes (AshFall e) = timeValues (e .time) ++ e .warning ∷ wide 2 (e .volcano)
 
--- ---- 31 to 126
+-- ---- 31 to 222
 
 abbrev pub slotBytes : Slot → List ℕ
-slotBytes s = s .hour ∷ s .strength ∷ wide 4 (s .place)
+slotBytes s = s .day ∷ s .hour ∷ s .minute ∷ s .strength ∷ wide 8 (s .place)
 
 unfoldable pub slotsBytes : List Slot → List ℕ
 slotsBytes [] = []
@@ -84,6 +84,6 @@ slotsBytes (s ∷ ss) = slotBytes s ++ slotsBytes ss
 unfoldable pub packed : Record → List ℕ
 packed r = headBytes r ++ zeroFilled 22 (bodyBytes (r .body)) ++ slotsBytes (r .slots) ++ r .text
 
--- a lent buffer of 145 bytes takes them; one of another length stays as it was
+-- a lent buffer of 241 bytes takes them; one of another length stays as it was
 unfoldable pub packedInto : Record → List ℕ → List ℕ
-packedInto r buffer = cond (eqb (length buffer) 145) (packed r) buffer
+packedInto r buffer = cond (eqb (length buffer) 241) (packed r) buffer

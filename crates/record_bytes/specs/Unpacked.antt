@@ -1,4 +1,4 @@
--- The record of 145 bytes, whatever they are: Packed has the table of the places. Bytes that no record has are not lost on
+-- The record of 241 bytes, whatever they are: Packed has the table of the places. Bytes that no record has are not lost on
 -- the way, so that writing refuses them in their turn:
 --
 --   a first byte that is no category   gives a record without category, which is 7
@@ -9,14 +9,11 @@ use mathlib.Core.List.{List, [], _∷_}
 use lib.ListN.{length, getD, set, take, drop}
 use lib.Dec.{eqb}
 use Rattle.bits.specs.Frame.{number}
-use Rattle.report.specs.declared.record.Common.{Common}
 use Rattle.rows.specs.declared.time.Time.{Time}
 use Rattle.hypocenter.specs.declared.angle.Angle.{Angle}
 use Rattle.hypocenter.specs.declared.Quake.{Quake}
 use Rattle.nankai.specs.declared.PageNumbers.{PageNumbers}
 use Rattle.ash_fall.specs.declared.Eruption.{Eruption}
-use Rattle.report.specs.declared.record.Body.{Body}
-use Rattle.report.specs.declared.record.Body.the-variants.{NoCategory, Hypocenter, Intensity, Nankai, AshFall}
 use Rattle.slots.specs.declared.slot.Slot.{Slot}
 use Rattle.report.specs.declared.record.Record.{Record}
 use Rattle.rows.specs.Runs.Verdict.{empty}
@@ -24,15 +21,31 @@ use Rattle.rows.specs.Values.{each}
 use Rattle.record_bytes.specs.Text.{textAt}
 use Rattle.report.specs.Records.{zeros}
 use Rattle.record_bytes.specs.Packed.{bodyBytes}
+use Rattle.report.specs.declared.body.Body.the-variants.{AshFall, Hypocenter, Intensity, Nankai, NoCategory}
+use Rattle.report.specs.declared.body.Body.{Body}
+use Rattle.rows.specs.declared.common.Common.{Common}
+use Rattle.rows.specs.Layout.{common, time}
 
 -- ---- from the byte k on
 
--- numbers of two bytes and of four
+-- numbers of two bytes, of four, and of eight
 abbrev pub twoAt : List ℕ → ℕ → ℕ
 twoAt l k = number (getD l k 0 ∷ getD l (k + 1) 0 ∷ [])
 
 abbrev pub fourAt : List ℕ → ℕ → ℕ
 fourAt l k = number (getD l k 0 ∷ getD l (k + 1) 0 ∷ getD l (k + 2) 0 ∷ getD l (k + 3) 0 ∷ [])
+
+abbrev pub eightAt : List ℕ → ℕ → ℕ
+eightAt l k = number (
+    getD l k 0
+    ∷ getD l (k + 1) 0
+    ∷ getD l (k + 2) 0
+    ∷ getD l (k + 3) 0
+    ∷ getD l (k + 4) 0
+    ∷ getD l (k + 5) 0
+    ∷ getD l (k + 6) 0
+    ∷ getD l (k + 7) 0 ∷ []
+    )
 
 abbrev pub timeAt : List ℕ → ℕ → Time
 timeAt l k = record { day = getD l k 0; hour = getD l (k + 1) 0; minute = getD l (k + 2) 0 }
@@ -41,7 +54,13 @@ abbrev pub angleAt : List ℕ → ℕ → Angle
 angleAt l k = record { side = getD l k 0; degrees = getD l (k + 1) 0; minutes = getD l (k + 2) 0; seconds = getD l (k + 3) 0 }
 
 abbrev pub slotAt : List ℕ → ℕ → Slot
-slotAt l k = record { hour = getD l k 0; strength = getD l (k + 1) 0; place = fourAt l (k + 2) }
+slotAt l k = record {
+  day = getD l k 0;
+  hour = getD l (k + 1) 0;
+  minute = getD l (k + 2) 0;
+  strength = getD l (k + 3) 0;
+  place = eightAt l (k + 4);
+}
 
 -- ---- 3 to 8
 
@@ -82,22 +101,22 @@ bodyFrom l = bodyOfCode l (getD l 0 0)
 abbrev pub stray : Body → List ℕ → Bool
 stray b l = not (empty (drop (9 + length (bodyBytes b)) (take 31 l)))
 
--- ---- 31 to 126
+-- ---- 31 to 222
 
 abbrev pub slotsFrom : List ℕ → List Slot
-slotsFrom l = each 16 (λ i. slotAt l (31 + 6 * i))
+slotsFrom l = each 16 (λ i. slotAt l (31 + 12 * i))
 
 -- no category has an hour in slot 15
 abbrev pub misplaced : Slot
-misplaced = record { hour = 1; strength = 0; place = 0 }
+misplaced = record { day = 0; hour = 1; minute = 0; strength = 0; place = 0 }
 
 abbrev pub slotsOrMisplaced : Bool → List Slot → List Slot
 slotsOrMisplaced isStray ss = cond isStray (set ss 15 misplaced) ss
 
--- ---- 127 to 144
+-- ---- 223 to 240
 
 abbrev pub textInBytes : List ℕ → List ℕ
-textInBytes l = textAt l 127
+textInBytes l = textAt l 223
 
 -- ---- all of them
 
@@ -116,4 +135,4 @@ unpacked l = unpackedAs l (bodyFrom l)
 
 -- bytes of another length are a record of zeros
 unfoldable pub recordFrom : List ℕ → Record
-recordFrom l = cond (eqb (length l) 145) (unpacked l) zeros
+recordFrom l = cond (eqb (length l) 241) (unpacked l) zeros

@@ -1,4 +1,4 @@
-// From any 145 bytes back to a record.
+// From any 241 bytes back to a record.
 ghost use mathlib.Core.Path.{_≡_};
 ghost use mathlib.Core.Bool.{not};
 ghost use mathlib.Core.List.{[], _∷_};
@@ -7,7 +7,7 @@ ghost use lib.ListN.{length, set, take, drop};
 ghost use Rattle.bits.specs.Frame.{number};
 ghost use Rattle.rows.specs.Runs.Verdict.{empty};
 ghost use Rattle.record_bytes.specs.Packed.{bodyBytes};
-ghost use Rattle.record_bytes.specs.Unpacked.{twoAt, fourAt, timeAt, angleAt, slotAt, commonFrom, quakeInBytes, pageFrom, eruptionInBytes, bodyFrom, stray, slotsFrom, misplaced, slotsOrMisplaced, recordFrom};
+ghost use Rattle.record_bytes.specs.Unpacked.{twoAt, fourAt, eightAt, timeAt, angleAt, slotAt, commonFrom, quakeInBytes, pageFrom, eruptionInBytes, bodyFrom, stray, slotsFrom, misplaced, slotsOrMisplaced, recordFrom};
 use crate::sizes::RECORD_SIZE;
 use crate::sizes::SLOT_COUNT;
 use crate::sizes::SLOT_SIZE;
@@ -19,9 +19,9 @@ use hypocenter::Quake;
 use hypocenter::angle::Angle;
 use intensity::Shaking;
 use nankai::PageNumbers;
-use report::record::Body;
-use report::record::Common;
+use report::body::Body;
 use report::record::Record;
+use rows::common::Common;
 use rows::time::Time;
 use slots::slot::Slot;
 
@@ -53,6 +53,15 @@ fn four_at(bytes: &[u8], at: usize) -> u32
     four(bytes[at], bytes[at + 1], bytes[at + 2], bytes[at + 3])
 }
 
+fn eight_at(bytes: &[u8], at: usize) -> u64
+    requires { ⌜ at + 8 ≤ length (now bytes) ⌝ }
+    ensures { λ r. ⌜ r ≡ eightAt (now (bytes .entry)) at ⌝ }
+{
+    let high = four_at(bytes, at);
+    let low = four_at(bytes, at + 4);
+    (high as u64) * 0x1_0000_0000 + low as u64
+}
+
 fn time_at(bytes: &[u8], at: usize) -> Time
     requires { ⌜ at + 3 ≤ length (now bytes) ⌝ }
     ensures { λ r. ⌜ r ≡ timeAt (now (bytes .entry)) at ⌝ }
@@ -77,20 +86,22 @@ fn angle_at(bytes: &[u8], at: usize) -> Angle
 }
 
 fn slot_at(bytes: &[u8], at: usize) -> Slot
-    requires { ⌜ at + 6 ≤ length (now bytes) ⌝ }
+    requires { ⌜ at + 12 ≤ length (now bytes) ⌝ }
     ensures { λ r. ⌜ r ≡ slotAt (now (bytes .entry)) at ⌝ }
 {
     Slot {
-        hour: bytes[at],
-        strength: bytes[at + 1],
-        place: four_at(bytes, at + 2),
+        day: bytes[at],
+        hour: bytes[at + 1],
+        minute: bytes[at + 2],
+        strength: bytes[at + 3],
+        place: eight_at(bytes, at + 4),
     }
 }
 
 // ---- 3 to 8
 
 fn common_of(bytes: &[u8]) -> Common
-    requires { ⌜ length (now bytes) ≡ 145 ⌝ }
+    requires { ⌜ length (now bytes) ≡ 241 ⌝ }
     ensures { λ r. ⌜ r ≡ commonFrom (now (bytes .entry)) ⌝ }
 {
     Common {
@@ -106,7 +117,7 @@ fn common_of(bytes: &[u8]) -> Common
 // ---- 9 to 30
 
 fn quake_of(bytes: &[u8]) -> Quake
-    requires { ⌜ length (now bytes) ≡ 145 ⌝ }
+    requires { ⌜ length (now bytes) ≡ 241 ⌝ }
     ensures { λ r. ⌜ r ≡ quakeInBytes (now (bytes .entry)) ⌝ }
 {
     Quake {
@@ -123,7 +134,7 @@ fn quake_of(bytes: &[u8]) -> Quake
 }
 
 fn page_of(bytes: &[u8]) -> PageNumbers
-    requires { ⌜ length (now bytes) ≡ 145 ⌝ }
+    requires { ⌜ length (now bytes) ≡ 241 ⌝ }
     ensures { λ r. ⌜ r ≡ pageFrom (now (bytes .entry)) ⌝ }
 {
     PageNumbers {
@@ -134,7 +145,7 @@ fn page_of(bytes: &[u8]) -> PageNumbers
 }
 
 fn eruption_of(bytes: &[u8]) -> Eruption
-    requires { ⌜ length (now bytes) ≡ 145 ⌝ }
+    requires { ⌜ length (now bytes) ≡ 241 ⌝ }
     ensures { λ r. ⌜ r ≡ eruptionInBytes (now (bytes .entry)) ⌝ }
 {
     Eruption {
@@ -145,7 +156,7 @@ fn eruption_of(bytes: &[u8]) -> Eruption
 }
 
 fn body_of(bytes: &[u8]) -> Body
-    requires { ⌜ length (now bytes) ≡ 145 ⌝ }
+    requires { ⌜ length (now bytes) ≡ 241 ⌝ }
     ensures { λ r. ⌜ r ≡ bodyFrom (now (bytes .entry)) ⌝ }
 {
     match bytes[0] {
@@ -174,7 +185,7 @@ fn end_of(b: Body) -> usize
 
 // Something stands from the byte `from` on, before the slots.
 fn has_stray(bytes: &[u8], from: usize) -> bool
-    requires { ⌜ length (now bytes) ≡ 145 ⌝ }
+    requires { ⌜ length (now bytes) ≡ 241 ⌝ }
     ensures { λ r. ⌜ r ≡ not (empty (drop from (take 31 (now (bytes .entry))))) ⌝ }
 {
     let mut at = from;
@@ -187,17 +198,13 @@ fn has_stray(bytes: &[u8], from: usize) -> bool
     false
 }
 
-// ---- 31 to 126
+// ---- 31 to 222
 
 fn slots_of(bytes: &[u8]) -> [Slot; SLOT_COUNT]
-    requires { ⌜ length (now bytes) ≡ 145 ⌝ }
+    requires { ⌜ length (now bytes) ≡ 241 ⌝ }
     ensures { λ r. ⌜ r ≡ slotsFrom (now (bytes .entry)) ⌝ }
 {
-    let none = Slot {
-        hour: 0,
-        strength: 0,
-        place: 0,
-    };
+    let none = Slot::none();
     let mut slots = [none; SLOT_COUNT];
     let mut k = 0;
     while k < SLOT_COUNT {
@@ -214,7 +221,9 @@ fn with_misplaced(slots: [Slot; SLOT_COUNT]) -> [Slot; SLOT_COUNT]
 {
     let mut next = slots;
     let s = Slot {
+        day: 0,
         hour: 1,
+        minute: 0,
         strength: 0,
         place: 0,
     };
@@ -223,7 +232,7 @@ fn with_misplaced(slots: [Slot; SLOT_COUNT]) -> [Slot; SLOT_COUNT]
 }
 
 fn marked_slots_of(bytes: &[u8], body: Body) -> [Slot; SLOT_COUNT]
-    requires { ⌜ length (now bytes) ≡ 145 ⌝ }
+    requires { ⌜ length (now bytes) ≡ 241 ⌝ }
     ensures { λ r. ⌜ r ≡ slotsOrMisplaced (stray body (now (bytes .entry))) (slotsFrom (now (bytes .entry))) ⌝ }
 {
     let slots = slots_of(bytes);
@@ -233,7 +242,7 @@ fn marked_slots_of(bytes: &[u8], body: Body) -> [Slot; SLOT_COUNT]
     slots
 }
 
-// The record that 145 lent bytes are, whatever they are. Bytes of another length are a record of zeros.
+// The record that 241 lent bytes are, whatever they are. Bytes of another length are a record of zeros.
 pub fn unpack(bytes: &[u8]) -> Record
     ensures { λ r. ⌜ r ≡ recordFrom (now (bytes .entry)) ⌝ }
 {

@@ -1,4 +1,4 @@
-// A record as 145 bytes at fixed places and back, for callers in other languages: specs/Packed.antt has
+// A record as 241 bytes at fixed places and back, for callers in other languages: specs/Packed.antt has
 // the table of the places. Reading frames and judging records are for the crates below.
 mod from_bytes;
 pub mod sizes; // how many bytes and slots there are, and where they start

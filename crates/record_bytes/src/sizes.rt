@@ -1,5 +1,5 @@
 // The sizes of the table in specs/Packed.antt, in bytes, and the places where its parts start.
-pub const RECORD_SIZE: usize = 145;
+pub const RECORD_SIZE: usize = 241;
 
 pub const TEXT_SIZE: usize = 18;
 
@@ -8,8 +8,8 @@ pub(crate) const BODY_SIZE: usize = 22;
 
 pub(crate) const SLOTS_AT: usize = 31;
 
-pub(crate) const SLOT_SIZE: usize = 6;
+pub(crate) const SLOT_SIZE: usize = 12;
 
 pub(crate) const SLOT_COUNT: usize = 16;
 
-pub(crate) const TEXT_AT: usize = 127;
+pub(crate) const TEXT_AT: usize = 223;

@@ -4,6 +4,7 @@ ghost use Rattle.rows.specs.Values.{timeValues};
 ghost use Rattle.hypocenter.specs.Hypocenter.{angleValues};
 ghost use Rattle.record_bytes.specs.Packed.{zeroFilled, headBytes, notificationBytes, sourceBytes, quakeBytes, bodyBytes, slotBytes, slotsBytes, packedInto};
 ghost use Rattle.lent.specs.Writing.{Wrote};
+ghost use Rattle.report.specs.declared.body.Body.{Body};
 use crate::sizes::BODY_SIZE;
 use crate::sizes::RECORD_SIZE;
 use crate::sizes::SLOT_COUNT;
@@ -15,7 +16,7 @@ use lent::put_bytes;
 use lent::put_wide;
 use lent::put_zeros;
 use nankai::PageNumbers;
-use report::record::Body;
+use report::body::Body;
 use report::record::Record;
 use rows::time::Time;
 use slots::slot::Slot;
@@ -41,12 +42,13 @@ fn put_head(out: &mut [u8], r: Record) -> usize
 {
     let common = r.common;
     let body = r.body;
-    let shape = body.shape();
+    let fields = body.fields(0, 0);
+    let table = fields.table;
     put_bytes(
         out,
         0,
         &[
-            shape.code,
+            table.code,
             r.preamble,
             r.reserved,
             common.rc,
@@ -127,13 +129,13 @@ fn put_body(out: &mut [u8], at: usize, b: Body) -> usize
     }
 }
 
-// ---- 31 to 126
+// ---- 31 to 222
 
 fn put_slot(out: &mut [u8], at: usize, s: Slot) -> usize
     ensures { λ next. ⌜ Wrote (now (out .entry)) (now (out .exit)) at next (slotBytes s) ⌝ }
 {
-    let place = put_bytes(out, at, &[s.hour, s.strength]);
-    put_wide(out, place, 4, s.place as u64)
+    let place = put_bytes(out, at, &[s.day, s.hour, s.minute, s.strength]);
+    put_wide(out, place, 8, s.place)
 }
 
 fn put_slots(out: &mut [u8], at: usize, slots: [Slot; SLOT_COUNT]) -> usize
@@ -150,7 +152,7 @@ fn put_slots(out: &mut [u8], at: usize, slots: [Slot; SLOT_COUNT]) -> usize
     next
 }
 
-// The record, into a lent buffer of 145 bytes. A buffer of another length stays as it was.
+// The record, into a lent buffer of 241 bytes. A buffer of another length stays as it was.
 pub fn pack(r: Record, out: &mut [u8])
     ensures { λ _. ⌜ now (out .exit) ≡ packedInto r (now (out .entry)) ⌝ }
 {

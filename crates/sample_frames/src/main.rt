@@ -7,18 +7,18 @@ use hypocenter::angle::Angle;
 use intensity::Shaking;
 use libc::STDOUT_FILENO;
 use nankai::PageNumbers;
-use report::record::Body;
-use report::record::Common;
+use report::body::Body;
 use report::record::Record;
+use rows::common::Common;
 use rows::time::Time;
 use slots::slot::Slot;
 
 // Tables 2-4-2 and 2-5-1: Aso city, Takamori town and Minamiaso village in Kumamoto.
-const ASO: u32 = 4321400;
+const ASO: u64 = 4321400;
 
-const TAKAMORI: u32 = 4342800;
+const TAKAMORI: u64 = 4342800;
 
-const MINAMIASO: u32 = 4343300;
+const MINAMIASO: u64 = 4343300;
 
 // Table 2-3-1: the text of the Nankai bulletin in UTF-8, one page of 18 bytes a line, the last one
 // filled up with zeros.
@@ -79,16 +79,18 @@ fn issued(at: Time, body: Body, slots: [Slot; 16], text: [u8; 18]) -> Record {
     }
 }
 
-fn slot(hour: u8, strength: u8, place: u32) -> Slot {
+fn slot(hour: u8, strength: u8, place: u64) -> Slot {
     Slot {
+        day: 0,
         hour: hour,
+        minute: 0,
         strength: strength,
         place: place,
     }
 }
 
 fn no_slots() -> [Slot; 16] {
-    [slot(0, 0, 0); 16]
+    [Slot::none(); 16]
 }
 
 // Table 2-1-2: off Hyuganada, 40 km deep, 6.4. As in every table, the time of the event is that of
@@ -187,7 +189,7 @@ fn show_preliminary(at: Time) {
         slot(1, 1, ASO),
         slot(1, 1, TAKAMORI),
         slot(1, 1, MINAMIASO),
-        slot(0, 0, 0),
+        Slot::none(),
     );
 }
 
@@ -226,8 +228,8 @@ fn show_detailed(at: Time) {
         eruption,
         slot(6, 1, TAKAMORI),
         slot(6, 1, MINAMIASO),
-        slot(0, 0, 0),
-        slot(0, 0, 0),
+        Slot::none(),
+        Slot::none(),
     );
 }
 

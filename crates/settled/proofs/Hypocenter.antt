@@ -9,11 +9,14 @@ Quake-of-is-settled κs a x y = answer
 pub Quake-check-is-settled : Settled hypocenter.Quake.check.ended hypocenter.Quake.check.Reads.Post
 Quake-check-is-settled κs a x y = answer
 
-pub Quake-values-is-settled : Settled hypocenter.Quake.values.ended hypocenter.Quake.values.Reads.Post
-Quake-values-is-settled κs a x y = answer
-
 pub Depth-of-is-settled : Settled hypocenter.meaning.Depth.of.ended hypocenter.meaning.Depth.of.Reads.Post
 Depth-of-is-settled κs a x y = answer
 
 pub Magnitude-of-is-settled : Settled hypocenter.meaning.Magnitude.of.ended hypocenter.meaning.Magnitude.of.Reads.Post
 Magnitude-of-is-settled κs a x y = answer
+
+pub spares-is-settled : Settled hypocenter.spares.ended hypocenter.spares.Reads.Post
+spares-is-settled κs a x y = answer
+
+pub Quake-fields-is-settled : Settled hypocenter.Quake.fields.ended hypocenter.Quake.fields.Reads.Post
+Quake-fields-is-settled κs a x y = answer

@@ -9,5 +9,11 @@ Shaking-of-is-settled κs a x y = answer
 pub Shaking-check-is-settled : Settled intensity.Shaking.check.ended intensity.Shaking.check.Reads.Post
 Shaking-check-is-settled κs a x y = answer
 
-pub Shaking-values-is-settled : Settled intensity.Shaking.values.ended intensity.Shaking.values.Reads.Post
-Shaking-values-is-settled κs a x y = answer
+pub spares-is-settled : Settled intensity.spares.ended intensity.spares.Reads.Post
+spares-is-settled κs a x y = answer
+
+pub Shaking-fields-is-settled : Settled intensity.Shaking.fields.ended intensity.Shaking.fields.Reads.Post
+Shaking-fields-is-settled κs a x y = answer
+
+pub prefectures-of-is-settled : Settled intensity.prefectures.prefectures_of.ended intensity.prefectures.prefectures_of.Reads.Post
+prefectures-of-is-settled κs a x y = answer

@@ -9,8 +9,14 @@ PageNumbers-of-is-settled κs a x y = answer
 pub PageNumbers-check-is-settled : Settled nankai.PageNumbers.check.ended nankai.PageNumbers.check.Reads.Post
 PageNumbers-check-is-settled κs a x y = answer
 
-pub PageNumbers-lay-is-settled : Settled nankai.PageNumbers.lay.ended nankai.PageNumbers.lay.Reads.Post
-PageNumbers-lay-is-settled κs a x y = answer
-
 pub page-text-is-settled : Settled nankai.page_text.ended nankai.page_text.Reads.Post
 page-text-is-settled κs a x y = answer
+
+pub spares-is-settled : Settled nankai.spares.ended nankai.spares.Reads.Post
+spares-is-settled κs a x y = answer
+
+pub PageNumbers-fields-is-settled : Settled nankai.PageNumbers.fields.ended nankai.PageNumbers.fields.Reads.Post
+PageNumbers-fields-is-settled κs a x y = answer
+
+pub lay-text-is-settled : Settled nankai.lay_text.ended nankai.lay_text.Reads.Post
+lay-text-is-settled κs a x y = answer

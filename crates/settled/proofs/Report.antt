@@ -3,9 +3,6 @@ use Rattle.report.proofs as report
 use Rattle.settled.specs.Settled.{Settled}
 use Rattle.settled.proofs.Law.{answer, both, second}
 
-pub Body-shape-is-settled : Settled report.record.Body.shape.ended report.record.Body.shape.Reads.Post
-Body-shape-is-settled κs a x y = answer
-
 pub Record-slots-used-is-settled : Settled report.record.Record.slots_used.ended report.record.Record.slots_used.Reads.Post
 Record-slots-used-is-settled κs a x y = answer
 
@@ -23,3 +20,9 @@ write-answer-is-settled κs a x y = answer
 
 pub write-is-settled : Settled report.write.write.ended report.write.write.Reads.Post
 write-is-settled κs a x y = both second
+
+pub Body-fields-is-settled : Settled report.body.Body.fields.ended report.body.Body.fields.Reads.Post
+Body-fields-is-settled κs a x y = answer
+
+pub Body-page-is-settled : Settled report.body.Body.page.ended report.body.Body.page.Reads.Post
+Body-page-is-settled κs a x y = answer

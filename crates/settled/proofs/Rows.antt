@@ -26,3 +26,18 @@ Time-at-is-settled κs a x y = answer
 
 pub Verdict-ranged-is-settled : Settled rows.refusal.Verdict.ranged.ended rows.refusal.Verdict.ranged.Reads.Post
 Verdict-ranged-is-settled κs a x y = answer
+
+pub is-two-or-seven-is-settled : Settled rows.codes.is_two_or_seven.ended rows.codes.is_two_or_seven.Reads.Post
+is-two-or-seven-is-settled κs a x y = answer
+
+pub is-uncorrected-is-settled : Settled rows.codes.is_uncorrected.ended rows.codes.is_uncorrected.Reads.Post
+is-uncorrected-is-settled κs a x y = answer
+
+pub is-corrected-is-settled : Settled rows.codes.is_corrected.ended rows.codes.is_corrected.Reads.Post
+is-corrected-is-settled κs a x y = answer
+
+pub Common-of-is-settled : Settled rows.common.Common.of.ended rows.common.Common.of.Reads.Post
+Common-of-is-settled κs a x y = answer
+
+pub Verdict-common-is-settled : Settled rows.refusal.Verdict.common.ended rows.refusal.Verdict.common.Reads.Post
+Verdict-common-is-settled κs a x y = answer

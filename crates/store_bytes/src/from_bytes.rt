@@ -11,7 +11,7 @@ use bulletin::store::Store;
 use pages::name::Name;
 use pages::page::Page;
 use record_bytes::text::text_at;
-use report::record::Common;
+use rows::common::Common;
 
 fn page_at(bytes: &[u8], at: usize) -> Page
     requires { ⌜ at + 19 ≤ length (now bytes) ⌝ }

@@ -120,8 +120,9 @@ pub fn random_record(random: &mut Random, category: Category) -> Record {
     let mut record = valid_record(random, category);
     for row in record_bounds(category) {
         if random.one_in(3) {
-            let width = 1 + random.below(32);
-            set_number(&mut record, row.first, random.bits(width));
+            let most = if random.one_in(8) { 64 } else { 32 };
+            let width = 1 + random.below(most);
+            set_number(&mut record, row.first, random.wide_bits(width));
         }
     }
     if random.one_in(4) {
@@ -135,7 +136,7 @@ pub fn random_record(random: &mut Random, category: Category) -> Record {
 
 /// Sets the number that goes to a bit of the frame. A value above what the
 /// record's number can hold becomes the most that it can hold.
-pub fn set_number(record: &mut Record, first: usize, value: u32) {
+pub fn set_number(record: &mut Record, first: usize, value: u64) {
     match first {
         14 => record.rc = byte(value),
         21 => record.month = byte(value),
@@ -148,7 +149,7 @@ pub fn set_number(record: &mut Record, first: usize, value: u32) {
     }
 }
 
-fn set_in_category(record: &mut Record, first: usize, value: u32) {
+fn set_in_category(record: &mut Record, first: usize, value: u64) {
     match &mut record.body {
         Body::Nothing => {}
         Body::Hypocenter(hypocenter) => set_in_hypocenter(hypocenter, first, value),
@@ -171,7 +172,7 @@ fn set_in_category(record: &mut Record, first: usize, value: u32) {
     }
 }
 
-fn set_in_hypocenter(hypocenter: &mut Hypocenter, first: usize, value: u32) {
+fn set_in_hypocenter(hypocenter: &mut Hypocenter, first: usize, value: u64) {
     match first {
         53..=79 => hypocenter.notifications[(first - 53) / 9] = short(value),
         80..=95 => set_in_time(&mut hypocenter.time, first - 80, value),
@@ -189,7 +190,7 @@ fn set_in_hypocenter(hypocenter: &mut Hypocenter, first: usize, value: u32) {
     }
 }
 
-fn set_in_time(time: &mut Time, offset: usize, value: u32) {
+fn set_in_time(time: &mut Time, offset: usize, value: u64) {
     match offset {
         0 => time.day = byte(value),
         5 => time.hour = byte(value),
@@ -198,7 +199,7 @@ fn set_in_time(time: &mut Time, offset: usize, value: u32) {
 }
 
 /// The offset is that of ash fall, where the hour comes first.
-fn set_in_slot(slot: &mut Slot, offset: usize, value: u32) {
+fn set_in_slot(slot: &mut Slot, offset: usize, value: u64) {
     match offset {
         0 => slot.hour = byte(value),
         3 => slot.strength = byte(value),
@@ -206,12 +207,12 @@ fn set_in_slot(slot: &mut Slot, offset: usize, value: u32) {
     }
 }
 
-fn byte(value: u32) -> u8 {
-    value.min(u32::from(u8::MAX)) as u8
+fn byte(value: u64) -> u8 {
+    value.min(u8::MAX.into()) as u8
 }
 
-fn short(value: u32) -> u16 {
-    value.min(u32::from(u16::MAX)) as u16
+fn short(value: u64) -> u16 {
+    value.min(u16::MAX.into()) as u16
 }
 
 /// The rows of a category and Reserved, which only a record can have wrong.
@@ -223,10 +224,13 @@ fn record_bounds(category: Category) -> Vec<Bounds> {
 
 /// The edges and what is beyond them. A record's numbers are wider than the
 /// frame's fields, so the value just above is there even if no frame has it.
-fn record_edges(row: &Bounds) -> Vec<u32> {
+/// A place is wider still: what is above 32 bits must not get lost either.
+fn record_edges(row: &Bounds) -> Vec<u64> {
     let mut values = row.edges();
     values.push(row.highest + 1);
     values.extend(row.far_outside());
+    let mut values: Vec<u64> = values.into_iter().map(u64::from).collect();
+    values.extend([u64::from(row.lowest) + (1 << 32), 1 << 32, u64::MAX]);
     values
 }
 
@@ -240,22 +244,27 @@ fn clear_part(random: &mut Random, record: &mut Record, category: Category, slot
     set_number(record, part.first, 0);
 }
 
-/// Puts something into a slot or a text byte that the category does not use.
+/// Puts something into a part of a slot or a text byte that the category does
+/// not use.
 fn fill_unused(random: &mut Random, record: &mut Record, category: Category) {
     let text_is_unused = category != Category::Nankai;
     if text_is_unused && random.one_in(2) {
         record.text[random.below(18)] = 1 + random.bits(7) as u8;
         return;
     }
-    let hour = 1 + random.bits(7) as u8;
-    if category == Category::Intensity {
-        record.slots[random.below(16)].hour = hour;
-        return;
-    }
-    let past = slot_count(category) + random.below(16 - slot_count(category));
-    match random.below(3) {
-        0 => record.slots[past].hour = hour,
-        1 => record.slots[past].strength = hour,
-        _ => record.slots[past].place = 1 << random.below(32),
+    let number = random.below(16);
+    let parts = match category {
+        _ if number >= slot_count(category) => 5,
+        Category::AshFall => 2,
+        _ => 3,
+    };
+    let slot = &mut record.slots[number];
+    let something = 1 + random.bits(7) as u8;
+    match random.below(parts) {
+        0 => slot.day = something,
+        1 => slot.minute = something,
+        2 => slot.hour = something,
+        3 => slot.strength = something,
+        _ => slot.place = 1 << random.below(64),
     }
 }

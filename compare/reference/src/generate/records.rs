@@ -28,12 +28,13 @@ pub fn valid_slot(random: &mut Random, category: Category) -> Slot {
         Category::AshFall => Slot {
             hour: byte(random, &[(1, 6)]),
             strength: byte(random, &[(1, 7)]),
-            place: allowed_value(random, &[(110_000, 4_799_999)]),
+            place: allowed_value(random, &[(110_000, 4_799_999)]).into(),
+            ..Slot::default()
         },
         _ => Slot {
-            hour: 0,
             strength: byte(random, &[(1, 7)]),
-            place: allowed_value(random, &[(1, 47)]),
+            place: allowed_value(random, &[(1, 47)]).into(),
+            ..Slot::default()
         },
     }
 }

@@ -72,9 +72,14 @@ fn something_where_the_category_has_nothing() {
             assert_eq!(writing(category, |record| record.slots[slot].hour = 1), (11, 0));
             assert_eq!(writing(category, |record| record.slots[slot].strength = 1), (11, 0));
             assert_eq!(writing(category, |record| record.slots[slot].place = 1), (11, 0));
+            assert_eq!(writing(category, |record| record.slots[slot].place = 1 << 32), (11, 0));
         }
     }
     for slot in 0..16 {
+        for category in Category::ALL {
+            assert_eq!(writing(category, |record| record.slots[slot].day = 1), (11, 0));
+            assert_eq!(writing(category, |record| record.slots[slot].minute = 1), (11, 0));
+        }
         assert_eq!(writing(Intensity, |record| record.slots[slot].hour = 1), (11, 0));
     }
 }
@@ -85,8 +90,10 @@ fn a_value_too_wide_is_out_of_range_whatever_its_low_bits_say() {
     assert_eq!(writing(Hypocenter, |record| record.month = 16 + 3), (8, 21));
     assert_eq!(writing(Hypocenter, |record| record.it = 4), (8, 41));
     assert_eq!(writing(Intensity, |record| record.slots[0].place = 64 + 44), (8, 72));
-    assert_eq!(writing(Intensity, |record| record.slots[0].place = u32::MAX), (8, 72));
+    assert_eq!(writing(Intensity, |record| record.slots[0].place = u64::MAX), (8, 72));
+    assert_eq!(writing(Intensity, |record| record.slots[0].place += 1 << 32), (8, 72));
     assert_eq!(writing(AshFall, |record| record.slots[0].place += 1 << 23), (8, 89));
+    assert_eq!(writing(AshFall, |record| record.slots[0].place += 1 << 63), (8, 89));
     assert_eq!(writing(AshFall, |record| record.slots[3].hour = 8 + 2), (8, 170));
     assert_eq!(writing(Nankai, |record| record.reserved = 63), (0, 0));
     assert_eq!(writing(Nankai, |record| record.reserved = 64), (8, 220));
@@ -96,9 +103,13 @@ fn a_value_too_wide_is_out_of_range_whatever_its_low_bits_say() {
 #[test]
 fn a_slot_whose_low_bits_are_zero_is_not_empty() {
     let change = |record: &mut Record| {
-        record.slots[3] = Slot { hour: 8, strength: 8, place: 1 << 23 };
+        record.slots[3] = Slot { hour: 8, strength: 8, place: 1 << 23, ..Slot::default() };
     };
     assert_eq!(writing(AshFall, change), (8, 170));
+    let far = |record: &mut Record| {
+        record.slots[15] = Slot { place: 1 << 32, ..Slot::default() };
+    };
+    assert_eq!(writing(Intensity, far), (10, 204));
 }
 
 #[test]

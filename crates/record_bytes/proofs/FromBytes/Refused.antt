@@ -1,58 +1,59 @@
 -- Something behind what the category has is refused, in its turn.
-use Rattle.report.proofs.Tables.Lengths.{kind-table}
 use mathlib.Core.Path.{_≡_, refl, ap, _∙_}
-use mathlib.Core.Bool.{Bool, true, false, _&&_}
-use Prim.Native.Nat.{ℕ, zero, suc, _+_, _*_, _≤_}
-use native.Mathlib.Omega.{arith}
+use mathlib.Core.Bool.{Bool, true, false, _&&_, not}
+use Prim.Native.Nat.{ℕ, zero, suc, _+_, _*_}
 use mathlib.Core.List.{List, [], _∷_, _++_}
-use lib.ListN.{length, getD}
+use lib.ListN.{length, getD, drop}
 use Rattle.rows.specs.declared.refusal.Verdict.the-variants.{Refused}
 use Rattle.rows.specs.declared.refusal.Refusal.the-variants.{Unused}
-use Rattle.report.specs.declared.record.Body.{Body}
 use Rattle.slots.specs.declared.slot.Slot.{Slot}
-use Rattle.slots.specs.declared.kind.SlotKind.{SlotKind}
-use Rattle.slots.specs.declared.kind.SlotKind.the-variants.{NoSlots, Prefectures, Places}
 use Rattle.rows.specs.Runs.Questions.{_then_, unless}
-use Rattle.report.specs.Layout.{layout, preambles, slotKind}
 use Rattle.rows.specs.Runs.Verdict.{allowed, empty}
-use Rattle.rows.specs.Values.{each}
-use Rattle.report.specs.Runs.Writing.{known, tidyText, tidy, writeAnswer}
-use Rattle.slots.specs.Slots.{unused, tidySlots, slotTable}
+use Rattle.rows.specs.Values.{each, partWidths}
+use Rattle.report.specs.Runs.Writing.{known, tidy, writeAnswer}
+use Rattle.slots.specs.Slots.{tidySlots, slotParts, vacant}
 use Rattle.record_bytes.specs.Unpacked.{slotAt, bodyFrom, stray, slotsFrom, misplaced, slotsOrMisplaced, textInBytes, unpackedAs, unpacked}
+use Rattle.report.specs.declared.body.Body.{Body}
+use Rattle.rows.specs.Layout.{Layout, Slots}
+use Rattle.report.proofs.Categories.{all, layouts, listed}
+use Rattle.report.specs.Categories.{layout, preambles}
+use borrow.Author.Tests.{not-true}
 
 and-false : (a b : Bool) → b ≡ false → a && b ≡ false
 and-false true b e = e
 and-false false b e = refl
 
--- a last slot with an hour, behind the category's slots
-behind-slots : (k : SlotKind) (n : ℕ) (ss : List Slot) → n ≤ length ss → tidySlots k n (ss ++ misplaced ∷ []) ≡ false
-unfolding tidySlots empty
-behind-slots k zero [] h = refl
-behind-slots k (suc n) [] h = absurd (omega arith)
-behind-slots k zero (s ∷ ss) h = and-false (empty (unused NoSlots s)) (tidySlots k zero (ss ++ misplaced ∷ [])) (behind-slots k zero ss (omega arith))
-behind-slots k (suc n) (s ∷ ss) h = and-false (empty (unused k s)) (tidySlots k n (ss ++ misplaced ∷ [])) (behind-slots k n ss (omega arith))
+-- how many of n slots are left behind m
+abbrev left : ℕ → ℕ → ℕ
+left zero m = zero
+left (suc n) zero = suc n
+left (suc n) (suc m) = left n m
 
--- prefectures have no hours
-among-prefectures : (n : ℕ) (ss : List Slot) → tidySlots Prefectures n (ss ++ misplaced ∷ []) ≡ false
-unfolding tidySlots empty
-among-prefectures zero [] = refl
-among-prefectures (suc n) [] = refl
-among-prefectures zero (s ∷ ss) = and-false (empty (unused NoSlots s)) (tidySlots Prefectures zero (ss ++ misplaced ∷ [])) (among-prefectures zero ss)
-among-prefectures (suc n) (s ∷ ss) = and-false (empty (unused Prefectures s)) (tidySlots Prefectures n (ss ++ misplaced ∷ [])) (among-prefectures n ss)
+-- a last slot is asked what its place asks
+last-asked : (ws : List ℕ) (n : ℕ) (ss : List Slot) (x : Slot) → tidySlots ws (left n (length ss)) (x ∷ []) ≡ false → tidySlots ws n (ss ++ x ∷ []) ≡ false
+unfolding tidySlots
+last-asked ws zero [] x e = e
+last-asked ws (suc n) [] x e = e
+last-asked ws zero (s ∷ ss) x e = and-false (empty (slotParts s)) (tidySlots ws zero (ss ++ x ∷ [])) (last-asked ws zero ss x e)
+last-asked ws (suc n) (s ∷ ss) x e = and-false (vacant ws (slotParts s)) (tidySlots ws n (ss ++ x ∷ [])) (last-asked ws n ss x e)
 
-by-kind : (k : SlotKind) (ss : List Slot) → length ss ≡ 15 → tidySlots k (slotTable k .count) (ss ++ misplaced ∷ []) ≡ false
-by-kind NoSlots ss h = behind-slots NoSlots 0 ss (omega arith)
-by-kind Prefectures ss h = among-prefectures 16 ss
-by-kind Places ss h = behind-slots Places 4 ss (omega (arith, h))
+-- computed of all tables: slot 15 is behind the category's slots, or has no bits for an hour
+abbrev refusesMisplaced : Layout → Bool
+refusesMisplaced l = not (tidySlots (partWidths (l .slots)) (left (l .slots .count) 15) (misplaced ∷ []))
+
+all-refuse : all refusesMisplaced layouts ≡ true
+unfolding tidySlots vacant empty
+all-refuse = refl
 
 untidy : (l : List ℕ) (b : Body) → stray b l ≡ true → tidy (unpackedAs l b) ≡ false
 unfolding unpackedAs
 untidy l b e =
-    let k : SlotKind = slotKind b in
-    let ss : List Slot = each 15 (λ i. slotAt l (31 + 6 * i)) in
+    let k : Slots = layout b .slots in
+    let blank : Bool = empty (drop (length (layout b .text)) (textInBytes l)) in
+    let ss : List Slot = each 15 (λ i. slotAt l (31 + 12 * i)) in
     let last : slotsOrMisplaced (stray b l) (slotsFrom l) ≡ ss ++ misplaced ∷ [] = ap (λ (x : Bool). slotsOrMisplaced x (slotsFrom l)) e in
-    ap (λ (x : List Slot). tidySlots k (layout b .slots .count) x && tidyText b (textInBytes l)) last
-    ∙ ap (λ (x : Bool). x && tidyText b (textInBytes l)) (rw (kind-table b) at (by-kind k ss refl))
+    ap (λ (x : List Slot). tidySlots (partWidths k) (k .count) x && blank) last
+    ∙ ap (λ (x : Bool). x && blank) (last-asked (partWidths k) (k .count) ss misplaced (not-true _ (listed refusesMisplaced all-refuse b)))
 
 pub stray-refused : (l : List ℕ) → stray (bodyFrom l) l ≡ true → allowed preambles (getD l 1 0) ≡ true → known (bodyFrom l) ≡ true → writeAnswer (unpacked l) 32 ≡ Refused Unused
 unfolding writeAnswer unpackedAs unless _then_

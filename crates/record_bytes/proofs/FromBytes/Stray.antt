@@ -6,14 +6,14 @@ use native.Mathlib.Omega.{arith}
 use mathlib.Core.List.{List}
 use lib.ListN.{length, getD, take, drop}
 use lib.Seq.{length-take-le, getD-take}
-use Rattle.report.specs.declared.record.Body.{Body}
 use Rattle.slots.specs.declared.slot.Slot.{Slot}
 use Rattle.rows.specs.Runs.Verdict.{empty}
 use Rattle.report.proofs.Writing.Blank.{blank-so-far, not-blank, all-blank}
 use Rattle.record_bytes.specs.Packed.{bodyBytes}
 use Rattle.record_bytes.specs.Unpacked.{stray, slotsOrMisplaced}
+use Rattle.report.specs.declared.body.Body.{Body}
 
-module _ (l : List ℕ) (long : length l ≡ 145) where
+module _ (l : List ℕ) (long : length l ≡ 241) where
   size : length (take 31 l) ≡ 31
   size = length-take-le 31 l (omega (arith, long))
 

@@ -12,7 +12,7 @@ use Rattle.record_bytes.specs.Packed.{slotBytes, slotsBytes}
 use Rattle.lent.specs.Writing.{Wrote}
 use Rattle.lent.proofs.Chains.{_then_}
 
-pub length-slots : (ss : List Slot) → length (slotsBytes ss) ≡ 6 * length ss
+pub length-slots : (ss : List Slot) → length (slotsBytes ss) ≡ 12 * length ss
 unfolding slotsBytes
 length-slots [] = refl
 length-slots (s ∷ ss) = omega (arith, length-slots ss)

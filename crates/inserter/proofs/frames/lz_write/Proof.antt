@@ -8,7 +8,7 @@ use Rattle.inserter.proofs.frames.lz_write.Tie as tie
 
 returns : tie.Need-returns
 unfolding writeInto
-returns c = simp (ne-eqb _ 145 (c .if1 .taken))
+returns c = simp (ne-eqb _ 241 (c .if1 .taken))
 
 unpack-requires : tie.Need-unpack-requires
 unpack-requires c κs = search needs

@@ -1,11 +1,12 @@
 -- `record_bytes::from_bytes::body_of` meets its contract.
 use mathlib.Core.Path.{sym, ap, _∙_}
 use borrow.Author.Tests.{ne-eqb}
-use Rattle.report.specs.declared.record.Body.the-variants.{Hypocenter, Intensity, Nankai, AshFall}
 use Rattle.record_bytes.specs.Unpacked.{bodyOfCode}
 use Rattle.rows.specs.declared.time.Time.{Time}
 use borrow.Author.Needs.{needs}
 use Rattle.record_bytes.proofs.from_bytes.body_of.Statement.{statement}
+use Rattle.report.specs.declared.body.Body.the-variants.{AshFall, Hypocenter, Intensity, Nankai}
+use Rattle.rows.specs.Layout.{time}
 use Rattle.record_bytes.proofs.from_bytes.body_of.Tie as tie
 
 shared-slice-read-match : tie.Need-shared-slice-read-match

@@ -10,10 +10,11 @@ use Rattle.slots.specs.Slots.{noSlot}
 use Rattle.rows.proofs.Layouts.Filling.{fill, filled}
 use Rattle.record_bytes.specs.Unpacked.{slotAt}
 use Rattle.record_bytes.proofs.from_bytes.slots_of.Statement.{statement}
+use borrow.Author.Needs.{needs}
 use Rattle.record_bytes.proofs.from_bytes.slots_of.Tie as tie
 
 abbrev nth : List ℕ → ℕ → Slot
-nth l i = slotAt l (31 + 6 * i)
+nth l i = slotAt l (31 + 12 * i)
 
 abbrev Inv-loop : tie.InvT-loop
 Inv-loop bytes slots₀ k₀ slots k = (k ≤ 16) × ((length slots ≡ 16) × (slots ≡ each k (nth bytes) ++ replicate (16 - k) noSlot))
@@ -21,8 +22,11 @@ Inv-loop bytes slots₀ k₀ slots k = (k ≤ 16) × ((length slots ≡ 16) × (
 abbrev μ-loop : tie.MeasureT-loop
 μ-loop bytes slots₀ k₀ slots k = 16 - k
 
+none-requires : tie.Need-none-requires Inv-loop μ-loop
+none-requires c κs = search needs
+
 loop-holds : tie.Need-loop-holds Inv-loop μ-loop
-loop-holds c = (omega arith, (refl, refl))
+loop-holds c = (omega arith, (refl, ap (replicate 16) (c .none .ensures)))
 
 mul-slot-at : tie.Need-mul-slot-at Inv-loop μ-loop
 mul-slot-at c = omega arith
@@ -48,7 +52,7 @@ loop-less c = omega arith
 loop-again : tie.Need-loop-again Inv-loop μ-loop
 loop-again c =
     let l = c .before .before .loop in
-    let s = c .before .before .before .before .args .bytes .now in (
+    let s = c .before .before .before .before .before .args .bytes .now in (
       omega arith,
       (
         length-set (l .slots) (l .k) (c .slot-at .result) ∙ l .inv .1 .0,
@@ -59,7 +63,7 @@ loop-again c =
 returns : tie.Need-returns Inv-loop μ-loop
 returns c =
     let l = c .before .loop in
-    let s = c .before .before .before .args .bytes .now in
+    let s = c .before .before .before .before .args .bytes .now in
     let last : l .k ≡ 16 = omega arith in
     filled 16 (nth s) noSlot (l .slots) (l .inv .1 .1 ∙ ap (λ (k : ℕ). each k (nth s) ++ replicate (16 - k) noSlot) last)
 
@@ -69,6 +73,7 @@ slots-of-spec =
     (tie.spec
     Inv-loop
     μ-loop
+    none-requires
     loop-holds
     mul-slot-at
     add-slot-at

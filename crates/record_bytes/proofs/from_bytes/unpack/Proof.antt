@@ -12,7 +12,7 @@ of-zeros-requires c κs = search needs
 
 returns : tie.Need-returns
 unfolding recordFrom
-returns c = simp (ne-eqb _ 145 (c .before .if1 .taken), c .of-zeros .ensures)
+returns c = simp (ne-eqb _ 241 (c .before .if1 .taken), c .of-zeros .ensures)
 
 body-of-requires : tie.Need-body-of-requires
 body-of-requires c κs = search needs
@@ -35,10 +35,10 @@ common-of-requires c κs = search needs
 returns-2 : tie.Need-returns-2
 unfolding unpackedAs recordFrom
 returns-2 c = simp (
-  eq-eqb _ 145 (c .before .before .before .before .before .before .if1 .left),
+  eq-eqb _ 241 (c .before .before .before .before .before .before .if1 .left),
   c .common-of .ensures,
   c .before .before .before .text-at .ensures,
-  text-found (c .before .before .before .before .before .before .before .before .args .bytes .now) 127 (omega arith),
+  text-found (c .before .before .before .before .before .before .before .before .args .bytes .now) 223 (omega arith),
   c .before .before .before .before .marked-slots-of .ensures,
   c .before .before .before .before .before .body-of .ensures,
 )
