@@ -8,3 +8,4 @@ pub mod Laid
 pub mod ByteLoops
 pub mod Arrays
 pub mod LayLoop
+pub mod Settled

@@ -3,3 +3,4 @@ pub mod Stores
 pub mod Taking
 pub mod Merging
 pub mod Telling
+pub mod Settled

@@ -2,3 +2,4 @@ pub mod Claims
 pub mod Reading
 pub mod Writing
 pub mod StoreDoors
+pub mod Settled

@@ -1,3 +1,4 @@
 pub mod Chains
 pub mod Decimals
 pub mod Wide
+pub mod Settled

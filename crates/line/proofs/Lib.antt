@@ -6,3 +6,4 @@ pub mod LineEnds
 pub mod ThereAndBack
 pub mod DigitBits
 pub mod ReadLines
+pub mod Settled

@@ -3,3 +3,4 @@ pub mod PaperExample
 pub mod Texts
 pub mod Lines
 pub mod Chunks
+pub mod Settled

@@ -3,3 +3,4 @@ pub mod Step
 pub mod Xor
 pub mod Linear
 pub mod Front
+pub mod Settled

@@ -3,3 +3,4 @@ pub mod Texts
 pub mod ToBytes
 pub mod FromBytes
 pub mod RoundTrip
+pub mod Settled

@@ -7,3 +7,4 @@ pub mod Writing
 pub mod RoundTrips
 pub mod PaperValues
 pub mod Claims
+pub mod Settled

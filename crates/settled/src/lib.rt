@@ -1,2 +1,3 @@
-// What every public function promises, held to one question: are any two outcomes that its contract allows on the same
-// arguments equal? There is no code here: proofs/ has a file for each crate below and a theorem for each function.
+// What every public function promises is held to one question: are any two outcomes that its contract allows on
+// the same arguments equal? The question stands in specs/, the laws by which it is answered in proofs/. Each crate
+// answers it for its own functions, in its proofs/Settled.antt. There is no code here.

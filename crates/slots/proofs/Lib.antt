@@ -6,3 +6,4 @@ pub mod Judged
 pub mod Laying
 pub mod Used
 pub mod Tidy
+pub mod Settled

@@ -1,3 +1,4 @@
 pub mod Claims
 pub mod Pages
 pub mod RoundTrip
+pub mod Settled

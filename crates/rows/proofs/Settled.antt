@@ -1,7 +1,7 @@
--- Every public function of `rows` is settled (specs/Settled.antt).
+-- Every public function of `rows` is settled (crate `settled`).
 use Rattle.rows.proofs as rows
 use Rattle.settled.specs.Settled.{Settled}
 use Rattle.settled.proofs.Law.{answer}
 
 pub Refusal-says-is-settled : Settled rows.refusal.Refusal.says.ended rows.refusal.Refusal.says.Reads.Post
 Refusal-says-is-settled κs a x y = answer

@@ -1,11 +1,11 @@
--- Every public function of `lent` is settled (specs/Settled.antt).
+-- Every public function of `lent` is settled (crate `settled`).
 use Prim.Native.Nat.{ℕ}
 use mathlib.Core.Path.{_≡_}
 use mathlib.Core.List.{List}
 use Rattle.lent.specs.Writing.{Wrote}
 use Rattle.lent.proofs as lent
 use Rattle.settled.specs.Settled.{Settled}
 use Rattle.settled.proofs.Law.{both}
 
 -- the contracts speak of the place behind and of the lent buffer
 place-and-buffer : {U : Type 0} (in-place : List ℕ → U) {l b c t : List ℕ} {i x y : ℕ} → Wrote l b i x t → Wrote l c i y t → _≡_ {A = ℕ × U} (x, in-place b) (y, in-place c)

@@ -1,7 +1,7 @@
--- Every public function of `report` is settled (specs/Settled.antt).
+-- Every public function of `report` is settled (crate `settled`).
 use Rattle.report.proofs as report
 use Rattle.settled.specs.Settled.{Settled}
 use Rattle.settled.proofs.Law.{answer, both, second}
 
 pub Record-slots-used-is-settled : Settled report.record.Record.slots_used.ended report.record.Record.slots_used.Reads.Post
 Record-slots-used-is-settled κs a x y = answer

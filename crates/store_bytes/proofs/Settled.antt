@@ -1,7 +1,7 @@
--- Every public function of `store_bytes` is settled (specs/Settled.antt).
+-- Every public function of `store_bytes` is settled (crate `settled`).
 use Rattle.store_bytes.proofs as store_bytes
 use Rattle.settled.specs.Settled.{Settled}
 use Rattle.settled.proofs.Law.{answer, buffer, second}
 
 pub unpack-name-is-settled : Settled store_bytes.unpack_name.ended store_bytes.unpack_name.Reads.Post
 unpack-name-is-settled κs a x y = answer

@@ -1,7 +1,7 @@
--- Every public function of `slots` is settled (specs/Settled.antt).
+-- Every public function of `slots` is settled (crate `settled`).
 use Rattle.slots.proofs as slots
 use Rattle.settled.specs.Settled.{Settled}
 use Rattle.settled.proofs.Law.{answer}
 
 pub lay-slots-is-settled : Settled slots.encode.lay_slots.ended slots.encode.lay_slots.Reads.Post
 lay-slots-is-settled κs a x y = answer

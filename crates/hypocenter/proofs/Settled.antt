@@ -1,7 +1,7 @@
--- Every public function of `hypocenter` is settled (specs/Settled.antt).
+-- Every public function of `hypocenter` is settled (crate `settled`).
 use Rattle.hypocenter.proofs as hypocenter
 use Rattle.settled.specs.Settled.{Settled}
 use Rattle.settled.proofs.Law.{answer}
 
 pub Quake-of-is-settled : Settled hypocenter.Quake.of.ended hypocenter.Quake.of.Reads.Post
 Quake-of-is-settled κs a x y = answer

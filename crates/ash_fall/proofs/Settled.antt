@@ -1,7 +1,7 @@
--- Every public function of `ash_fall` is settled (specs/Settled.antt).
+-- Every public function of `ash_fall` is settled (crate `settled`).
 use Rattle.ash_fall.proofs as ash_fall
 use Rattle.settled.specs.Settled.{Settled}
 use Rattle.settled.proofs.Law.{answer}
 
 pub Eruption-of-is-settled : Settled ash_fall.Eruption.of.ended ash_fall.Eruption.of.Reads.Post
 Eruption-of-is-settled κs a x y = answer

@@ -1,7 +1,7 @@
--- Every public function of `nankai` is settled (specs/Settled.antt).
+-- Every public function of `nankai` is settled (crate `settled`).
 use Rattle.nankai.proofs as nankai
 use Rattle.settled.specs.Settled.{Settled}
 use Rattle.settled.proofs.Law.{answer}
 
 pub PageNumbers-of-is-settled : Settled nankai.PageNumbers.of.ended nankai.PageNumbers.of.Reads.Post
 PageNumbers-of-is-settled κs a x y = answer

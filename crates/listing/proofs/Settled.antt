@@ -1,13 +1,13 @@
--- Every public function of `listing` is settled (specs/Settled.antt).
+-- Every public function of `listing` is settled (crate `settled`).
 use Prim.Native.Nat.{ℕ}
 use mathlib.Core.Path.{_≡_}
 use mathlib.Core.List.{List}
 use Rattle.listing.specs.declared.scan.Step.{Step}
 use Rattle.listing.specs.Rows.{Filled, filled}
 use Rattle.listing.specs.Scanning.{AfterScan, afterScan}
 use Rattle.listing.proofs as listing
 use Rattle.settled.specs.Settled.{Settled}
 use Rattle.settled.proofs.Law.{answer, read-off, beside, only, second, third}
 
 -- the contracts speak of the answer and the lent buffer as one value
 length-and-buffer : {U : Type 0} (at : List ℕ → U) {x y : ℕ} {b c : List ℕ} {z : Filled} → filled x b ≡ z → filled y c ≡ z → _≡_ {A = ℕ × U} (x, at b) (y, at c)

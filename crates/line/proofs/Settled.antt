@@ -1,7 +1,7 @@
--- Every public function of `line` is settled (specs/Settled.antt).
+-- Every public function of `line` is settled (crate `settled`).
 use Rattle.line.proofs as line
 use Rattle.settled.specs.Settled.{Settled}
 use Rattle.settled.proofs.Law.{answer, both, second}
 
 pub frame-of-line-is-settled : Settled line.from_line.frame_of_line.ended line.from_line.frame_of_line.Reads.Post
 frame-of-line-is-settled κs a x y = answer

@@ -1,11 +1,11 @@
--- Every public function of `inserter` is settled (specs/Settled.antt).
+-- Every public function of `inserter` is settled (crate `settled`).
 use Prim.Native.Nat.{ℕ}
 use mathlib.Core.Path.{_≡_}
 use mathlib.Core.List.{List}
 use Rattle.inserter.specs.Answers.{CallResult, callResult}
 use Rattle.inserter.proofs as inserter
 use Rattle.settled.specs.Settled.{Settled}
 use Rattle.settled.proofs.Law.{answer, read-off, first, second}
 
 -- the contracts speak of the answer and the lent buffer as one value
 parts : {U : Type 0} (at : List ℕ → U) {x y : ℕ} {b c : List ℕ} {z : CallResult} → callResult x b ≡ z → callResult y c ≡ z → _≡_ {A = ℕ × U} (x, at b) (y, at c)

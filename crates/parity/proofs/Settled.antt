@@ -1,7 +1,7 @@
--- Every public function of `parity` is settled (specs/Settled.antt).
+-- Every public function of `parity` is settled (crate `settled`).
 use Rattle.parity.proofs as parity
 use Rattle.settled.specs.Settled.{Settled}
 use Rattle.settled.proofs.Law.{answer}
 
 pub parity-is-settled : Settled parity.parity.ended parity.parity.Reads.Post
 parity-is-settled κs a x y = answer

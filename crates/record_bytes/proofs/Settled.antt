@@ -1,7 +1,7 @@
--- Every public function of `record_bytes` is settled (specs/Settled.antt).
+-- Every public function of `record_bytes` is settled (crate `settled`).
 use Rattle.record_bytes.proofs as «record_bytes»
 use Rattle.settled.specs.Settled.{Settled}
 use Rattle.settled.proofs.Law.{answer, buffer, second}
 
 pub unpack-is-settled : Settled «record_bytes».unpack.ended «record_bytes».unpack.Reads.Post
 unpack-is-settled κs a x y = answer

@@ -1,7 +1,7 @@
--- Every public function of `bits` is settled (specs/Settled.antt).
+-- Every public function of `bits` is settled (crate `settled`).
 use Rattle.bits.proofs as bits
 use Rattle.settled.specs.Settled.{Settled}
 use Rattle.settled.proofs.Law.{answer, buffer, beside, second}
 
 pub field64-is-settled : Settled bits.field64.ended bits.field64.Reads.Post
 field64-is-settled κs a x y = beside answer

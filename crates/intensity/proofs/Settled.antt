@@ -1,7 +1,7 @@
--- Every public function of `intensity` is settled (specs/Settled.antt).
+-- Every public function of `intensity` is settled (crate `settled`).
 use Rattle.intensity.proofs as intensity
 use Rattle.settled.specs.Settled.{Settled}
 use Rattle.settled.proofs.Law.{answer}
 
 pub Shaking-of-is-settled : Settled intensity.Shaking.of.ended intensity.Shaking.of.Reads.Post
 Shaking-of-is-settled κs a x y = answer

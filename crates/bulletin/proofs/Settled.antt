@@ -1,4 +1,4 @@
--- Every public function of `bulletin` is settled (specs/Settled.antt).
+-- Every public function of `bulletin` is settled (crate `settled`).
 use mathlib.Core.Path.{refl}
 use base.Logic.{emp}
 use contract.Lifetimes.{Lfts}

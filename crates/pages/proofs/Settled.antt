@@ -1,7 +1,7 @@
--- Every public function of `pages` is settled (specs/Settled.antt).
+-- Every public function of `pages` is settled (crate `settled`).
 use Rattle.pages.proofs as pages
 use Rattle.settled.specs.Settled.{Settled}
 use Rattle.settled.proofs.Law.{answer}
 
 pub Page-absent-is-settled : Settled pages.page.Page.absent.ended pages.page.Page.absent.Reads.Post
 Page-absent-is-settled κs a x y = answer
