@@ -13,9 +13,6 @@ use Rattle.bits.proofs.field_of_at_most.Tie as tie
 inside : (c : tie.Then1) → lies (c .before .before .args .most) (c .before .before .args .first) (c .before .before .args .width) ≡ true
 inside c = sym (c .before .lies-in-frame .ensures) ∙ c .if1 .taken
 
-lies-in-frame-requires : tie.Need-lies-in-frame-requires
-lies-in-frame-requires c κs = search needs
-
 field-requires : tie.Need-field-requires
 field-requires c κs = let t = lies-told _ _ _ (inside c) in (t .0, omega arith)
 
@@ -32,4 +29,4 @@ returns-2 c =
     (none .0, (none .1, pow-pos (a .most)))
 
 pub field-of-at-most-spec : {M : Type 1} → statement M
-field-of-at-most-spec = tie.close (tie.spec lies-in-frame-requires field-requires returns returns-2)
+field-of-at-most-spec = tie.close (tie.spec (λ c κs. search needs) field-requires returns returns-2)

@@ -32,30 +32,6 @@ returns-2 c =
     let a = c .before .before .before .before .before .before .args in
     lay-behind (l .next) (a .widths .now) (a .values .now) (l .at) (l .k) (omega arith) (omega arith) (omega arith) ∙ l .inv .1
 
-shared-slice-read-bits-in : tie.Need-shared-slice-read-bits-in Inv-loop μ-loop
-shared-slice-read-bits-in c = search needs
-
-bits-in-requires : tie.Need-bits-in-requires Inv-loop μ-loop
-bits-in-requires c κs = search needs
-
-mul-put-any : tie.Need-mul-put-any Inv-loop μ-loop
-mul-put-any c = search needs
-
-shared-slice-read-put-any : tie.Need-shared-slice-read-put-any Inv-loop μ-loop
-shared-slice-read-put-any c = search needs
-
-put-any-requires : tie.Need-put-any-requires Inv-loop μ-loop
-put-any-requires c κs = search needs
-
-add-at : tie.Need-add-at Inv-loop μ-loop
-add-at c = search needs
-
-add-k : tie.Need-add-k Inv-loop μ-loop
-add-k c = search needs
-
-loop-less : tie.Need-loop-less Inv-loop μ-loop
-loop-less c = search needs
-
 loop-again : tie.Need-loop-again Inv-loop μ-loop
 loop-again c =
     let l = c .before .before .before .before .before .before .before .loop in
@@ -76,20 +52,4 @@ returns-3 c =
 
 pub lay-spec : {M : Type 1} → statement M
 lay-spec =
-    tie.close
-    (tie.spec
-    Inv-loop
-    μ-loop
-    loop-holds
-    returns
-    returns-2
-    shared-slice-read-bits-in
-    bits-in-requires
-    mul-put-any
-    shared-slice-read-put-any
-    put-any-requires
-    add-at
-    add-k
-    loop-less
-    loop-again
-    returns-3)
+    tie.close (tie.spec Inv-loop μ-loop loop-holds returns returns-2 (λ c. search needs) (λ c κs. search needs) (λ c. search needs) (λ c. search needs) (λ c κs. search needs) (λ c. search needs) (λ c. search needs) (λ c. search needs) loop-again returns-3)

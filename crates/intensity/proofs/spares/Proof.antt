@@ -3,14 +3,8 @@ use borrow.Author.Needs.{needs}
 use Rattle.intensity.proofs.spares.Statement.{statement}
 use Rattle.intensity.proofs.spares.Tie as tie
 
-field64-requires : tie.Need-field64-requires
-field64-requires c κs = search needs
-
-field64-requires-2 : tie.Need-field64-requires-2
-field64-requires-2 c κs = search needs
-
 returns : tie.Need-returns
 returns c = simp (c .field642 .ensures .0, c .before .field64 .ensures .0)
 
 pub spares-spec : {M : Type 1} → statement M
-spares-spec = tie.close (tie.spec field64-requires field64-requires-2 returns)
+spares-spec = tie.close (tie.spec (λ c κs. search needs) (λ c κs. search needs) returns)

@@ -30,28 +30,10 @@ bytes c = each-bytes (c .args .t2) (c .good .1 .0 .0) (c .good .1 .0 .1 .1)
 loop-holds : tie.Need-loop-holds Inv-loop μ-loop
 loop-holds c = (omega arith, refl)
 
-mul-put : tie.Need-mul-put Inv-loop μ-loop
-mul-put c = omega arith
-
-add-put : tie.Need-add-put Inv-loop μ-loop
-add-put c = omega arith
-
-array-read-put : tie.Need-array-read-put Inv-loop μ-loop
-array-read-put c = omega arith
-
 cast-put : tie.Need-cast-put Inv-loop μ-loop
 cast-put c =
     let s = c .before .before in
     record { fits = lt-of-lt-of-le (bytes s (c .before .loop .k)) (lit≤ tt) }
-
-put-requires : tie.Need-put-requires Inv-loop μ-loop
-put-requires c κs = search needs
-
-add-k : tie.Need-add-k Inv-loop μ-loop
-add-k c = omega arith
-
-loop-less : tie.Need-loop-less Inv-loop μ-loop
-loop-less c = omega arith
 
 loop-again : tie.Need-loop-again Inv-loop μ-loop
 loop-again c =
@@ -77,17 +59,4 @@ returns c =
 
 pub lay-text-spec : {M : Type 1} → statement M
 lay-text-spec =
-    tie.close
-    (tie.spec
-    Inv-loop
-    μ-loop
-    loop-holds
-    mul-put
-    add-put
-    array-read-put
-    cast-put
-    put-requires
-    add-k
-    loop-less
-    loop-again
-    returns)
+    tie.close (tie.spec Inv-loop μ-loop loop-holds (λ c. omega arith) (λ c. omega arith) (λ c. omega arith) cast-put (λ c κs. search needs) (λ c. omega arith) (λ c. omega arith) loop-again returns)

@@ -25,24 +25,6 @@ abbrev μ-loop : tie.MeasureT-loop
 loop-holds : tie.Need-loop-holds Inv-loop μ-loop
 loop-holds c = (omega arith, (refl, refl))
 
-mul-field8 : tie.Need-mul-field8 Inv-loop μ-loop
-mul-field8 c = search needs
-
-add-field8 : tie.Need-add-field8 Inv-loop μ-loop
-add-field8 c = search needs
-
-field8-requires : tie.Need-field8-requires Inv-loop μ-loop
-field8-requires c κs = search needs
-
-array-write-text : tie.Need-array-write-text Inv-loop μ-loop
-array-write-text c = omega arith
-
-add-k : tie.Need-add-k Inv-loop μ-loop
-add-k c = omega arith
-
-loop-less : tie.Need-loop-less Inv-loop μ-loop
-loop-less c = omega arith
-
 loop-again : tie.Need-loop-again Inv-loop μ-loop
 loop-again c =
     let l = c .before .before .loop in
@@ -61,16 +43,4 @@ returns c =
 
 pub page-text-spec : {M : Type 1} → statement M
 page-text-spec =
-    tie.close
-    (tie.spec
-    Inv-loop
-    μ-loop
-    loop-holds
-    mul-field8
-    add-field8
-    field8-requires
-    array-write-text
-    add-k
-    loop-less
-    loop-again
-    returns)
+    tie.close (tie.spec Inv-loop μ-loop loop-holds (λ c. search needs) (λ c. search needs) (λ c κs. search needs) (λ c. omega arith) (λ c. omega arith) (λ c. omega arith) loop-again returns)

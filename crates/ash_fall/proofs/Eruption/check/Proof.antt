@@ -10,24 +10,6 @@ use Rattle.rows.specs.Runs.Verdict.{commonVerdict}
 use Rattle.slots.specs.Slots.{slotsValues}
 use Rattle.ash_fall.proofs.Eruption.check.Tie as tie
 
-is-two-or-seven-requires : tie.Need-is-two-or-seven-requires
-is-two-or-seven-requires c κs = search needs
-
-is-corrected-requires : tie.Need-is-corrected-requires
-is-corrected-requires c κs = search needs
-
-common-requires : tie.Need-common-requires
-common-requires c κs = search needs
-
-front-requires : tie.Need-front-requires
-front-requires c κs = search needs
-
-check-places-requires : tie.Need-check-places-requires
-check-places-requires c κs = search needs
-
-spare-requires : tie.Need-spare-requires
-spare-requires c κs = search needs
-
 returns : tie.Need-returns
 returns c =
     let p = c .before in
@@ -42,12 +24,4 @@ returns c =
 
 pub check-spec : {M : Type 1} → statement M
 check-spec =
-    tie.close
-    (tie.spec
-    is-two-or-seven-requires
-    is-corrected-requires
-    common-requires
-    front-requires
-    check-places-requires
-    spare-requires
-    returns)
+    tie.close (tie.spec (λ c κs. search needs) (λ c κs. search needs) (λ c κs. search needs) (λ c κs. search needs) (λ c κs. search needs) (λ c κs. search needs) returns)

@@ -3,28 +3,9 @@ use borrow.Author.Needs.{needs}
 use Rattle.ash_fall.proofs.Eruption.fields.Statement.{statement}
 use Rattle.ash_fall.proofs.Eruption.fields.Tie as tie
 
-cast-day : tie.Need-cast-day
-cast-day c = search needs
-
-cast-hour : tie.Need-cast-hour
-cast-hour c = search needs
-
-cast-minute : tie.Need-cast-minute
-cast-minute c = search needs
-
-cast-warning : tie.Need-cast-warning
-cast-warning c = search needs
-
-cast-volcano : tie.Need-cast-volcano
-cast-volcano c = search needs
-
-table-requires : tie.Need-table-requires
-table-requires c κs = search needs
-
 returns : tie.Need-returns
 returns c = simp (c .table .ensures)
 
 pub fields-spec : {M : Type 1} → statement M
 fields-spec =
-    tie.close
-    (tie.spec cast-day cast-hour cast-minute cast-warning cast-volcano table-requires returns)
+    tie.close (tie.spec (λ c. search needs) (λ c. search needs) (λ c. search needs) (λ c. search needs) (λ c. search needs) (λ c κs. search needs) returns)

@@ -6,24 +6,6 @@ use borrow.Author.Needs.{needs}
 use Rattle.ash_fall.proofs.Eruption.front.Statement.{statement}
 use Rattle.ash_fall.proofs.Eruption.front.Tie as tie
 
-spare-requires : tie.Need-spare-requires
-spare-requires c κs = search needs
-
-time-requires : tie.Need-time-requires
-time-requires c κs = search needs
-
-cast-within : tie.Need-cast-within
-cast-within c = search needs
-
-within-requires : tie.Need-within-requires
-within-requires c κs = search needs
-
-cast-within-2 : tie.Need-cast-within-2
-cast-within-2 c = search needs
-
-within-requires-2 : tie.Need-within-requires-2
-within-requires-2 c κs = search needs
-
 returns : tie.Need-returns
 unfolding walk judge
 returns c = simp (
@@ -38,5 +20,4 @@ returns c = simp (
 
 pub front-spec : {M : Type 1} → statement M
 front-spec =
-    tie.close
-    (tie.spec spare-requires time-requires cast-within within-requires cast-within-2 within-requires-2 returns)
+    tie.close (tie.spec (λ c κs. search needs) (λ c κs. search needs) (λ c. search needs) (λ c κs. search needs) (λ c. search needs) (λ c κs. search needs) returns)

@@ -22,29 +22,14 @@ sixteen c = c .good .1 .0 .1 .0 .1
 array-copy-out-fields : tie.Need-array-copy-out-fields
 array-copy-out-fields c = omega (arith, sixteen c)
 
-fields-requires : tie.Need-fields-requires
-fields-requires c κs = search needs
-
-then-requires : tie.Need-then-requires
-then-requires c κs = search needs
-
 array-copy-out-later : tie.Need-array-copy-out-later
 array-copy-out-later c = omega (arith, sixteen (c .before .before .before))
-
-later-requires : tie.Need-later-requires
-later-requires c κs = search needs
 
 array-copy-out-later-2 : tie.Need-array-copy-out-later-2
 array-copy-out-later-2 c = omega (arith, sixteen (c .before .before .before .before .before))
 
-later-requires-2 : tie.Need-later-requires-2
-later-requires-2 c κs = search needs
-
 array-copy-out-later-3 : tie.Need-array-copy-out-later-3
 array-copy-out-later-3 c = omega (arith, sixteen (c .before .before .before .before .before .before .before))
-
-later-requires-3 : tie.Need-later-requires-3
-later-requires-3 c κs = search needs
 
 returns : tie.Need-returns
 returns c =
@@ -67,15 +52,4 @@ returns c =
 
 pub check-places-spec : {M : Type 1} → statement M
 check-places-spec =
-    tie.close
-    (tie.spec
-    array-copy-out-fields
-    fields-requires
-    then-requires
-    array-copy-out-later
-    later-requires
-    array-copy-out-later-2
-    later-requires-2
-    array-copy-out-later-3
-    later-requires-3
-    returns)
+    tie.close (tie.spec array-copy-out-fields (λ c κs. search needs) (λ c κs. search needs) array-copy-out-later (λ c κs. search needs) array-copy-out-later-2 (λ c κs. search needs) array-copy-out-later-3 (λ c κs. search needs) returns)

@@ -8,21 +8,6 @@ use native.Mathlib.Omega.{arith}
 use Rattle.bits.proofs.Inside.{field-in}
 use Rattle.ash_fall.proofs.places.place_at.Tie as tie
 
-field8-requires : tie.Need-field8-requires
-field8-requires c κs = search needs
-
-add-field8 : tie.Need-add-field8
-add-field8 c = search needs
-
-field8-requires-2 : tie.Need-field8-requires-2
-field8-requires-2 c κs = search needs
-
-add-field64 : tie.Need-add-field64
-add-field64 c = search needs
-
-field64-requires : tie.Need-field64-requires
-field64-requires c κs = search needs
-
 returns : tie.Need-returns
 returns c =
     let a = c .before .before .before .args in
@@ -35,5 +20,4 @@ returns c =
 
 pub place-at-spec : {M : Type 1} → statement M
 place-at-spec =
-    tie.close
-    (tie.spec field8-requires add-field8 field8-requires-2 add-field64 field64-requires returns)
+    tie.close (tie.spec (λ c κs. search needs) (λ c. search needs) (λ c κs. search needs) (λ c. search needs) (λ c κs. search needs) returns)

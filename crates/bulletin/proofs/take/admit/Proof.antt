@@ -5,20 +5,11 @@ use mathlib.Core.Path.{_∙_, sym}
 use Rattle.bulletin.proofs.Taking.TakingOutcomes.{no-page, of-another, of-bulletin}
 use Rattle.bulletin.proofs.take.admit.Tie as tie
 
-page-requires : tie.Need-page-requires
-page-requires c κs = search needs
-
-enum-known-page : tie.Need-enum-known-page
-enum-known-page c = search needs
-
 enum-told : tie.Need-enum-told
 enum-told c = search needs
 
 returns : tie.Need-returns
 returns c = no-page _ _ _ _ (c .before .before .page .ensures) (c .enum-told .given .1)
-
-is-requires : tie.Need-is-requires
-is-requires c κs = search needs
 
 returns-2 : tie.Need-returns-2
 returns-2 c =
@@ -34,5 +25,4 @@ returns-3 c =
 
 pub admit-spec : {M : Type 1} → statement M
 admit-spec =
-    tie.close
-    (tie.spec page-requires enum-known-page enum-told returns is-requires returns-2 returns-3)
+    tie.close (tie.spec (λ c κs. search needs) (λ c. search needs) enum-told returns (λ c κs. search needs) returns-2 returns-3)

@@ -10,21 +10,6 @@ use Rattle.rows.specs.Runs.Verdict.{commonVerdict}
 use Rattle.hypocenter.specs.Hypocenter.{hypocenter, quakeValues}
 use Rattle.hypocenter.proofs.Quake.check.Tie as tie
 
-is-two-or-seven-requires : tie.Need-is-two-or-seven-requires
-is-two-or-seven-requires c κs = search needs
-
-is-uncorrected-requires : tie.Need-is-uncorrected-requires
-is-uncorrected-requires c κs = search needs
-
-common-requires : tie.Need-common-requires
-common-requires c κs = search needs
-
-front-requires : tie.Need-front-requires
-front-requires c κs = search needs
-
-spare-requires : tie.Need-spare-requires
-spare-requires c κs = search needs
-
 returns : tie.Need-returns
 returns c =
     let f = c .before in
@@ -38,11 +23,4 @@ returns c =
 
 pub check-spec : {M : Type 1} → statement M
 check-spec =
-    tie.close
-    (tie.spec
-    is-two-or-seven-requires
-    is-uncorrected-requires
-    common-requires
-    front-requires
-    spare-requires
-    returns)
+    tie.close (tie.spec (λ c κs. search needs) (λ c κs. search needs) (λ c κs. search needs) (λ c κs. search needs) (λ c κs. search needs) returns)

@@ -8,54 +8,6 @@ use borrow.Author.Needs.{needs}
 use Rattle.hypocenter.proofs.Quake.front.Statement.{statement}
 use Rattle.hypocenter.proofs.Quake.front.Tie as tie
 
-spare-requires : tie.Need-spare-requires
-spare-requires c κs = search needs
-
-is-notification-requires : tie.Need-is-notification-requires
-is-notification-requires c κs = search needs
-
-ranged-requires : tie.Need-ranged-requires
-ranged-requires c κs = search needs
-
-is-notification-requires-2 : tie.Need-is-notification-requires-2
-is-notification-requires-2 c κs = search needs
-
-ranged-requires-2 : tie.Need-ranged-requires-2
-ranged-requires-2 c κs = search needs
-
-is-notification-requires-3 : tie.Need-is-notification-requires-3
-is-notification-requires-3 c κs = search needs
-
-ranged-requires-3 : tie.Need-ranged-requires-3
-ranged-requires-3 c κs = search needs
-
-time-requires : tie.Need-time-requires
-time-requires c κs = search needs
-
-is-depth-requires : tie.Need-is-depth-requires
-is-depth-requires c κs = search needs
-
-ranged-requires-4 : tie.Need-ranged-requires-4
-ranged-requires-4 c κs = search needs
-
-is-magnitude-requires : tie.Need-is-magnitude-requires
-is-magnitude-requires c κs = search needs
-
-ranged-requires-5 : tie.Need-ranged-requires-5
-ranged-requires-5 c κs = search needs
-
-cast-within : tie.Need-cast-within
-cast-within c = search needs
-
-within-requires : tie.Need-within-requires
-within-requires c κs = search needs
-
-check-requires : tie.Need-check-requires
-check-requires c κs = search needs
-
-check-requires-2 : tie.Need-check-requires-2
-check-requires-2 c κs = search needs
-
 returns : tie.Need-returns
 returns c =
     let s = c .before .before .before .before .before .before .before .before .before .before .before .before .before .before .before .before .before .before .before in
@@ -73,22 +25,4 @@ returns c =
 
 pub front-spec : {M : Type 1} → statement M
 front-spec =
-    tie.close
-    (tie.spec
-    spare-requires
-    is-notification-requires
-    ranged-requires
-    is-notification-requires-2
-    ranged-requires-2
-    is-notification-requires-3
-    ranged-requires-3
-    time-requires
-    is-depth-requires
-    ranged-requires-4
-    is-magnitude-requires
-    ranged-requires-5
-    cast-within
-    within-requires
-    check-requires
-    check-requires-2
-    returns)
+    tie.close (tie.spec (λ c κs. search needs) (λ c κs. search needs) (λ c κs. search needs) (λ c κs. search needs) (λ c κs. search needs) (λ c κs. search needs) (λ c κs. search needs) (λ c κs. search needs) (λ c κs. search needs) (λ c κs. search needs) (λ c κs. search needs) (λ c κs. search needs) (λ c. search needs) (λ c κs. search needs) (λ c κs. search needs) (λ c κs. search needs) returns)

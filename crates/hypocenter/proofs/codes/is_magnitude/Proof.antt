@@ -5,20 +5,8 @@ use mathlib.Core.Path.{sym, ap, _∙_}
 use Rattle.hypocenter.proofs.codes.is_magnitude.Statement.{statement}
 use Rattle.hypocenter.proofs.codes.is_magnitude.Tie as tie
 
-of-requires : tie.Need-of-requires
-of-requires c κs = search needs
-
 enum-told : tie.Need-enum-told
 enum-told c = search needs
-
-enum-told-2 : tie.Need-enum-told-2
-enum-told-2 c = search needs
-
-enum-told-3 : tie.Need-enum-told-3
-enum-told-3 c = search needs
-
-enum-told-4 : tie.Need-enum-told-4
-enum-told-4 c = search needs
 
 returns : tie.Need-returns
 returns c = ap saysMagnitude (sym (c .enum-told .given .1) ∙ c .before .before .of .ensures) ∙ magnitude-known _
@@ -34,14 +22,4 @@ returns-4 c = ap saysMagnitude (sym (c .enum-told4 .given .1) ∙ c .before .bef
 
 pub is-magnitude-spec : {M : Type 1} → statement M
 is-magnitude-spec =
-    tie.close
-    (tie.spec
-    of-requires
-    enum-told
-    enum-told-2
-    enum-told-3
-    enum-told-4
-    returns
-    returns-2
-    returns-3
-    returns-4)
+    tie.close (tie.spec (λ c κs. search needs) enum-told (λ c. search needs) (λ c. search needs) (λ c. search needs) returns returns-2 returns-3 returns-4)

@@ -13,18 +13,6 @@ returns c = simp (ne-eqb _ 241 (c .if1 .taken))
 enum-told : tie.Need-enum-told
 enum-told c = search needs
 
-pack-requires : tie.Need-pack-requires
-pack-requires c κs = search needs
-
-enum-known-answer : tie.Need-enum-known-answer
-enum-known-answer c = search needs
-
-refusal-word-requires : tie.Need-refusal-word-requires
-refusal-word-requires c κs = search needs
-
-same-length : tie.Need-same-length
-same-length c = search needs
-
 returns-2 : tie.Need-returns-2
 returns-2 c =
     let pack = c .before .before in
@@ -38,13 +26,4 @@ returns-3 c =
 
 pub hand-over-spec : {M : Type 1} → statement M
 hand-over-spec =
-    tie.close
-    (tie.spec
-    returns
-    enum-told
-    pack-requires
-    enum-known-answer
-    refusal-word-requires
-    same-length
-    returns-2
-    returns-3)
+    tie.close (tie.spec returns enum-told (λ c κs. search needs) (λ c. search needs) (λ c κs. search needs) (λ c. search needs) returns-2 returns-3)

@@ -9,15 +9,9 @@ returns : tie.Need-returns
 unfolding parityAnswer
 returns c = simp (ne-eqb _ 32 (c .if1 .taken))
 
-frame-of-requires : tie.Need-frame-of-requires
-frame-of-requires c κs = search needs
-
-parity-requires : tie.Need-parity-requires
-parity-requires c κs = search needs
-
 returns-2 : tie.Need-returns-2
 unfolding parityAnswer
 returns-2 c = simp (eq-eqb _ 32 (c .before .before .if1 .left), c .parity .ensures, c .before .frame-of .ensures)
 
 pub lz-parity-spec : {M : Type 1} → statement M
-lz-parity-spec = tie.close (tie.spec returns frame-of-requires parity-requires returns-2)
+lz-parity-spec = tie.close (tie.spec returns (λ c κs. search needs) (λ c κs. search needs) returns-2)

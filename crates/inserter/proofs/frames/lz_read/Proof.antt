@@ -6,15 +6,6 @@ use borrow.Author.Needs.{needs}
 use Rattle.inserter.proofs.frames.lz_read.Statement.{statement}
 use Rattle.inserter.proofs.frames.lz_read.Tie as tie
 
-read-requires : tie.Need-read-requires
-read-requires c κs = search needs
-
-hand-over-requires : tie.Need-hand-over-requires
-hand-over-requires c κs = search needs
-
-same-length : tie.Need-same-length
-same-length c = search needs
-
 returns : tie.Need-returns
 returns c =
     let hand = c .before .before in
@@ -22,4 +13,4 @@ returns c =
     hand .hand-over .ensures ∙ ap (λ (r : Reading). readingInto r buffer) (hand .before .before .read .ensures)
 
 pub lz-read-spec : {M : Type 1} → statement M
-lz-read-spec = tie.close (tie.spec read-requires hand-over-requires same-length returns)
+lz-read-spec = tie.close (tie.spec (λ c κs. search needs) (λ c κs. search needs) (λ c. search needs) returns)

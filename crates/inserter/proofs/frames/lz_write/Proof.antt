@@ -10,18 +10,6 @@ returns : tie.Need-returns
 unfolding writeInto
 returns c = simp (ne-eqb _ 241 (c .if1 .taken))
 
-unpack-requires : tie.Need-unpack-requires
-unpack-requires c κs = search needs
-
-write-requires : tie.Need-write-requires
-write-requires c κs = search needs
-
-verdict-word-requires : tie.Need-verdict-word-requires
-verdict-word-requires c κs = search needs
-
-same-length : tie.Need-same-length
-same-length c = search needs
-
 returns-2 : tie.Need-returns-2
 returns-2 c =
     let write = c .before .before .before in
@@ -31,11 +19,4 @@ returns-2 c =
 
 pub lz-write-spec : {M : Type 1} → statement M
 lz-write-spec =
-    tie.close
-    (tie.spec
-    returns
-    unpack-requires
-    write-requires
-    verdict-word-requires
-    same-length
-    returns-2)
+    tie.close (tie.spec returns (λ c κs. search needs) (λ c κs. search needs) (λ c κs. search needs) (λ c. search needs) returns-2)

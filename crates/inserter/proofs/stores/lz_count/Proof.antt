@@ -16,26 +16,11 @@ returns-2 : tie.Need-returns-2
 unfolding countInto
 returns-2 c = simp (eq-eqb _ 1205 (c .before .if1 .left), ne-eqb _ 3 (c .if2 .taken))
 
-unpack-store-requires : tie.Need-unpack-store-requires
-unpack-store-requires c κs = search needs
-
-count-requires : tie.Need-count-requires
-count-requires c κs = search needs
-
-slice-write-counts : tie.Need-slice-write-counts
-slice-write-counts c = search needs
-
 slice-write-counts-2 : tie.Need-slice-write-counts-2
 slice-write-counts-2 c = simp length-set (omega arith)
 
 slice-write-counts-3 : tie.Need-slice-write-counts-3
 slice-write-counts-3 c = simp length-set (omega arith)
-
-verdict-word-requires : tie.Need-verdict-word-requires
-verdict-word-requires c κs = search needs
-
-same-length : tie.Need-same-length
-same-length c = search needs
 
 returns-3 : tie.Need-returns-3
 returns-3 c =
@@ -48,15 +33,4 @@ returns-3 c =
 
 pub lz-count-spec : {M : Type 1} → statement M
 lz-count-spec =
-    tie.close
-    (tie.spec
-    returns
-    returns-2
-    unpack-store-requires
-    count-requires
-    slice-write-counts
-    slice-write-counts-2
-    slice-write-counts-3
-    verdict-word-requires
-    same-length
-    returns-3)
+    tie.close (tie.spec returns returns-2 (λ c κs. search needs) (λ c κs. search needs) (λ c. search needs) slice-write-counts-2 slice-write-counts-3 (λ c κs. search needs) (λ c. search needs) returns-3)

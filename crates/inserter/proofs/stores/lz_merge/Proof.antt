@@ -14,24 +14,6 @@ returns-2 : tie.Need-returns-2
 unfolding mergeInto
 returns-2 c = simp (eq-eqb _ 1205 (c .before .if1 .left), ne-eqb _ 1205 (c .if2 .taken))
 
-unpack-store-requires : tie.Need-unpack-store-requires
-unpack-store-requires c κs = search needs
-
-unpack-store-requires-2 : tie.Need-unpack-store-requires-2
-unpack-store-requires-2 c κs = search needs
-
-merge-requires : tie.Need-merge-requires
-merge-requires c κs = search needs
-
-pack-store-requires : tie.Need-pack-store-requires
-pack-store-requires c κs = search needs
-
-verdict-word-requires : tie.Need-verdict-word-requires
-verdict-word-requires c κs = search needs
-
-same-length : tie.Need-same-length
-same-length c = search needs
-
 returns-3 : tie.Need-returns-3
 returns-3 c =
     let pack = c .before .before .before in
@@ -43,14 +25,4 @@ returns-3 c =
 
 pub lz-merge-spec : {M : Type 1} → statement M
 lz-merge-spec =
-    tie.close
-    (tie.spec
-    returns
-    returns-2
-    unpack-store-requires
-    unpack-store-requires-2
-    merge-requires
-    pack-store-requires
-    verdict-word-requires
-    same-length
-    returns-3)
+    tie.close (tie.spec returns returns-2 (λ c κs. search needs) (λ c κs. search needs) (λ c κs. search needs) (λ c κs. search needs) (λ c κs. search needs) (λ c. search needs) returns-3)

@@ -14,21 +14,6 @@ returns-2 : tie.Need-returns-2
 unfolding openInto
 returns-2 c = simp (eq-eqb _ 8 (c .before .if1 .left), ne-eqb _ 1205 (c .if2 .taken))
 
-unpack-name-requires : tie.Need-unpack-name-requires
-unpack-name-requires c κs = search needs
-
-open-requires : tie.Need-open-requires
-open-requires c κs = search needs
-
-pack-store-requires : tie.Need-pack-store-requires
-pack-store-requires c κs = search needs
-
-verdict-word-requires : tie.Need-verdict-word-requires
-verdict-word-requires c κs = search needs
-
-same-length : tie.Need-same-length
-same-length c = search needs
-
 returns-3 : tie.Need-returns-3
 returns-3 c =
     let pack = c .before .before .before in
@@ -38,13 +23,4 @@ returns-3 c =
 
 pub lz-open-spec : {M : Type 1} → statement M
 lz-open-spec =
-    tie.close
-    (tie.spec
-    returns
-    returns-2
-    unpack-name-requires
-    open-requires
-    pack-store-requires
-    verdict-word-requires
-    same-length
-    returns-3)
+    tie.close (tie.spec returns returns-2 (λ c κs. search needs) (λ c κs. search needs) (λ c κs. search needs) (λ c κs. search needs) (λ c. search needs) returns-3)

@@ -14,24 +14,6 @@ returns-2 : tie.Need-returns-2
 unfolding takeInto
 returns-2 c = simp (eq-eqb _ 1205 (c .before .if1 .left), ne-eqb _ 241 (c .if2 .taken))
 
-unpack-store-requires : tie.Need-unpack-store-requires
-unpack-store-requires c κs = search needs
-
-unpack-requires : tie.Need-unpack-requires
-unpack-requires c κs = search needs
-
-take-requires : tie.Need-take-requires
-take-requires c κs = search needs
-
-pack-store-requires : tie.Need-pack-store-requires
-pack-store-requires c κs = search needs
-
-taken-word-requires : tie.Need-taken-word-requires
-taken-word-requires c κs = search needs
-
-same-length : tie.Need-same-length
-same-length c = search needs
-
 returns-3 : tie.Need-returns-3
 returns-3 c =
     let pack = c .before .before .before in
@@ -43,14 +25,4 @@ returns-3 c =
 
 pub lz-take-spec : {M : Type 1} → statement M
 lz-take-spec =
-    tie.close
-    (tie.spec
-    returns
-    returns-2
-    unpack-store-requires
-    unpack-requires
-    take-requires
-    pack-store-requires
-    taken-word-requires
-    same-length
-    returns-3)
+    tie.close (tie.spec returns returns-2 (λ c κs. search needs) (λ c κs. search needs) (λ c κs. search needs) (λ c κs. search needs) (λ c κs. search needs) (λ c. search needs) returns-3)

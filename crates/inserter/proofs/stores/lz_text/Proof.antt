@@ -14,12 +14,6 @@ returns : tie.Need-returns
 unfolding textInto
 returns c = simp (ne-eqb _ 1205 (c .if1 .taken))
 
-unpack-store-requires : tie.Need-unpack-store-requires
-unpack-store-requires c κs = search needs
-
-text-requires : tie.Need-text-requires
-text-requires c κs = search needs
-
 enum-told : tie.Need-enum-told
 enum-told c = search needs
 
@@ -29,15 +23,6 @@ cast-result c =
     let small : text .text .result .length ≤ 1134 = rw (text .text .ensures .0) (text-is-small _ _) in
     omega arith
 
-enum-known-answer : tie.Need-enum-known-answer
-enum-known-answer c = search needs
-
-refusal-word-requires : tie.Need-refusal-word-requires
-refusal-word-requires c κs = search needs
-
-same-length : tie.Need-same-length
-same-length c = search needs
-
 returns-2 : tie.Need-returns-2
 returns-2 c =
     let told = c .before in
@@ -45,9 +30,6 @@ returns-2 c =
     let store = text .before .before in
     text-left _ _ _ _ _ _ (store .before .if1 .left) (store .unpack-store .ensures) (text .text .ensures .0) (text .text .ensures .1)
     (sym (ap (λ (v : Verdict). lengthOrRefusal v (text .text .result .length)) (told .enum-told .given .1)))
-
-same-length-2 : tie.Need-same-length-2
-same-length-2 c = search needs
 
 returns-3 : tie.Need-returns-3
 returns-3 c =
@@ -59,16 +41,4 @@ returns-3 c =
 
 pub lz-text-spec : {M : Type 1} → statement M
 lz-text-spec =
-    tie.close
-    (tie.spec
-    returns
-    unpack-store-requires
-    text-requires
-    enum-told
-    cast-result
-    enum-known-answer
-    refusal-word-requires
-    same-length
-    returns-2
-    same-length-2
-    returns-3)
+    tie.close (tie.spec returns (λ c κs. search needs) (λ c κs. search needs) enum-told cast-result (λ c. search needs) (λ c κs. search needs) (λ c. search needs) returns-2 (λ c. search needs) returns-3)

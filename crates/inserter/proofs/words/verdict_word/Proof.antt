@@ -6,12 +6,6 @@ use Rattle.inserter.proofs.words.verdict_word.Tie as tie
 enum-told : tie.Need-enum-told
 enum-told c = search needs
 
-enum-known-verdict : tie.Need-enum-known-verdict
-enum-known-verdict c = search needs
-
-refusal-word-requires : tie.Need-refusal-word-requires
-refusal-word-requires c κs = search needs
-
 returns : tie.Need-returns
 returns c = simp (c .enum-told .given .1)
 
@@ -20,4 +14,4 @@ returns-2 c = simp (c .before .before .verdict .given .1, c .refusal-word .ensur
 
 pub verdict-word-spec : {M : Type 1} → statement M
 verdict-word-spec =
-    tie.close (tie.spec enum-told enum-known-verdict refusal-word-requires returns returns-2)
+    tie.close (tie.spec enum-told (λ c. search needs) (λ c κs. search needs) returns returns-2)

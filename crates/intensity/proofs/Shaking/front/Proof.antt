@@ -6,15 +6,9 @@ use borrow.Author.Needs.{needs}
 use Rattle.intensity.proofs.Shaking.front.Statement.{statement}
 use Rattle.intensity.proofs.Shaking.front.Tie as tie
 
-spare-requires : tie.Need-spare-requires
-spare-requires c κs = search needs
-
-time-requires : tie.Need-time-requires
-time-requires c κs = search needs
-
 returns : tie.Need-returns
 unfolding walk judge
 returns c = simp (c .time2 .ensures, c .before .spare .ensures, then-assoc, then-fine, allowed-one)
 
 pub front-spec : {M : Type 1} → statement M
-front-spec = tie.close (tie.spec spare-requires time-requires returns)
+front-spec = tie.close (tie.spec (λ c κs. search needs) (λ c κs. search needs) returns)

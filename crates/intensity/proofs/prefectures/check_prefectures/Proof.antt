@@ -23,101 +23,50 @@ sixteen c = c .good .1 .0 .1 .0 .1
 array-copy-out-fields : tie.Need-array-copy-out-fields
 array-copy-out-fields c = omega (arith, sixteen c)
 
-fields-requires : tie.Need-fields-requires
-fields-requires c κs = search needs
-
-then-requires : tie.Need-then-requires
-then-requires c κs = search needs
-
 array-copy-out-later : tie.Need-array-copy-out-later
 array-copy-out-later c = omega (arith, sixteen (c .before .before .before))
-
-later-requires : tie.Need-later-requires
-later-requires c κs = search needs
 
 array-copy-out-later-2 : tie.Need-array-copy-out-later-2
 array-copy-out-later-2 c = omega (arith, sixteen (c .before .before .before .before .before))
 
-later-requires-2 : tie.Need-later-requires-2
-later-requires-2 c κs = search needs
-
 array-copy-out-later-3 : tie.Need-array-copy-out-later-3
 array-copy-out-later-3 c = omega (arith, sixteen (c .before .before .before .before .before .before .before))
-
-later-requires-3 : tie.Need-later-requires-3
-later-requires-3 c κs = search needs
 
 array-copy-out-later-4 : tie.Need-array-copy-out-later-4
 array-copy-out-later-4 c = omega (arith, sixteen (c .before .before .before .before .before .before .before .before .before))
 
-later-requires-4 : tie.Need-later-requires-4
-later-requires-4 c κs = search needs
-
 array-copy-out-later-5 : tie.Need-array-copy-out-later-5
 array-copy-out-later-5 c = omega (arith, sixteen (c .before .before .before .before .before .before .before .before .before .before .before))
-
-later-requires-5 : tie.Need-later-requires-5
-later-requires-5 c κs = search needs
 
 array-copy-out-later-6 : tie.Need-array-copy-out-later-6
 array-copy-out-later-6 c = omega (arith, sixteen (c .before .before .before .before .before .before .before .before .before .before .before .before .before))
 
-later-requires-6 : tie.Need-later-requires-6
-later-requires-6 c κs = search needs
-
 array-copy-out-later-7 : tie.Need-array-copy-out-later-7
 array-copy-out-later-7 c = omega (arith, sixteen (c .before .before .before .before .before .before .before .before .before .before .before .before .before .before .before))
-
-later-requires-7 : tie.Need-later-requires-7
-later-requires-7 c κs = search needs
 
 array-copy-out-later-8 : tie.Need-array-copy-out-later-8
 array-copy-out-later-8 c = omega (arith, sixteen (c .before .before .before .before .before .before .before .before .before .before .before .before .before .before .before .before .before))
 
-later-requires-8 : tie.Need-later-requires-8
-later-requires-8 c κs = search needs
-
 array-copy-out-later-9 : tie.Need-array-copy-out-later-9
 array-copy-out-later-9 c = omega (arith, sixteen (c .before .before .before .before .before .before .before .before .before .before .before .before .before .before .before .before .before .before .before))
-
-later-requires-9 : tie.Need-later-requires-9
-later-requires-9 c κs = search needs
 
 array-copy-out-later-10 : tie.Need-array-copy-out-later-10
 array-copy-out-later-10 c = omega (arith, sixteen (c .before .before .before .before .before .before .before .before .before .before .before .before .before .before .before .before .before .before .before .before .before))
 
-later-requires-10 : tie.Need-later-requires-10
-later-requires-10 c κs = search needs
-
 array-copy-out-later-11 : tie.Need-array-copy-out-later-11
 array-copy-out-later-11 c = omega (arith, sixteen (c .before .before .before .before .before .before .before .before .before .before .before .before .before .before .before .before .before .before .before .before .before .before .before))
-
-later-requires-11 : tie.Need-later-requires-11
-later-requires-11 c κs = search needs
 
 array-copy-out-later-12 : tie.Need-array-copy-out-later-12
 array-copy-out-later-12 c = omega (arith, sixteen (c .before .before .before .before .before .before .before .before .before .before .before .before .before .before .before .before .before .before .before .before .before .before .before .before .before))
 
-later-requires-12 : tie.Need-later-requires-12
-later-requires-12 c κs = search needs
-
 array-copy-out-later-13 : tie.Need-array-copy-out-later-13
 array-copy-out-later-13 c = omega (arith, sixteen (c .before .before .before .before .before .before .before .before .before .before .before .before .before .before .before .before .before .before .before .before .before .before .before .before .before .before .before))
-
-later-requires-13 : tie.Need-later-requires-13
-later-requires-13 c κs = search needs
 
 array-copy-out-later-14 : tie.Need-array-copy-out-later-14
 array-copy-out-later-14 c = omega (arith, sixteen (c .before .before .before .before .before .before .before .before .before .before .before .before .before .before .before .before .before .before .before .before .before .before .before .before .before .before .before .before .before))
 
-later-requires-14 : tie.Need-later-requires-14
-later-requires-14 c κs = search needs
-
 array-copy-out-later-15 : tie.Need-array-copy-out-later-15
 array-copy-out-later-15 c = omega (arith, sixteen (c .before .before .before .before .before .before .before .before .before .before .before .before .before .before .before .before .before .before .before .before .before .before .before .before .before .before .before .before .before .before .before))
-
-later-requires-15 : tie.Need-later-requires-15
-later-requires-15 c κs = search needs
 
 returns : tie.Need-returns
 returns c =
@@ -151,39 +100,4 @@ returns c =
 
 pub check-prefectures-spec : {M : Type 1} → statement M
 check-prefectures-spec =
-    tie.close
-    (tie.spec
-    array-copy-out-fields
-    fields-requires
-    then-requires
-    array-copy-out-later
-    later-requires
-    array-copy-out-later-2
-    later-requires-2
-    array-copy-out-later-3
-    later-requires-3
-    array-copy-out-later-4
-    later-requires-4
-    array-copy-out-later-5
-    later-requires-5
-    array-copy-out-later-6
-    later-requires-6
-    array-copy-out-later-7
-    later-requires-7
-    array-copy-out-later-8
-    later-requires-8
-    array-copy-out-later-9
-    later-requires-9
-    array-copy-out-later-10
-    later-requires-10
-    array-copy-out-later-11
-    later-requires-11
-    array-copy-out-later-12
-    later-requires-12
-    array-copy-out-later-13
-    later-requires-13
-    array-copy-out-later-14
-    later-requires-14
-    array-copy-out-later-15
-    later-requires-15
-    returns)
+    tie.close (tie.spec array-copy-out-fields (λ c κs. search needs) (λ c κs. search needs) array-copy-out-later (λ c κs. search needs) array-copy-out-later-2 (λ c κs. search needs) array-copy-out-later-3 (λ c κs. search needs) array-copy-out-later-4 (λ c κs. search needs) array-copy-out-later-5 (λ c κs. search needs) array-copy-out-later-6 (λ c κs. search needs) array-copy-out-later-7 (λ c κs. search needs) array-copy-out-later-8 (λ c κs. search needs) array-copy-out-later-9 (λ c κs. search needs) array-copy-out-later-10 (λ c κs. search needs) array-copy-out-later-11 (λ c κs. search needs) array-copy-out-later-12 (λ c κs. search needs) array-copy-out-later-13 (λ c κs. search needs) array-copy-out-later-14 (λ c κs. search needs) array-copy-out-later-15 (λ c κs. search needs) returns)

@@ -7,21 +7,9 @@ use Rattle.rows.proofs.Rules.Outcomes.{fine-then, then-assoc, then-fine}
 use Rattle.rows.specs.Runs.Verdict.{judge, walk}
 use Rattle.intensity.proofs.prefectures.fields.Tie as tie
 
-cast-within : tie.Need-cast-within
-cast-within c = search needs
-
-within-requires : tie.Need-within-requires
-within-requires c κs = search needs
-
-add-within : tie.Need-add-within
-add-within c = search needs
-
-within-requires-2 : tie.Need-within-requires-2
-within-requires-2 c κs = search needs
-
 returns : tie.Need-returns
 unfolding walk judge
 returns c = simp (c .within2 .ensures, c .before .within .ensures, then-assoc, then-fine, fine-then, allowed-one, add-zero)
 
 pub fields-spec : {M : Type 1} → statement M
-fields-spec = tie.close (tie.spec cast-within within-requires add-within within-requires-2 returns)
+fields-spec = tie.close (tie.spec (λ c. search needs) (λ c κs. search needs) (λ c. search needs) (λ c κs. search needs) returns)

@@ -8,15 +8,6 @@ use native.Mathlib.Omega.{arith}
 use Rattle.bits.proofs.Inside.{field-in}
 use Rattle.intensity.proofs.prefectures.prefecture_at.Tie as tie
 
-field8-requires : tie.Need-field8-requires
-field8-requires c κs = search needs
-
-add-field64 : tie.Need-add-field64
-add-field64 c = search needs
-
-field64-requires : tie.Need-field64-requires
-field64-requires c κs = search needs
-
 returns : tie.Need-returns
 returns c =
     let a = c .before .before .args in
@@ -27,4 +18,4 @@ returns c =
     )
 
 pub prefecture-at-spec : {M : Type 1} → statement M
-prefecture-at-spec = tie.close (tie.spec field8-requires add-field64 field64-requires returns)
+prefecture-at-spec = tie.close (tie.spec (λ c κs. search needs) (λ c. search needs) (λ c κs. search needs) returns)

@@ -20,31 +20,10 @@ abbrev μ-loop : tie.MeasureT-loop
 loop-holds : tie.Need-loop-holds Inv-loop μ-loop
 loop-holds c = (omega arith, refl, nothing _ _)
 
-same-length : tie.Need-same-length Inv-loop μ-loop
-same-length c = search needs
-
 returns : tie.Need-returns Inv-loop μ-loop
 returns c =
     let l = c .before .before in
     past-end _ (l .loop .k) (omega arith) (l .loop .inv .2)
-
-sub-byte-of : tie.Need-sub-byte-of Inv-loop μ-loop
-sub-byte-of c = search needs
-
-sub-byte-of-2 : tie.Need-sub-byte-of-2 Inv-loop μ-loop
-sub-byte-of-2 c = search needs
-
-byte-of-requires : tie.Need-byte-of-requires Inv-loop μ-loop
-byte-of-requires c κs = search needs
-
-put-byte-requires : tie.Need-put-byte-requires Inv-loop μ-loop
-put-byte-requires c κs = search needs
-
-add-k : tie.Need-add-k Inv-loop μ-loop
-add-k c = search needs
-
-loop-less : tie.Need-loop-less Inv-loop μ-loop
-loop-less c = search needs
 
 loop-again : tie.Need-loop-again Inv-loop μ-loop
 loop-again c =
@@ -57,9 +36,6 @@ loop-again c =
       one-more (wide (a .count) (a .value)) (l .loop .k) (omega (arith, length-wide (a .count) (a .value))) (b .byte-of .ensures ∙ sym (byte-of-wide (a .count) (a .value) (l .loop .k) (omega arith))) (l .loop .inv .2) (p .put-byte .ensures),
     )
 
-same-length-2 : tie.Need-same-length-2 Inv-loop μ-loop
-same-length-2 c = search needs
-
 returns-2 : tie.Need-returns-2 Inv-loop μ-loop
 returns-2 c =
     let l = c .before in
@@ -68,19 +44,4 @@ returns-2 c =
 
 pub put-wide-spec : {M : Type 1} → statement M
 put-wide-spec =
-    tie.close
-    (tie.spec
-    Inv-loop
-    μ-loop
-    loop-holds
-    same-length
-    returns
-    sub-byte-of
-    sub-byte-of-2
-    byte-of-requires
-    put-byte-requires
-    add-k
-    loop-less
-    loop-again
-    same-length-2
-    returns-2)
+    tie.close (tie.spec Inv-loop μ-loop loop-holds (λ c. search needs) returns (λ c. search needs) (λ c. search needs) (λ c κs. search needs) (λ c κs. search needs) (λ c. search needs) (λ c. search needs) loop-again (λ c. search needs) returns-2)

@@ -33,21 +33,9 @@ bytes c k = omega (arith, c .before .before .shared-slice-known .given k)
 stopped : (c : tie.At-loop Inv-loop μ-loop) (j : ℕ) → j < 63 → allDigits (drop j (text c)) ≡ allDigits (text c) → 15 < markAt (text c) j → noLine ≡ framing (text c)
 stopped c j h e g = wrong-digit (text c) (size c) (sym e ∙ digit-stop (text c) j (omega (arith, size c)) (no-digit (getD (text c) j 0) (bytes c j) g))
 
-no-line-requires : tie.Need-no-line-requires Inv-loop μ-loop
-no-line-requires c κs = search needs
-
 returns : tie.Need-returns Inv-loop μ-loop
 returns c =
     c .no-line .ensures ∙ wrong-length _ (c .before .if1 .taken)
-
-loop-holds : tie.Need-loop-holds Inv-loop μ-loop
-loop-holds c = search needs
-
-mul-high : tie.Need-mul-high Inv-loop μ-loop
-mul-high c = search needs
-
-shared-slice-read-high : tie.Need-shared-slice-read-high Inv-loop μ-loop
-shared-slice-read-high c = search needs
 
 cast-high : tie.Need-cast-high Inv-loop μ-loop
 cast-high c =
@@ -57,15 +45,6 @@ array-read-high : tie.Need-array-read-high Inv-loop μ-loop
 array-read-high c =
     omega (arith, c .shared-slice-known2 .given (2 * c .before .before .loop .i))
 
-mul-low : tie.Need-mul-low Inv-loop μ-loop
-mul-low c = search needs
-
-add-low : tie.Need-add-low Inv-loop μ-loop
-add-low c = search needs
-
-shared-slice-read-low : tie.Need-shared-slice-read-low Inv-loop μ-loop
-shared-slice-read-low c = search needs
-
 cast-low : tie.Need-cast-low Inv-loop μ-loop
 cast-low c =
     omega (arith, c .shared-slice-known3 .given (2 * c .before .before .before .loop .i + 1))
@@ -74,17 +53,11 @@ array-read-low : tie.Need-array-read-low Inv-loop μ-loop
 array-read-low c =
     omega (arith, c .shared-slice-known3 .given (2 * c .before .before .before .loop .i + 1))
 
-no-line-requires-2 : tie.Need-no-line-requires-2 Inv-loop μ-loop
-no-line-requires-2 c κs = search needs
-
 returns-2 : tie.Need-returns-2 Inv-loop μ-loop
 unfolding allowed
 returns-2 c =
     let l = c .before .before .before .before .before in
     c .no-line2 .ensures ∙ stopped l (2 * l .loop .i) (omega arith) (l .loop .inv .1 .1 .1) (c .before .if2 .taken)
-
-no-line-requires-3 : tie.Need-no-line-requires-3 Inv-loop μ-loop
-no-line-requires-3 c κs = search needs
 
 returns-3 : tie.Need-returns-3 Inv-loop μ-loop
 unfolding allowed
@@ -96,21 +69,6 @@ returns-3 c =
     c .no-line3 .ensures
     ∙ stopped l (2 * i + 1) (omega arith) (sym (digit-more (text l) (2 * i) (omega (arith, size l)) (first .0)) ∙ l .loop .inv .1 .1 .1) (c .before .if3 .taken)
 
-mul-frame : tie.Need-mul-frame Inv-loop μ-loop
-mul-frame c = search needs
-
-add-frame : tie.Need-add-frame Inv-loop μ-loop
-add-frame c = search needs
-
-array-write-frame : tie.Need-array-write-frame Inv-loop μ-loop
-array-write-frame c = search needs
-
-add-i : tie.Need-add-i Inv-loop μ-loop
-add-i c = search needs
-
-loop-less : tie.Need-loop-less Inv-loop μ-loop
-loop-less c = search needs
-
 loop-again : tie.Need-loop-again Inv-loop μ-loop
 unfolding allowed
 loop-again c =
@@ -118,9 +76,6 @@ loop-again c =
     let v = l .loop .inv in
     let more = turn (text l) (size l) (bytes l) (l .loop .frame) (l .loop .i) (v .1 .0) (omega arith) (c .before .if2 .left) (c .if3 .left) (v .1 .1 .0) (v .1 .1 .1) in
     (omega arith, (length-set (l .loop .frame) (l .loop .i) _ ∙ v .1 .0, more))
-
-shared-slice-read-last : tie.Need-shared-slice-read-last Inv-loop μ-loop
-shared-slice-read-last c = search needs
 
 cast-last : tie.Need-cast-last Inv-loop μ-loop
 cast-last c =
@@ -130,9 +85,6 @@ array-read-last : tie.Need-array-read-last Inv-loop μ-loop
 array-read-last c =
     omega (arith, c .shared-slice-known4 .given 62)
 
-no-line-requires-4 : tie.Need-no-line-requires-4 Inv-loop μ-loop
-no-line-requires-4 c κs = search needs
-
 returns-4 : tie.Need-returns-4 Inv-loop μ-loop
 unfolding allowed
 returns-4 c =
@@ -140,12 +92,6 @@ returns-4 c =
     let v = l .loop .inv in
     let end : l .loop .i ≡ 31 = omega arith in
     c .no-line4 .ensures ∙ stopped l 62 (omega arith) (ap (λ (i : ℕ). allDigits (drop (2 * i) (text l))) (sym end) ∙ v .1 .1 .1) (c .before .if4 .taken)
-
-mul-frame-2 : tie.Need-mul-frame-2 Inv-loop μ-loop
-mul-frame-2 c = search needs
-
-array-write-frame-2 : tie.Need-array-write-frame-2 Inv-loop μ-loop
-array-write-frame-2 c = search needs
 
 returns-5 : tie.Need-returns-5 Inv-loop μ-loop
 unfolding allowed
@@ -157,37 +103,4 @@ returns-5 c =
 
 pub frame-of-line-spec : {M : Type 1} → statement M
 frame-of-line-spec =
-    tie.close
-    (tie.spec
-    Inv-loop
-    μ-loop
-    no-line-requires
-    returns
-    loop-holds
-    mul-high
-    shared-slice-read-high
-    cast-high
-    array-read-high
-    mul-low
-    add-low
-    shared-slice-read-low
-    cast-low
-    array-read-low
-    no-line-requires-2
-    returns-2
-    no-line-requires-3
-    returns-3
-    mul-frame
-    add-frame
-    array-write-frame
-    add-i
-    loop-less
-    loop-again
-    shared-slice-read-last
-    cast-last
-    array-read-last
-    no-line-requires-4
-    returns-4
-    mul-frame-2
-    array-write-frame-2
-    returns-5)
+    tie.close (tie.spec Inv-loop μ-loop (λ c κs. search needs) returns (λ c. search needs) (λ c. search needs) (λ c. search needs) cast-high array-read-high (λ c. search needs) (λ c. search needs) (λ c. search needs) cast-low array-read-low (λ c κs. search needs) returns-2 (λ c κs. search needs) returns-3 (λ c. search needs) (λ c. search needs) (λ c. search needs) (λ c. search needs) (λ c. search needs) loop-again (λ c. search needs) cast-last array-read-last (λ c κs. search needs) returns-4 (λ c. search needs) (λ c. search needs) returns-5)

@@ -4,23 +4,8 @@ use borrow.Author.Needs.{needs}
 use Rattle.line.proofs.from_line.read_line.Statement.{statement}
 use Rattle.line.proofs.from_line.read_line.Tie as tie
 
-frame-of-line-requires : tie.Need-frame-of-line-requires
-frame-of-line-requires c κs = search needs
-
 enum-told : tie.Need-enum-told
 enum-told c = search needs
-
-slice-aggregate-read : tie.Need-slice-aggregate-read
-slice-aggregate-read c = search needs
-
-read-requires : tie.Need-read-requires
-read-requires c κs = search needs
-
-enum-told-2 : tie.Need-enum-told-2
-enum-told-2 c = search needs
-
-of-zeros-requires : tie.Need-of-zeros-requires
-of-zeros-requires c κs = search needs
 
 returns : tie.Need-returns
 returns c =
@@ -34,13 +19,4 @@ returns-2 c =
 
 pub read-line-spec : {M : Type 1} → statement M
 read-line-spec =
-    tie.close
-    (tie.spec
-    frame-of-line-requires
-    enum-told
-    slice-aggregate-read
-    read-requires
-    enum-told-2
-    of-zeros-requires
-    returns
-    returns-2)
+    tie.close (tie.spec (λ c κs. search needs) enum-told (λ c. search needs) (λ c κs. search needs) (λ c. search needs) (λ c κs. search needs) returns returns-2)

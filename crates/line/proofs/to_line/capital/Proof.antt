@@ -4,17 +4,11 @@ use borrow.Author.Needs.{needs}
 use Rattle.line.proofs.to_line.capital.Statement.{statement}
 use Rattle.line.proofs.to_line.capital.Tie as tie
 
-add-result : tie.Need-add-result
-add-result c = search needs
-
 returns : tie.Need-returns
 returns c = simp (lt-ltb _ _ (c .if1 .taken))
-
-add-result-2 : tie.Need-add-result-2
-add-result-2 c = search needs
 
 returns-2 : tie.Need-returns-2
 returns-2 c = simp (le-ltb _ _ (c .if1 .left))
 
 pub capital-spec : {M : Type 1} → statement M
-capital-spec = tie.close (tie.spec add-result returns add-result-2 returns-2)
+capital-spec = tie.close (tie.spec (λ c. search needs) returns (λ c. search needs) returns-2)

@@ -4,17 +4,11 @@ use borrow.Author.Needs.{needs}
 use Rattle.line.proofs.to_line.digit.Statement.{statement}
 use Rattle.line.proofs.to_line.digit.Tie as tie
 
-capital-requires : tie.Need-capital-requires
-capital-requires c κs = search needs
-
 returns : tie.Need-returns
 returns c = simp (c .capital .ensures, eq-eqb _ _ (c .before .if1 .taken))
-
-capital-requires-2 : tie.Need-capital-requires-2
-capital-requires-2 c κs = search needs
 
 returns-2 : tie.Need-returns-2
 returns-2 c = simp (c .capital2 .ensures, ne-eqb _ _ (c .before .if1 .left))
 
 pub digit-spec : {M : Type 1} → statement M
-digit-spec = tie.close (tie.spec capital-requires returns capital-requires-2 returns-2)
+digit-spec = tie.close (tie.spec (λ c κs. search needs) returns (λ c κs. search needs) returns-2)

@@ -34,12 +34,6 @@ no-padding c = sym (padding (c .before)) ∙ c .if2 .left
 returns : tie.Need-returns Inv-loop μ-loop
 returns c = no-frame _ _ (c .if1 .taken)
 
-frame-of-requires : tie.Need-frame-of-requires Inv-loop μ-loop
-frame-of-requires c κs = search needs
-
-field8-requires : tie.Need-field8-requires Inv-loop μ-loop
-field8-requires c κs = search needs
-
 returns-2 : tie.Need-returns-2 Inv-loop μ-loop
 returns-2 c = padded _ _ (c .before .before .before .if1 .left) (λ e. c .if2 .taken (padding (c .before) ∙ e))
 
@@ -48,21 +42,6 @@ returns-3 c = no-room _ _ (c .before .before .before .before .if1 .left) (no-pad
 
 loop-holds : tie.Need-loop-holds Inv-loop μ-loop
 loop-holds c = (omega arith, (refl, (refl, refl)))
-
-shared-slice-read-byte : tie.Need-shared-slice-read-byte Inv-loop μ-loop
-shared-slice-read-byte c = search needs
-
-digit-requires : tie.Need-digit-requires Inv-loop μ-loop
-digit-requires c κs = search needs
-
-slice-write-buffer : tie.Need-slice-write-buffer Inv-loop μ-loop
-slice-write-buffer c = search needs
-
-add-k : tie.Need-add-k Inv-loop μ-loop
-add-k c = search needs
-
-loop-less : tie.Need-loop-less Inv-loop μ-loop
-loop-less c = search needs
 
 loop-again : tie.Need-loop-again Inv-loop μ-loop
 loop-again c =
@@ -82,9 +61,6 @@ loop-again c =
       ),
     )
 
-same-length : tie.Need-same-length Inv-loop μ-loop
-same-length c = search needs
-
 returns-4 : tie.Need-returns-4 Inv-loop μ-loop
 returns-4 c =
     let l = c .before in
@@ -96,21 +72,4 @@ returns-4 c =
 
 pub write-line-spec : {M : Type 1} → statement M
 write-line-spec =
-    tie.close
-    (tie.spec
-    Inv-loop
-    μ-loop
-    returns
-    frame-of-requires
-    field8-requires
-    returns-2
-    returns-3
-    loop-holds
-    shared-slice-read-byte
-    digit-requires
-    slice-write-buffer
-    add-k
-    loop-less
-    loop-again
-    same-length
-    returns-4)
+    tie.close (tie.spec Inv-loop μ-loop returns (λ c κs. search needs) (λ c κs. search needs) returns-2 returns-3 loop-holds (λ c. search needs) (λ c κs. search needs) (λ c. search needs) (λ c. search needs) (λ c. search needs) loop-again (λ c. search needs) returns-4)

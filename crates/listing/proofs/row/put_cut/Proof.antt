@@ -5,15 +5,6 @@ use borrow.Author.Needs.{needs}
 use Rattle.listing.proofs.row.put_cut.Statement.{statement}
 use Rattle.listing.proofs.row.put_cut.Tie as tie
 
-slice-aggregate-put-bytes : tie.Need-slice-aggregate-put-bytes
-slice-aggregate-put-bytes c = search needs
-
-put-bytes-requires : tie.Need-put-bytes-requires
-put-bytes-requires c κs = search needs
-
-same-length : tie.Need-same-length
-same-length c = search needs
-
 returns : tie.Need-returns
 unfolding cutText
 returns c =
@@ -21,4 +12,4 @@ returns c =
     (p .put-bytes .ensures, omega (arith, p .put-bytes .ensures .place))
 
 pub put-cut-spec : {M : Type 1} → statement M
-put-cut-spec = tie.close (tie.spec slice-aggregate-put-bytes put-bytes-requires same-length returns)
+put-cut-spec = tie.close (tie.spec (λ c. search needs) (λ c κs. search needs) (λ c. search needs) returns)

@@ -7,35 +7,14 @@ use borrow.Author.Needs.{needs}
 use Rattle.listing.proofs.row.put_entry.Statement.{statement}
 use Rattle.listing.proofs.row.put_entry.Tie as tie
 
-put-byte-requires : tie.Need-put-byte-requires
-put-byte-requires c κs = search needs
-
 enum-told : tie.Need-enum-told
 enum-told c = search needs
-
-put-byte-requires-2 : tie.Need-put-byte-requires-2
-put-byte-requires-2 c κs = search needs
-
-enum-known-entry : tie.Need-enum-known-entry
-enum-known-entry c = search needs
-
-cast-put-decimal : tie.Need-cast-put-decimal
-cast-put-decimal c = search needs
-
-put-decimal-requires : tie.Need-put-decimal-requires
-put-decimal-requires c κs = search needs
-
-same-length : tie.Need-same-length
-same-length c = search needs
 
 returns : tie.Need-returns
 returns c =
     let q = c .before .before in
     let p = q .before .before .before .before .before .before in
     (rw (q .before .before .enum-told .given .1) (p .put-byte .ensures then q .put-byte2 .ensures), omega (arith, q .put-byte2 .ensures .place, p .put-byte .ensures .place))
-
-same-length-2 : tie.Need-same-length-2
-same-length-2 c = search needs
 
 returns-2 : tie.Need-returns-2
 returns-2 c =
@@ -48,15 +27,4 @@ returns-2 c =
 
 pub put-entry-spec : {M : Type 1} → statement M
 put-entry-spec =
-    tie.close
-    (tie.spec
-    put-byte-requires
-    enum-told
-    put-byte-requires-2
-    enum-known-entry
-    cast-put-decimal
-    put-decimal-requires
-    same-length
-    returns
-    same-length-2
-    returns-2)
+    tie.close (tie.spec (λ c κs. search needs) enum-told (λ c κs. search needs) (λ c. search needs) (λ c. search needs) (λ c κs. search needs) (λ c. search needs) returns (λ c. search needs) returns-2)

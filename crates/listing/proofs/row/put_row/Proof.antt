@@ -32,9 +32,6 @@ after-slots : (c : tie.After-put-entry4)
     → c .put-entry4 .result ≤ c .before .before .before .before .before .before .before .before .before .before .before .before .before .before .before .before .before .before .before .args .at + 26
 after-slots c = omega (arith, c .put-entry4 .ensures .1, after-category (c .before .before .before .before))
 
-put-decimal-requires : tie.Need-put-decimal-requires
-put-decimal-requires c κs = search needs
-
 put-entry-requires : tie.Need-put-entry-requires
 put-entry-requires c κs = omega (arith, after-number (c .before .before .before))
 
@@ -46,12 +43,6 @@ put-entry-requires-3 c κs = omega (arith, after-place (c .before .before .befor
 
 put-entry-requires-4 : tie.Need-put-entry-requires-4
 put-entry-requires-4 c κs = omega (arith, after-category (c .before .before .before))
-
-put-byte-requires : tie.Need-put-byte-requires
-put-byte-requires c κs = search needs
-
-same-length : tie.Need-same-length
-same-length c = search needs
 
 returns : tie.Need-returns
 unfolding rowText
@@ -68,13 +59,4 @@ returns c =
 
 pub put-row-spec : {M : Type 1} → statement M
 put-row-spec =
-    tie.close
-    (tie.spec
-    put-decimal-requires
-    put-entry-requires
-    put-entry-requires-2
-    put-entry-requires-3
-    put-entry-requires-4
-    put-byte-requires
-    same-length
-    returns)
+    tie.close (tie.spec (λ c κs. search needs) put-entry-requires put-entry-requires-2 put-entry-requires-3 put-entry-requires-4 (λ c κs. search needs) (λ c. search needs) returns)

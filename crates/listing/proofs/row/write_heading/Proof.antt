@@ -9,15 +9,6 @@ use Rattle.listing.proofs.row.write_heading.Tie as tie
 returns : tie.Need-returns
 returns c = too-short headingText _ (c .if1 .taken)
 
-slice-aggregate-put-bytes : tie.Need-slice-aggregate-put-bytes
-slice-aggregate-put-bytes c = search needs
-
-put-bytes-requires : tie.Need-put-bytes-requires
-put-bytes-requires c κs = search needs
-
-same-length : tie.Need-same-length
-same-length c = search needs
-
 returns-2 : tie.Need-returns-2
 unfolding headingText
 returns-2 c =
@@ -26,4 +17,4 @@ returns-2 c =
 
 pub write-heading-spec : {M : Type 1} → statement M
 write-heading-spec =
-    tie.close (tie.spec returns slice-aggregate-put-bytes put-bytes-requires same-length returns-2)
+    tie.close (tie.spec returns (λ c. search needs) (λ c κs. search needs) (λ c. search needs) returns-2)

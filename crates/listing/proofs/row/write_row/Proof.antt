@@ -11,15 +11,6 @@ use Rattle.listing.proofs.row.write_row.Tie as tie
 returns : tie.Need-returns
 returns c = too-short _ _ (c .if1 .taken)
 
-of-requires : tie.Need-of-requires
-of-requires c κs = search needs
-
-put-row-requires : tie.Need-put-row-requires
-put-row-requires c κs = search needs
-
-same-length : tie.Need-same-length
-same-length c = search needs
-
 returns-2 : tie.Need-returns-2
 returns-2 c =
     let p = c .before .before in
@@ -27,4 +18,4 @@ returns-2 c =
     wrote-laid (wrote-as (ap (rowText (s .args .number)) (p .before .of .ensures)) (p .put-row .ensures .0)) (omega (arith, p .put-row .ensures .1)) (p .before .before .before .if1 .left)
 
 pub write-row-spec : {M : Type 1} → statement M
-write-row-spec = tie.close (tie.spec returns of-requires put-row-requires same-length returns-2)
+write-row-spec = tie.close (tie.spec returns (λ c κs. search needs) (λ c κs. search needs) (λ c. search needs) returns-2)

@@ -27,12 +27,6 @@ same : (c : tie.After-least) → take (c .least .result) (c .before .before .arg
 same c = let s = c .before .before in
     ap (λ (k : ℕ). take k (s .args .from .begun)) (c .least .ensures) ∙ take-least (s .args .from .length) 64 (s .args .from .begun) (kept s)
 
-least-requires : tie.Need-least-requires
-least-requires c κs = search needs
-
-add-write-row : tie.Need-add-write-row
-add-write-row c = search needs
-
 array-share-prefix-begun : tie.Need-array-share-prefix-begun
 array-share-prefix-begun c = fits (c .before .before .before)
 
@@ -40,15 +34,6 @@ slice-aggregate-read-line : tie.Need-slice-aggregate-read-line
 slice-aggregate-read-line c =
     let l = c .before .before .before .before in
     sym (length-take-le (l .least .result) (l .before .before .args .from .begun) (fits l))
-
-read-line-requires : tie.Need-read-line-requires
-read-line-requires c κs = search needs
-
-write-row-requires : tie.Need-write-row-requires
-write-row-requires c κs = search needs
-
-same-length : tie.Need-same-length
-same-length c = search needs
 
 returns : tie.Need-returns
 unfolding finished lineRow
@@ -77,15 +62,4 @@ returns-3 c =
 
 pub finish-spec : {M : Type 1} → statement M
 finish-spec =
-    tie.close
-    (tie.spec
-    least-requires
-    add-write-row
-    array-share-prefix-begun
-    slice-aggregate-read-line
-    read-line-requires
-    write-row-requires
-    same-length
-    returns
-    returns-2
-    returns-3)
+    tie.close (tie.spec (λ c κs. search needs) (λ c. search needs) array-share-prefix-begun slice-aggregate-read-line (λ c κs. search needs) (λ c κs. search needs) (λ c. search needs) returns returns-2 returns-3)

@@ -10,9 +10,6 @@ use borrow.Author.Needs.{needs}
 use Rattle.listing.proofs.scan.scan.Statement.{statement}
 use Rattle.listing.proofs.scan.scan.Tie as tie
 
-least-requires : tie.Need-least-requires
-least-requires c κs = search needs
-
 slice-aggregate-scan-all : tie.Need-slice-aggregate-scan-all
 unfolding bytesTaken
 slice-aggregate-scan-all c =
@@ -29,9 +26,6 @@ scan-all-requires c κs =
     let fits = taken-fits d (s .args .out .now) in
     omega (arith, l .least .ensures, length-take-le (l .least .result) d (omega (arith, l .least .ensures, fits)), taken-room d (s .args .out .now))
 
-same-length : tie.Need-same-length
-same-length c = search needs
-
 returns : tie.Need-returns
 unfolding bytesTaken
 returns c =
@@ -42,5 +36,4 @@ returns c =
 
 pub scan-spec : {M : Type 1} → statement M
 scan-spec =
-    tie.close
-    (tie.spec least-requires slice-aggregate-scan-all scan-all-requires same-length returns)
+    tie.close (tie.spec (λ c κs. search needs) slice-aggregate-scan-all scan-all-requires (λ c. search needs) returns)

@@ -23,24 +23,6 @@ short c = begun-short (c .args .from) (unmapped _ (c .args .from .begun) 64 (c .
 scan-first-requires : tie.Need-scan-first-requires
 scan-first-requires c κs = omega (arith, limit-is)
 
-same-length : tie.Need-same-length
-same-length c = search needs
-
-returns : tie.Need-returns
-returns c = search needs
-
-put-cut-requires : tie.Need-put-cut-requires
-put-cut-requires c κs = search needs
-
-add-behind : tie.Need-add-behind
-add-behind c = search needs
-
-behind-requires : tie.Need-behind-requires
-behind-requires c κs = search needs
-
-same-length-2 : tie.Need-same-length-2
-same-length-2 c = search needs
-
 returns-2 : tie.Need-returns-2
 returns-2 c =
     let k = c .before .before .before in
@@ -49,12 +31,6 @@ returns-2 c =
     let n : ℕ = s .args .from .lines in
     let begun : List ℕ = begunIn (s .args .from) in
     settled n begun (s .args .chunk .now) _ _ 0 _ (record { text = cutText; lines = n + 1; begun = [] }) (cut-all n begun (s .args .chunk .now) (t .before .if2 .taken ∙ sym limit-is) (t .if3 .taken)) (c .behind .ensures) refl (k .put-cut .ensures .0) (omega (arith, k .put-cut .ensures .1, t .if3 .taken))
-
-slice-aggregate-none : tie.Need-slice-aggregate-none
-slice-aggregate-none c = search needs
-
-with-requires : tie.Need-with-requires
-with-requires c κs = search needs
 
 returns-3 : tie.Need-returns-3
 returns-3 c =
@@ -66,16 +42,4 @@ returns-3 c =
 
 pub scan-all-spec : {M : Type 1} → statement M
 scan-all-spec =
-    tie.close
-    (tie.spec
-    scan-first-requires
-    same-length
-    returns
-    put-cut-requires
-    add-behind
-    behind-requires
-    same-length-2
-    returns-2
-    slice-aggregate-none
-    with-requires
-    returns-3)
+    tie.close (tie.spec scan-first-requires (λ c. search needs) (λ c. search needs) (λ c κs. search needs) (λ c. search needs) (λ c κs. search needs) (λ c. search needs) returns-2 (λ c. search needs) (λ c κs. search needs) returns-3)

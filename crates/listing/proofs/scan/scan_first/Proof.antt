@@ -25,14 +25,8 @@ fits c =
     let s = f .before .before .before in
     kept-fits (c .with .result) (s .args .from .lines) (begunIn (s .args .from) ++ take (f .find .result) (s .args .chunk .now)) (c .with .ensures)
 
-find-requires : tie.Need-find-requires
-find-requires c κs = search needs
-
 slice-aggregate-with : tie.Need-slice-aggregate-with
 slice-aggregate-with c = sym (length-take-le (c .before .find .result) _ (c .before .find .ensures .high))
-
-with-requires : tie.Need-with-requires
-with-requires c κs = search needs
 
 returns : tie.Need-returns
 returns c =
@@ -51,29 +45,11 @@ slice-aggregate-read-line c =
     let m = c .before .before .before in
     sym (length-take-le (m .with .result .length) (m .with .result .begun) (fits m))
 
-read-line-requires : tie.Need-read-line-requires
-read-line-requires c κs = search needs
-
-of-requires : tie.Need-of-requires
-of-requires c κs = search needs
-
 add-put-row : tie.Need-add-put-row
 add-put-row c = omega (arith, limit-is)
 
-put-row-requires : tie.Need-put-row-requires
-put-row-requires c κs = search needs
-
 add-scan-lines : tie.Need-add-scan-lines
 add-scan-lines c = omega (arith, limit-is)
-
-add-scan-lines-2 : tie.Need-add-scan-lines-2
-add-scan-lines-2 c = search needs
-
-scan-lines-requires : tie.Need-scan-lines-requires
-scan-lines-requires c κs = search needs
-
-same-length : tie.Need-same-length
-same-length c = search needs
 
 returns-2 : tie.Need-returns-2
 returns-2 c =
@@ -89,20 +65,4 @@ returns-2 c =
 
 pub scan-first-spec : {M : Type 1} → statement M
 scan-first-spec =
-    tie.close
-    (tie.spec
-    find-requires
-    slice-aggregate-with
-    with-requires
-    returns
-    array-share-prefix-begun
-    slice-aggregate-read-line
-    read-line-requires
-    of-requires
-    add-put-row
-    put-row-requires
-    add-scan-lines
-    add-scan-lines-2
-    scan-lines-requires
-    same-length
-    returns-2)
+    tie.close (tie.spec (λ c κs. search needs) slice-aggregate-with (λ c κs. search needs) returns array-share-prefix-begun slice-aggregate-read-line (λ c κs. search needs) (λ c κs. search needs) add-put-row (λ c κs. search needs) add-scan-lines (λ c. search needs) (λ c κs. search needs) (λ c. search needs) returns-2)

@@ -12,42 +12,6 @@ use Rattle.rows.specs.Runs.Verdict.{commonVerdict, walk}
 use Rattle.nankai.specs.Nankai.{nankai, numberValues}
 use Rattle.nankai.proofs.PageNumbers.check.Tie as tie
 
-is-two-or-seven-requires : tie.Need-is-two-or-seven-requires
-is-two-or-seven-requires c κs = search needs
-
-is-uncorrected-requires : tie.Need-is-uncorrected-requires
-is-uncorrected-requires c κs = search needs
-
-common-requires : tie.Need-common-requires
-common-requires c κs = search needs
-
-spare-requires : tie.Need-spare-requires
-spare-requires c κs = search needs
-
-cast-within : tie.Need-cast-within
-cast-within c = search needs
-
-within-requires : tie.Need-within-requires
-within-requires c κs = search needs
-
-cast-within-2 : tie.Need-cast-within-2
-cast-within-2 c = search needs
-
-within-requires-2 : tie.Need-within-requires-2
-within-requires-2 c κs = search needs
-
-cast-within-3 : tie.Need-cast-within-3
-cast-within-3 c = search needs
-
-cast-within-4 : tie.Need-cast-within-4
-cast-within-4 c = search needs
-
-within-requires-3 : tie.Need-within-requires-3
-within-requires-3 c κs = search needs
-
-spare-requires-2 : tie.Need-spare-requires-2
-spare-requires-2 c κs = search needs
-
 returns : tie.Need-returns
 returns c =
     let w = c .before in
@@ -70,18 +34,4 @@ returns c =
 
 pub check-spec : {M : Type 1} → statement M
 check-spec =
-    tie.close
-    (tie.spec
-    is-two-or-seven-requires
-    is-uncorrected-requires
-    common-requires
-    spare-requires
-    cast-within
-    within-requires
-    cast-within-2
-    within-requires-2
-    cast-within-3
-    cast-within-4
-    within-requires-3
-    spare-requires-2
-    returns)
+    tie.close (tie.spec (λ c κs. search needs) (λ c κs. search needs) (λ c κs. search needs) (λ c κs. search needs) (λ c. search needs) (λ c κs. search needs) (λ c. search needs) (λ c κs. search needs) (λ c. search needs) (λ c. search needs) (λ c κs. search needs) (λ c κs. search needs) returns)

@@ -9,21 +9,6 @@ use Rattle.report.specs.declared.body.Body.the-variants.{AshFall, Hypocenter, I
 use Rattle.rows.specs.Layout.{time}
 use Rattle.record_bytes.proofs.from_bytes.body_of.Tie as tie
 
-shared-slice-read-match : tie.Need-shared-slice-read-match
-shared-slice-read-match c = search needs
-
-quake-of-requires : tie.Need-quake-of-requires
-quake-of-requires c κs = search needs
-
-time-at-requires : tie.Need-time-at-requires
-time-at-requires c κs = search needs
-
-page-of-requires : tie.Need-page-of-requires
-page-of-requires c κs = search needs
-
-eruption-of-requires : tie.Need-eruption-of-requires
-eruption-of-requires c κs = search needs
-
 returns : tie.Need-returns
 unfolding bodyOfCode
 returns c = ap Hypocenter (c .quake-of .ensures) ∙ sym (ap (bodyOfCode (c .before .before .before .before .args .bytes .now)) (c .before .match .keys1))
@@ -48,15 +33,4 @@ returns-5 c =
 
 pub body-of-spec : {M : Type 1} → statement M
 body-of-spec =
-    tie.close
-    (tie.spec
-    shared-slice-read-match
-    quake-of-requires
-    time-at-requires
-    page-of-requires
-    eruption-of-requires
-    returns
-    returns-2
-    returns-3
-    returns-4
-    returns-5)
+    tie.close (tie.spec (λ c. search needs) (λ c κs. search needs) (λ c κs. search needs) (λ c κs. search needs) (λ c κs. search needs) returns returns-2 returns-3 returns-4 returns-5)

@@ -10,18 +10,6 @@ use borrow.Author.Needs.{needs}
 use Rattle.record_bytes.proofs.from_bytes.marked_slots_of.Statement.{statement}
 use Rattle.record_bytes.proofs.from_bytes.marked_slots_of.Tie as tie
 
-slots-of-requires : tie.Need-slots-of-requires
-slots-of-requires c κs = search needs
-
-end-of-requires : tie.Need-end-of-requires
-end-of-requires c κs = search needs
-
-has-stray-requires : tie.Need-has-stray-requires
-has-stray-requires c κs = search needs
-
-with-misplaced-requires : tie.Need-with-misplaced-requires
-with-misplaced-requires c κs = search needs
-
 returns : tie.Need-returns
 returns c =
     let found = c .before .before in
@@ -43,11 +31,4 @@ returns-2 c =
 
 pub marked-slots-of-spec : {M : Type 1} → statement M
 marked-slots-of-spec =
-    tie.close
-    (tie.spec
-    slots-of-requires
-    end-of-requires
-    has-stray-requires
-    with-misplaced-requires
-    returns
-    returns-2)
+    tie.close (tie.spec (λ c κs. search needs) (λ c κs. search needs) (λ c κs. search needs) (λ c κs. search needs) returns returns-2)

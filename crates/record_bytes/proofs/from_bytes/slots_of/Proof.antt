@@ -22,32 +22,8 @@ Inv-loop bytes slots₀ k₀ slots k = (k ≤ 16) × ((length slots ≡ 16) × (
 abbrev μ-loop : tie.MeasureT-loop
 μ-loop bytes slots₀ k₀ slots k = 16 - k
 
-none-requires : tie.Need-none-requires Inv-loop μ-loop
-none-requires c κs = search needs
-
 loop-holds : tie.Need-loop-holds Inv-loop μ-loop
 loop-holds c = (omega arith, (refl, ap (replicate 16) (c .none .ensures)))
-
-mul-slot-at : tie.Need-mul-slot-at Inv-loop μ-loop
-mul-slot-at c = omega arith
-
-add-slot-at : tie.Need-add-slot-at Inv-loop μ-loop
-add-slot-at c = omega arith
-
-slot-at-requires : tie.Need-slot-at-requires Inv-loop μ-loop
-slot-at-requires c κs = omega arith
-
-mul-slots : tie.Need-mul-slots Inv-loop μ-loop
-mul-slots c = omega arith
-
-array-set-from-slots : tie.Need-array-set-from-slots Inv-loop μ-loop
-array-set-from-slots c = omega arith
-
-add-k : tie.Need-add-k Inv-loop μ-loop
-add-k c = omega arith
-
-loop-less : tie.Need-loop-less Inv-loop μ-loop
-loop-less c = omega arith
 
 loop-again : tie.Need-loop-again Inv-loop μ-loop
 loop-again c =
@@ -69,18 +45,4 @@ returns c =
 
 pub slots-of-spec : {M : Type 1} → statement M
 slots-of-spec =
-    tie.close
-    (tie.spec
-    Inv-loop
-    μ-loop
-    none-requires
-    loop-holds
-    mul-slot-at
-    add-slot-at
-    slot-at-requires
-    mul-slots
-    array-set-from-slots
-    add-k
-    loop-less
-    loop-again
-    returns)
+    tie.close (tie.spec Inv-loop μ-loop (λ c κs. search needs) loop-holds (λ c. omega arith) (λ c. omega arith) (λ c κs. omega arith) (λ c. omega arith) (λ c. omega arith) (λ c. omega arith) (λ c. omega arith) loop-again returns)

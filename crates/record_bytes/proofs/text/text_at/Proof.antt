@@ -22,26 +22,8 @@ Inv-loop bytes at text₀ k₀ text k = (k ≤ 18) × ((at + 18 ≤ length bytes
 abbrev μ-loop : tie.MeasureT-loop
 μ-loop bytes at text₀ k₀ text k = 18 - k
 
-has-text-requires : tie.Need-has-text-requires Inv-loop μ-loop
-has-text-requires c κs = search needs
-
 loop-holds : tie.Need-loop-holds Inv-loop μ-loop
 loop-holds c = (omega arith, (leb-true _ _ (sym (c .before .has-text .ensures) ∙ c .if1 .taken), (refl, refl)))
-
-add-text : tie.Need-add-text Inv-loop μ-loop
-add-text c = omega arith
-
-shared-slice-read-text : tie.Need-shared-slice-read-text Inv-loop μ-loop
-shared-slice-read-text c = omega arith
-
-array-write-text : tie.Need-array-write-text Inv-loop μ-loop
-array-write-text c = omega arith
-
-add-k : tie.Need-add-k Inv-loop μ-loop
-add-k c = omega arith
-
-loop-less : tie.Need-loop-less Inv-loop μ-loop
-loop-less c = omega arith
 
 loop-again : tie.Need-loop-again Inv-loop μ-loop
 loop-again c =
@@ -72,17 +54,4 @@ returns-2 c = text-not-there _ _ (sym (c .before .has-text .ensures) ∙ c .if1 
 
 pub text-at-spec : {M : Type 1} → statement M
 text-at-spec =
-    tie.close
-    (tie.spec
-    Inv-loop
-    μ-loop
-    has-text-requires
-    loop-holds
-    add-text
-    shared-slice-read-text
-    array-write-text
-    add-k
-    loop-less
-    loop-again
-    returns
-    returns-2)
+    tie.close (tie.spec Inv-loop μ-loop (λ c κs. search needs) loop-holds (λ c. omega arith) (λ c. omega arith) (λ c. omega arith) (λ c. omega arith) (λ c. omega arith) loop-again returns returns-2)

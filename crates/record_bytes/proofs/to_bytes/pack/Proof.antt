@@ -7,24 +7,6 @@ use borrow.Author.Needs.{needs}
 use Rattle.record_bytes.proofs.to_bytes.pack.Statement.{statement}
 use Rattle.record_bytes.proofs.to_bytes.pack.Tie as tie
 
-put-head-requires : tie.Need-put-head-requires
-put-head-requires c κs = search needs
-
-put-body-requires : tie.Need-put-body-requires
-put-body-requires c κs = search needs
-
-put-slots-requires : tie.Need-put-slots-requires
-put-slots-requires c κs = search needs
-
-slice-aggregate-put-bytes : tie.Need-slice-aggregate-put-bytes
-slice-aggregate-put-bytes c = search needs
-
-put-bytes-requires : tie.Need-put-bytes-requires
-put-bytes-requires c κs = search needs
-
-same-length : tie.Need-same-length
-same-length c = search needs
-
 returns : tie.Need-returns
 returns c =
     let text = c .before .before in
@@ -43,13 +25,4 @@ returns-2 c = sym (into-wrong _ _ (c .if1 .left))
 
 pub pack-spec : {M : Type 1} → statement M
 pack-spec =
-    tie.close
-    (tie.spec
-    put-head-requires
-    put-body-requires
-    put-slots-requires
-    slice-aggregate-put-bytes
-    put-bytes-requires
-    same-length
-    returns
-    returns-2)
+    tie.close (tie.spec (λ c κs. search needs) (λ c κs. search needs) (λ c κs. search needs) (λ c. search needs) (λ c κs. search needs) (λ c. search needs) returns returns-2)

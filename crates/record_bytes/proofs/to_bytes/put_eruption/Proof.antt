@@ -5,21 +5,6 @@ use borrow.Author.Needs.{needs}
 use Rattle.record_bytes.proofs.to_bytes.put_eruption.Statement.{statement}
 use Rattle.record_bytes.proofs.to_bytes.put_eruption.Tie as tie
 
-put-time-requires : tie.Need-put-time-requires
-put-time-requires c κs = search needs
-
-put-byte-requires : tie.Need-put-byte-requires
-put-byte-requires c κs = search needs
-
-cast-put-wide : tie.Need-cast-put-wide
-cast-put-wide c = search needs
-
-put-wide-requires : tie.Need-put-wide-requires
-put-wide-requires c κs = search needs
-
-same-length : tie.Need-same-length
-same-length c = search needs
-
 returns : tie.Need-returns
 unfolding bodyBytes
 returns c =
@@ -30,11 +15,4 @@ returns c =
 
 pub put-eruption-spec : {M : Type 1} → statement M
 put-eruption-spec =
-    tie.close
-    (tie.spec
-    put-time-requires
-    put-byte-requires
-    cast-put-wide
-    put-wide-requires
-    same-length
-    returns)
+    tie.close (tie.spec (λ c κs. search needs) (λ c κs. search needs) (λ c. search needs) (λ c κs. search needs) (λ c. search needs) returns)

@@ -4,27 +4,6 @@ use borrow.Author.Needs.{needs}
 use Rattle.record_bytes.proofs.to_bytes.put_notifications.Statement.{statement}
 use Rattle.record_bytes.proofs.to_bytes.put_notifications.Tie as tie
 
-cast-put-wide : tie.Need-cast-put-wide
-cast-put-wide c = search needs
-
-put-wide-requires : tie.Need-put-wide-requires
-put-wide-requires c κs = search needs
-
-cast-put-wide-2 : tie.Need-cast-put-wide-2
-cast-put-wide-2 c = search needs
-
-put-wide-requires-2 : tie.Need-put-wide-requires-2
-put-wide-requires-2 c κs = search needs
-
-cast-put-wide-3 : tie.Need-cast-put-wide-3
-cast-put-wide-3 c = search needs
-
-put-wide-requires-3 : tie.Need-put-wide-requires-3
-put-wide-requires-3 c κs = search needs
-
-same-length : tie.Need-same-length
-same-length c = search needs
-
 returns : tie.Need-returns
 returns c =
     let third = c .before .before in
@@ -34,13 +13,4 @@ returns c =
 
 pub put-notifications-spec : {M : Type 1} → statement M
 put-notifications-spec =
-    tie.close
-    (tie.spec
-    cast-put-wide
-    put-wide-requires
-    cast-put-wide-2
-    put-wide-requires-2
-    cast-put-wide-3
-    put-wide-requires-3
-    same-length
-    returns)
+    tie.close (tie.spec (λ c. search needs) (λ c κs. search needs) (λ c. search needs) (λ c κs. search needs) (λ c. search needs) (λ c κs. search needs) (λ c. search needs) returns)

@@ -4,24 +4,6 @@ use borrow.Author.Needs.{needs}
 use Rattle.record_bytes.proofs.to_bytes.put_quake.Statement.{statement}
 use Rattle.record_bytes.proofs.to_bytes.put_quake.Tie as tie
 
-put-notifications-requires : tie.Need-put-notifications-requires
-put-notifications-requires c κs = search needs
-
-put-time-requires : tie.Need-put-time-requires
-put-time-requires c κs = search needs
-
-put-source-requires : tie.Need-put-source-requires
-put-source-requires c κs = search needs
-
-put-angle-requires : tie.Need-put-angle-requires
-put-angle-requires c κs = search needs
-
-put-angle-requires-2 : tie.Need-put-angle-requires-2
-put-angle-requires-2 c κs = search needs
-
-same-length : tie.Need-same-length
-same-length c = search needs
-
 returns : tie.Need-returns
 returns c =
     let longitude = c .before .before in
@@ -33,12 +15,4 @@ returns c =
 
 pub put-quake-spec : {M : Type 1} → statement M
 put-quake-spec =
-    tie.close
-    (tie.spec
-    put-notifications-requires
-    put-time-requires
-    put-source-requires
-    put-angle-requires
-    put-angle-requires-2
-    same-length
-    returns)
+    tie.close (tie.spec (λ c κs. search needs) (λ c κs. search needs) (λ c κs. search needs) (λ c κs. search needs) (λ c κs. search needs) (λ c. search needs) returns)

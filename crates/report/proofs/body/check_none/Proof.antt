@@ -12,21 +12,6 @@ use Rattle.rows.specs.Layout.{noCategory}
 use Rattle.report.specs.Categories.{sidesOf}
 use Rattle.report.proofs.body.check_none.Tie as tie
 
-is-two-or-seven-requires : tie.Need-is-two-or-seven-requires
-is-two-or-seven-requires c κs = search needs
-
-is-uncorrected-requires : tie.Need-is-uncorrected-requires
-is-uncorrected-requires c κs = search needs
-
-common-requires : tie.Need-common-requires
-common-requires c κs = search needs
-
-spare-requires : tie.Need-spare-requires
-spare-requires c κs = search needs
-
-spare-requires-2 : tie.Need-spare-requires-2
-spare-requires-2 c κs = search needs
-
 returns : tie.Need-returns
 returns c =
     let x = c .before in
@@ -40,11 +25,4 @@ returns c =
 
 pub check-none-spec : {M : Type 1} → statement M
 check-none-spec =
-    tie.close
-    (tie.spec
-    is-two-or-seven-requires
-    is-uncorrected-requires
-    common-requires
-    spare-requires
-    spare-requires-2
-    returns)
+    tie.close (tie.spec (λ c κs. search needs) (λ c κs. search needs) (λ c κs. search needs) (λ c κs. search needs) (λ c κs. search needs) returns)

@@ -14,15 +14,6 @@ use Rattle.report.proofs.Texts.{record-verdict}
 use mir.Syntax.{w8}
 use Rattle.report.proofs.check.check.Tie as tie
 
-check-requires : tie.Need-check-requires
-check-requires c κs = search needs
-
-cast-within : tie.Need-cast-within
-cast-within c = search needs
-
-within-requires : tie.Need-within-requires
-within-requires c κs = search needs
-
 returns : tie.Need-returns
 returns c =
     let k = c .before .before in
@@ -36,4 +27,4 @@ returns c =
     ∙ sym (record-verdict r (s .args .spare1) (s .args .spare2) b l)
 
 pub check-spec : {M : Type 1} → statement M
-check-spec = tie.close (tie.spec check-requires cast-within within-requires returns)
+check-spec = tie.close (tie.spec (λ c κs. search needs) (λ c. search needs) (λ c κs. search needs) returns)

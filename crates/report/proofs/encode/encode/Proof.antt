@@ -19,20 +19,8 @@ shaped c =
     let good = c .good .0 in
     record { slots = unmapped _ (r .slots) 16 (good .1 .1 .1 .1 .1 .1 .0 .1 .0 .1); text = length-unmapped _ (r .text) 18 (good .1 .1 .1 .1 .1 .1 .1 .0 .1 .0 .1) }
 
-blank-requires : tie.Need-blank-requires
-blank-requires c κs = search needs
-
 lay-front-requires : tie.Need-lay-front-requires
 lay-front-requires c κs = valid-known (c .before .args .r) (c .before .pre)
-
-parity-requires : tie.Need-parity-requires
-parity-requires c κs = search needs
-
-cast-put : tie.Need-cast-put
-cast-put c = search needs
-
-put-requires : tie.Need-put-requires
-put-requires c κs = search needs
 
 returns : tie.Need-returns
 returns c =
@@ -44,5 +32,4 @@ returns c =
 
 pub encode-spec : {M : Type 1} → statement M
 encode-spec =
-    tie.close
-    (tie.spec blank-requires lay-front-requires parity-requires cast-put put-requires returns)
+    tie.close (tie.spec (λ c κs. search needs) lay-front-requires (λ c κs. search needs) (λ c. search needs) (λ c κs. search needs) returns)

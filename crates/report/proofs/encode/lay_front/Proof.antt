@@ -21,30 +21,6 @@ shaped c =
     let good = c .good .1 .0 in
     record { slots = unmapped _ (r .slots) 16 (good .1 .1 .1 .1 .1 .1 .0 .1 .0 .1); text = length-unmapped _ (r .text) 18 (good .1 .1 .1 .1 .1 .1 .1 .0 .1 .0 .1) }
 
-fields-requires : tie.Need-fields-requires
-fields-requires c κs = search needs
-
-cast-put : tie.Need-cast-put
-cast-put c = search needs
-
-put-requires : tie.Need-put-requires
-put-requires c κs = search needs
-
-lay-common-requires : tie.Need-lay-common-requires
-lay-common-requires c κs = search needs
-
-lay-body-requires : tie.Need-lay-body-requires
-lay-body-requires c κs = search needs
-
-put-requires-2 : tie.Need-put-requires-2
-put-requires-2 c κs = search needs
-
-cast-put-2 : tie.Need-cast-put-2
-cast-put-2 c = search needs
-
-put-requires-3 : tie.Need-put-requires-3
-put-requires-3 c κs = search needs
-
 returns : tie.Need-returns
 returns c =
     let w = c .before .before in
@@ -64,14 +40,4 @@ returns c =
 
 pub lay-front-spec : {M : Type 1} → statement M
 lay-front-spec =
-    tie.close
-    (tie.spec
-    fields-requires
-    cast-put
-    put-requires
-    lay-common-requires
-    lay-body-requires
-    put-requires-2
-    cast-put-2
-    put-requires-3
-    returns)
+    tie.close (tie.spec (λ c κs. search needs) (λ c. search needs) (λ c κs. search needs) (λ c κs. search needs) (λ c κs. search needs) (λ c κs. search needs) (λ c. search needs) (λ c κs. search needs) returns)

@@ -3,9 +3,6 @@ use borrow.Author.Needs.{needs}
 use Rattle.report.proofs.encode.lay_page.Statement.{statement}
 use Rattle.report.proofs.encode.lay_page.Tie as tie
 
-lay-text-requires : tie.Need-lay-text-requires
-lay-text-requires c κs = search needs
-
 returns : tie.Need-returns
 returns c = simp (c .before .if1 .taken, c .lay-text .ensures)
 
@@ -13,4 +10,4 @@ returns-2 : tie.Need-returns-2
 returns-2 c = simp (c .if1 .left)
 
 pub lay-page-spec : {M : Type 1} → statement M
-lay-page-spec = tie.close (tie.spec lay-text-requires returns returns-2)
+lay-page-spec = tie.close (tie.spec (λ c κs. search needs) returns returns-2)

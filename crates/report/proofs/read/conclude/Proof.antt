@@ -6,12 +6,6 @@ use Rattle.report.proofs.read.conclude.Tie as tie
 enum-told : tie.Need-enum-told
 enum-told c = search needs
 
-enum-told-2 : tie.Need-enum-told-2
-enum-told-2 c = search needs
-
-of-zeros-requires : tie.Need-of-zeros-requires
-of-zeros-requires c κs = search needs
-
 returns : tie.Need-returns
 returns c = simp (c .enum-told .given .1)
 
@@ -19,4 +13,4 @@ returns-2 : tie.Need-returns-2
 returns-2 c = simp (c .before .enum-told2 .given .1, c .of-zeros .ensures)
 
 pub conclude-spec : {M : Type 1} → statement M
-conclude-spec = tie.close (tie.spec enum-told enum-told-2 of-zeros-requires returns returns-2)
+conclude-spec = tie.close (tie.spec enum-told (λ c. search needs) (λ c κs. search needs) returns returns-2)

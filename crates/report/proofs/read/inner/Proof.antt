@@ -8,24 +8,6 @@ use Rattle.report.proofs.Reading.Agree.{judged, outer}
 use Rattle.report.specs.Records.{recordOf, recordAs}
 use Rattle.report.proofs.read.inner.Tie as tie
 
-of-requires : tie.Need-of-requires
-of-requires c κs = search needs
-
-field8-requires : tie.Need-field8-requires
-field8-requires c κs = search needs
-
-field8-requires-2 : tie.Need-field8-requires-2
-field8-requires-2 c κs = search needs
-
-of-requires-2 : tie.Need-of-requires-2
-of-requires-2 c κs = search needs
-
-check-requires : tie.Need-check-requires
-check-requires c κs = search needs
-
-conclude-requires : tie.Need-conclude-requires
-conclude-requires c κs = search needs
-
 returns : tie.Need-returns
 unfolding recordAs
 returns c =
@@ -45,12 +27,4 @@ returns c =
 
 pub inner-spec : {M : Type 1} → statement M
 inner-spec =
-    tie.close
-    (tie.spec
-    of-requires
-    field8-requires
-    field8-requires-2
-    of-requires-2
-    check-requires
-    conclude-requires
-    returns)
+    tie.close (tie.spec (λ c κs. search needs) (λ c κs. search needs) (λ c κs. search needs) (λ c κs. search needs) (λ c κs. search needs) (λ c κs. search needs) returns)

@@ -11,48 +11,6 @@ use Rattle.report.proofs.read.outer.Statement.{statement}
 use Rattle.report.specs.Categories.{categories, preambles}
 use Rattle.report.proofs.read.outer.Tie as tie
 
-field8-requires : tie.Need-field8-requires
-field8-requires c κs = search needs
-
-unless-requires : tie.Need-unless-requires
-unless-requires c κs = search needs
-
-field8-requires-2 : tie.Need-field8-requires-2
-field8-requires-2 c κs = search needs
-
-is-preamble-requires : tie.Need-is-preamble-requires
-is-preamble-requires c κs = search needs
-
-unless-requires-2 : tie.Need-unless-requires-2
-unless-requires-2 c κs = search needs
-
-parity-right-requires : tie.Need-parity-right-requires
-parity-right-requires c κs = search needs
-
-unless-requires-3 : tie.Need-unless-requires-3
-unless-requires-3 c κs = search needs
-
-field8-requires-3 : tie.Need-field8-requires-3
-field8-requires-3 c κs = search needs
-
-unless-requires-4 : tie.Need-unless-requires-4
-unless-requires-4 c κs = search needs
-
-field8-requires-4 : tie.Need-field8-requires-4
-field8-requires-4 c κs = search needs
-
-unless-requires-5 : tie.Need-unless-requires-5
-unless-requires-5 c κs = search needs
-
-field8-requires-5 : tie.Need-field8-requires-5
-field8-requires-5 c κs = search needs
-
-is-category-requires : tie.Need-is-category-requires
-is-category-requires c κs = search needs
-
-unless-requires-6 : tie.Need-unless-requires-6
-unless-requires-6 c κs = search needs
-
 returns : tie.Need-returns
 unfolding outerOf
 returns c =
@@ -72,20 +30,4 @@ returns c =
 
 pub outer-spec : {M : Type 1} → statement M
 outer-spec =
-    tie.close
-    (tie.spec
-    field8-requires
-    unless-requires
-    field8-requires-2
-    is-preamble-requires
-    unless-requires-2
-    parity-right-requires
-    unless-requires-3
-    field8-requires-3
-    unless-requires-4
-    field8-requires-4
-    unless-requires-5
-    field8-requires-5
-    is-category-requires
-    unless-requires-6
-    returns)
+    tie.close (tie.spec (λ c κs. search needs) (λ c κs. search needs) (λ c κs. search needs) (λ c κs. search needs) (λ c κs. search needs) (λ c κs. search needs) (λ c κs. search needs) (λ c κs. search needs) (λ c κs. search needs) (λ c κs. search needs) (λ c κs. search needs) (λ c κs. search needs) (λ c κs. search needs) (λ c κs. search needs) returns)

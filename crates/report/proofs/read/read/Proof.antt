@@ -6,37 +6,16 @@ use mathlib.Core.Path.{sym, _∙_}
 use Rattle.report.proofs.read.read.Statement.{statement}
 use Rattle.report.proofs.read.read.Tie as tie
 
-of-zeros-requires : tie.Need-of-zeros-requires
-of-zeros-requires c κs = search needs
-
-conclude-requires : tie.Need-conclude-requires
-conclude-requires c κs = search needs
-
 returns : tie.Need-returns
 returns c =
     let i = c .before .before in
     not-a-frame (i .before .before .args .frame .now) (c .before .of-zeros .result) (c .conclude .result) (i .if1 .taken) (c .conclude .ensures)
-
-frame-of-requires : tie.Need-frame-of-requires
-frame-of-requires c κs = search needs
-
-outer-requires : tie.Need-outer-requires
-outer-requires c κs = search needs
 
 enum-told : tie.Need-enum-told
 enum-told c = search needs
 
 inner-requires : tie.Need-inner-requires
 inner-requires c κs = sym (c .before .before .outer .ensures) ∙ c .enum-told .given .1
-
-enum-told-2 : tie.Need-enum-told-2
-enum-told-2 c = search needs
-
-of-zeros-requires-2 : tie.Need-of-zeros-requires-2
-of-zeros-requires-2 c κs = search needs
-
-conclude-requires-2 : tie.Need-conclude-requires-2
-conclude-requires-2 c κs = search needs
 
 returns-2 : tie.Need-returns-2
 returns-2 c =
@@ -55,17 +34,4 @@ returns-3 c =
 
 pub read-spec : {M : Type 1} → statement M
 read-spec =
-    tie.close
-    (tie.spec
-    of-zeros-requires
-    conclude-requires
-    returns
-    frame-of-requires
-    outer-requires
-    enum-told
-    inner-requires
-    enum-told-2
-    of-zeros-requires-2
-    conclude-requires-2
-    returns-2
-    returns-3)
+    tie.close (tie.spec (λ c κs. search needs) (λ c κs. search needs) returns (λ c κs. search needs) (λ c κs. search needs) enum-told inner-requires (λ c. search needs) (λ c κs. search needs) (λ c κs. search needs) returns-2 returns-3)

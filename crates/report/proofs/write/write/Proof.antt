@@ -6,9 +6,6 @@ use mathlib.Core.Path.{sym, _∙_}
 use Rattle.report.proofs.write.write.Statement.{statement}
 use Rattle.report.proofs.write.write.Tie as tie
 
-write-answer-requires : tie.Need-write-answer-requires
-write-answer-requires c κs = search needs
-
 enum-told : tie.Need-enum-told
 enum-told c = search needs
 
@@ -16,15 +13,6 @@ encode-requires : tie.Need-encode-requires
 encode-requires c κs =
     let a = c .before .before in
     fine-valid (a .before .before .args .r) _ (a .write-answer .result) (a .write-answer .ensures) (c .enum-told .given .1)
-
-copy-to-requires : tie.Need-copy-to-requires
-copy-to-requires c κs = search needs
-
-enum-told-2 : tie.Need-enum-told-2
-enum-told-2 c = search needs
-
-same-length : tie.Need-same-length
-same-length c = search needs
 
 returns : tie.Need-returns
 returns c =
@@ -44,13 +32,4 @@ returns-2 c =
 
 pub write-spec : {M : Type 1} → statement M
 write-spec =
-    tie.close
-    (tie.spec
-    write-answer-requires
-    enum-told
-    encode-requires
-    copy-to-requires
-    enum-told-2
-    same-length
-    returns
-    returns-2)
+    tie.close (tie.spec (λ c κs. search needs) enum-told encode-requires (λ c κs. search needs) (λ c. search needs) (λ c. search needs) returns returns-2)

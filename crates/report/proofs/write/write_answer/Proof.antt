@@ -14,33 +14,6 @@ use Rattle.report.specs.Runs.Writing.{writeAnswer}
 use Rattle.report.specs.Categories.{layout}
 use Rattle.report.proofs.write.write_answer.Tie as tie
 
-fields-requires : tie.Need-fields-requires
-fields-requires c κs = search needs
-
-unless-requires : tie.Need-unless-requires
-unless-requires c κs = search needs
-
-is-preamble-requires : tie.Need-is-preamble-requires
-is-preamble-requires c κs = search needs
-
-unless-requires-2 : tie.Need-unless-requires-2
-unless-requires-2 c κs = search needs
-
-unless-requires-3 : tie.Need-unless-requires-3
-unless-requires-3 c κs = search needs
-
-is-tidy-requires : tie.Need-is-tidy-requires
-is-tidy-requires c κs = search needs
-
-unless-requires-4 : tie.Need-unless-requires-4
-unless-requires-4 c κs = search needs
-
-check-requires : tie.Need-check-requires
-check-requires c κs = search needs
-
-then-requires : tie.Need-then-requires
-then-requires c κs = search needs
-
 returns : tie.Need-returns
 unfolding writeAnswer
 returns c =
@@ -61,15 +34,4 @@ returns c =
 
 pub write-answer-spec : {M : Type 1} → statement M
 write-answer-spec =
-    tie.close
-    (tie.spec
-    fields-requires
-    unless-requires
-    is-preamble-requires
-    unless-requires-2
-    unless-requires-3
-    is-tidy-requires
-    unless-requires-4
-    check-requires
-    then-requires
-    returns)
+    tie.close (tie.spec (λ c κs. search needs) (λ c κs. search needs) (λ c κs. search needs) (λ c κs. search needs) (λ c κs. search needs) (λ c κs. search needs) (λ c κs. search needs) (λ c κs. search needs) (λ c κs. search needs) returns)

@@ -32,33 +32,6 @@ returns c =
     sym (ap (slotsLaid (l .next) (l .at) (a .bits) (a .t5)) (none-left (a .count) (a .t6) (l .k) (omega arith)) ∙ all-laid (a .bits) (a .t5) (l .next) (l .at))
     ∙ l .inv .1 .1
 
-mul-s : tie.Need-mul-s Inv-loop μ-loop
-mul-s c = omega arith
-
-array-copy-out-s : tie.Need-array-copy-out-s Inv-loop μ-loop
-array-copy-out-s c = omega arith
-
-values-requires : tie.Need-values-requires Inv-loop μ-loop
-values-requires c κs = search needs
-
-slice-aggregate-lay : tie.Need-slice-aggregate-lay Inv-loop μ-loop
-slice-aggregate-lay c = search needs
-
-slice-aggregate-lay-2 : tie.Need-slice-aggregate-lay-2 Inv-loop μ-loop
-slice-aggregate-lay-2 c = search needs
-
-lay-requires : tie.Need-lay-requires Inv-loop μ-loop
-lay-requires c κs = search needs
-
-add-at : tie.Need-add-at Inv-loop μ-loop
-add-at c = omega arith
-
-add-k : tie.Need-add-k Inv-loop μ-loop
-add-k c = omega arith
-
-loop-less : tie.Need-loop-less Inv-loop μ-loop
-loop-less c = omega arith
-
 loop-again : tie.Need-loop-again Inv-loop μ-loop
 loop-again c =
     let v = c .before .before .before in
@@ -87,20 +60,4 @@ returns-2 c =
 
 pub lay-slots-spec : {M : Type 1} → statement M
 lay-slots-spec =
-    tie.close
-    (tie.spec
-    Inv-loop
-    μ-loop
-    loop-holds
-    returns
-    mul-s
-    array-copy-out-s
-    values-requires
-    slice-aggregate-lay
-    slice-aggregate-lay-2
-    lay-requires
-    add-at
-    add-k
-    loop-less
-    loop-again
-    returns-2)
+    tie.close (tie.spec Inv-loop μ-loop loop-holds returns (λ c. omega arith) (λ c. omega arith) (λ c κs. search needs) (λ c. search needs) (λ c. search needs) (λ c κs. search needs) (λ c. omega arith) (λ c. omega arith) (λ c. omega arith) loop-again returns-2)

@@ -31,33 +31,12 @@ loop-holds c =
     let all : c .args .count - 0 ≡ c .args .count = omega arith in
     (omega arith, ap (λ (n : ℕ). tidySlots (c .args .widths) n (c .args .t3)) all)
 
-mul-s : tie.Need-mul-s Inv-loop μ-loop
-mul-s c = omega arith
-
-array-copy-out-s : tie.Need-array-copy-out-s Inv-loop μ-loop
-array-copy-out-s c = omega arith
-
-widths-in-requires : tie.Need-widths-in-requires Inv-loop μ-loop
-widths-in-requires c κs = search needs
-
-values-requires : tie.Need-values-requires Inv-loop μ-loop
-values-requires c κs = search needs
-
-is-vacant-requires : tie.Need-is-vacant-requires Inv-loop μ-loop
-is-vacant-requires c κs = search needs
-
 returns : tie.Need-returns Inv-loop μ-loop
 returns c =
     let j = c .before in
     let l = j .before .before .before .before .before in
     let a = l .before .args in
     sym (not-tidy (a .widths) (a .count) (a .t3) (l .loop .i) (omega (arith, sixteen (l .before))) (sym (judged j) ∙ not-true _ (c .if1 .taken))) ∙ l .loop .inv .1
-
-add-i : tie.Need-add-i Inv-loop μ-loop
-add-i c = omega arith
-
-loop-less : tie.Need-loop-less Inv-loop μ-loop
-loop-less c = omega arith
 
 loop-again : tie.Need-loop-again Inv-loop μ-loop
 loop-again c =
@@ -74,18 +53,4 @@ returns-2 c =
 
 pub are-tidy-spec : {M : Type 1} → statement M
 are-tidy-spec =
-    tie.close
-    (tie.spec
-    Inv-loop
-    μ-loop
-    loop-holds
-    mul-s
-    array-copy-out-s
-    widths-in-requires
-    values-requires
-    is-vacant-requires
-    returns
-    add-i
-    loop-less
-    loop-again
-    returns-2)
+    tie.close (tie.spec Inv-loop μ-loop loop-holds (λ c. omega arith) (λ c. omega arith) (λ c κs. search needs) (λ c κs. search needs) (λ c κs. search needs) returns (λ c. omega arith) (λ c. omega arith) loop-again returns-2)

@@ -29,14 +29,8 @@ loop-holds c = (omega arith, refl)
 array-read-is-held : tie.Need-array-read-is-held Inv-loop μ-loop
 array-read-is-held c = omega (arith, five-widths (c .before .before))
 
-mul-is-held : tie.Need-mul-is-held Inv-loop μ-loop
-mul-is-held c = omega arith
-
 array-read-is-held-2 : tie.Need-array-read-is-held-2 Inv-loop μ-loop
 array-read-is-held-2 c = omega (arith, five-values (c .before .before))
-
-is-held-requires : tie.Need-is-held-requires Inv-loop μ-loop
-is-held-requires c κs = search needs
 
 returns : tie.Need-returns Inv-loop μ-loop
 returns c =
@@ -45,12 +39,6 @@ returns c =
     let s = i .before .before in
     let l = i .before .loop in
     sym (not-vacant (s .args .t1) (s .args .t2) (l .i) (omega (arith, five-widths s)) (omega (arith, five-values s)) (sym (h .is-held .ensures) ∙ not-true _ (c .if1 .taken))) ∙ l .inv .1
-
-add-i : tie.Need-add-i Inv-loop μ-loop
-add-i c = omega arith
-
-loop-less : tie.Need-loop-less Inv-loop μ-loop
-loop-less c = omega arith
 
 loop-again : tie.Need-loop-again Inv-loop μ-loop
 loop-again c =
@@ -68,17 +56,4 @@ returns-2 c =
 
 pub is-vacant-spec : {M : Type 1} → statement M
 is-vacant-spec =
-    tie.close
-    (tie.spec
-    Inv-loop
-    μ-loop
-    loop-holds
-    array-read-is-held
-    mul-is-held
-    array-read-is-held-2
-    is-held-requires
-    returns
-    add-i
-    loop-less
-    loop-again
-    returns-2)
+    tie.close (tie.spec Inv-loop μ-loop loop-holds array-read-is-held (λ c. omega arith) array-read-is-held-2 (λ c κs. search needs) returns (λ c. omega arith) (λ c. omega arith) loop-again returns-2)

@@ -27,27 +27,6 @@ absent-requires c κs = tt
 loop-holds : tie.Need-loop-holds Inv-loop μ-loop
 loop-holds c = (omega arith, (refl, ap (λ (p : Page). replicate 63 p) (c .absent .ensures)))
 
-mul-page-at : tie.Need-mul-page-at Inv-loop μ-loop
-mul-page-at c = omega arith
-
-add-page-at : tie.Need-add-page-at Inv-loop μ-loop
-add-page-at c = omega arith
-
-page-at-requires : tie.Need-page-at-requires Inv-loop μ-loop
-page-at-requires c κs = omega arith
-
-mul-pages : tie.Need-mul-pages Inv-loop μ-loop
-mul-pages c = omega arith
-
-array-set-from-pages : tie.Need-array-set-from-pages Inv-loop μ-loop
-array-set-from-pages c = omega arith
-
-add-k : tie.Need-add-k Inv-loop μ-loop
-add-k c = omega arith
-
-loop-less : tie.Need-loop-less Inv-loop μ-loop
-loop-less c = omega arith
-
 loop-again : tie.Need-loop-again Inv-loop μ-loop
 loop-again c =
     let l = c .before .before .loop in
@@ -68,18 +47,4 @@ returns c =
 
 pub pages-of-spec : {M : Type 1} → statement M
 pages-of-spec =
-    tie.close
-    (tie.spec
-    Inv-loop
-    μ-loop
-    absent-requires
-    loop-holds
-    mul-page-at
-    add-page-at
-    page-at-requires
-    mul-pages
-    array-set-from-pages
-    add-k
-    loop-less
-    loop-again
-    returns)
+    tie.close (tie.spec Inv-loop μ-loop absent-requires loop-holds (λ c. omega arith) (λ c. omega arith) (λ c κs. omega arith) (λ c. omega arith) (λ c. omega arith) (λ c. omega arith) (λ c. omega arith) loop-again returns)

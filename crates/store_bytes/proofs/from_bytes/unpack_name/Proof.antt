@@ -5,19 +5,13 @@ use borrow.Author.Needs.{needs}
 use Rattle.store_bytes.proofs.from_bytes.unpack_name.Statement.{statement}
 use Rattle.store_bytes.proofs.from_bytes.unpack_name.Tie as tie
 
-of-zeros-requires : tie.Need-of-zeros-requires
-of-zeros-requires c κs = search needs
-
 returns : tie.Need-returns
 unfolding nameOrZeros
 returns c = simp (ne-eqb _ 8 (c .before .if1 .taken), c .of-zeros .ensures)
-
-name-of-requires : tie.Need-name-of-requires
-name-of-requires c κs = search needs
 
 returns-2 : tie.Need-returns-2
 unfolding nameOrZeros
 returns-2 c = simp (eq-eqb _ 8 (c .before .if1 .left), c .name-of .ensures)
 
 pub unpack-name-spec : {M : Type 1} → statement M
-unpack-name-spec = tie.close (tie.spec of-zeros-requires returns name-of-requires returns-2)
+unpack-name-spec = tie.close (tie.spec (λ c κs. search needs) returns (λ c κs. search needs) returns-2)

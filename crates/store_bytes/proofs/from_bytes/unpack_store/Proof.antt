@@ -5,18 +5,9 @@ use borrow.Author.Needs.{needs}
 use Rattle.store_bytes.proofs.from_bytes.unpack_store.Statement.{statement}
 use Rattle.store_bytes.proofs.from_bytes.unpack_store.Tie as tie
 
-of-zeros-requires : tie.Need-of-zeros-requires
-of-zeros-requires c κs = search needs
-
 returns : tie.Need-returns
 unfolding storeOrZeros
 returns c = simp (ne-eqb _ 1205 (c .before .if1 .taken), c .of-zeros .ensures)
-
-pages-of-requires : tie.Need-pages-of-requires
-pages-of-requires c κs = search needs
-
-name-of-requires : tie.Need-name-of-requires
-name-of-requires c κs = search needs
 
 returns-2 : tie.Need-returns-2
 unfolding storeOrZeros
@@ -24,4 +15,4 @@ returns-2 c = simp (eq-eqb _ 1205 (c .before .before .if1 .left), c .name-of .en
 
 pub unpack-store-spec : {M : Type 1} → statement M
 unpack-store-spec =
-    tie.close (tie.spec of-zeros-requires returns pages-of-requires name-of-requires returns-2)
+    tie.close (tie.spec (λ c κs. search needs) returns (λ c κs. search needs) (λ c κs. search needs) returns-2)

@@ -9,15 +9,6 @@ use borrow.Author.Needs.{needs}
 use Rattle.store_bytes.proofs.to_bytes.pack_store.Statement.{statement}
 use Rattle.store_bytes.proofs.to_bytes.pack_store.Tie as tie
 
-put-name-requires : tie.Need-put-name-requires
-put-name-requires c κs = search needs
-
-put-pages-requires : tie.Need-put-pages-requires
-put-pages-requires c κs = search needs
-
-same-length : tie.Need-same-length
-same-length c = search needs
-
 returns : tie.Need-returns
 returns c =
     let pages = c .before .before in
@@ -34,4 +25,4 @@ returns-2 c = other-length _ _ (c .if1 .left)
 
 pub pack-store-spec : {M : Type 1} → statement M
 pack-store-spec =
-    tie.close (tie.spec put-name-requires put-pages-requires same-length returns returns-2)
+    tie.close (tie.spec (λ c κs. search needs) (λ c κs. search needs) (λ c. search needs) returns returns-2)

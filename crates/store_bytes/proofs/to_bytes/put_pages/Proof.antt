@@ -26,30 +26,12 @@ loop-holds : tie.Need-loop-holds Inv-loop μ-loop
 unfolding pagesBytes
 loop-holds c = (omega arith, refl, nothing _ _)
 
-mul-page : tie.Need-mul-page Inv-loop μ-loop
-mul-page c = search needs
-
-element-copy-out-page : tie.Need-element-copy-out-page Inv-loop μ-loop
-element-copy-out-page c = search needs
-
-put-page-requires : tie.Need-put-page-requires Inv-loop μ-loop
-put-page-requires c κs = search needs
-
-add-k : tie.Need-add-k Inv-loop μ-loop
-add-k c = search needs
-
-loop-less : tie.Need-loop-less Inv-loop μ-loop
-loop-less c = search needs
-
 loop-again : tie.Need-loop-again Inv-loop μ-loop
 loop-again c =
     let put = c .before .before in
     let l = put .before .before .before .before .loop in
     let s = put .before .before .before .before .before .before in
     (omega arith, put .put-page .kept .0 ∙ l .inv .1, page-more (l .k) (s .args .t3 .pages) (omega (arith, size s)) (l .inv .2) (put .put-page .ensures))
-
-same-length : tie.Need-same-length Inv-loop μ-loop
-same-length c = search needs
 
 returns : tie.Need-returns Inv-loop μ-loop
 returns c =
@@ -59,16 +41,4 @@ returns c =
 
 pub put-pages-spec : {M : Type 1} → statement M
 put-pages-spec =
-    tie.close
-    (tie.spec
-    Inv-loop
-    μ-loop
-    loop-holds
-    mul-page
-    element-copy-out-page
-    put-page-requires
-    add-k
-    loop-less
-    loop-again
-    same-length
-    returns)
+    tie.close (tie.spec Inv-loop μ-loop loop-holds (λ c. search needs) (λ c. search needs) (λ c κs. search needs) (λ c. search needs) (λ c. search needs) loop-again (λ c. search needs) returns)

@@ -7,9 +7,6 @@ use native.Mathlib.Omega.{arith}
 use Rattle.ash_fall.proofs.meaning.Prefecture.of.Statement.{statement}
 use Rattle.ash_fall.proofs.meaning.Prefecture.of.Tie as tie
 
-cast-t5 : tie.Need-cast-t5
-cast-t5 c = search needs
-
 returns : tie.Need-returns
 unfolding prefectureOf
 returns c = simp (le-leb 110000 _ (c .before .if1 .left), le-leb (c .before .before .args .place) 4799999 (omega arith))
@@ -25,4 +22,4 @@ returns-3 c =
     simp (le-leb 110000 _ (c .before .if1 .left), lt-leb _ 4799999 high)
 
 pub of-spec : {M : Type 1} → statement M
-of-spec = tie.close (tie.spec cast-t5 returns returns-2 returns-3)
+of-spec = tie.close (tie.spec (λ c. search needs) returns returns-2 returns-3)

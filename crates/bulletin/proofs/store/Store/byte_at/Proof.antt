@@ -9,15 +9,6 @@ use borrow.Author.Needs.{needs}
 use Rattle.bulletin.proofs.store.Store.byte_at.Statement.{statement}
 use Rattle.bulletin.proofs.store.Store.byte_at.Tie as tie
 
-mul-page : tie.Need-mul-page
-mul-page c = search needs
-
-element-copy-out-page : tie.Need-element-copy-out-page
-element-copy-out-page c = search needs
-
-array-read-result : tie.Need-array-read-result
-array-read-result c = search needs
-
 returns : tie.Need-returns
 returns c = let s = c .before .before in
     let g = s .good .0 .1 .1 .1 .0 .1 in
@@ -27,4 +18,4 @@ returns c = let s = c .before .before in
     getD-flat l (s .args .k) eighteen (omega arith)
 
 pub byte-at-spec : {M : Type 1} → statement M
-byte-at-spec = tie.close (tie.spec mul-page element-copy-out-page array-read-result returns)
+byte-at-spec = tie.close (tie.spec (λ c. search needs) (λ c. search needs) (λ c. search needs) returns)

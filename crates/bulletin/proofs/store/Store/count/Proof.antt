@@ -5,18 +5,6 @@ use borrow.Author.Needs.{needs}
 use Rattle.bulletin.proofs.store.Store.count.Statement.{statement}
 use Rattle.bulletin.proofs.store.Store.count.Tie as tie
 
-is-sound-requires : tie.Need-is-sound-requires
-is-sound-requires c κs = search needs
-
-marked-requires : tie.Need-marked-requires
-marked-requires c κs = search needs
-
-marked-requires-2 : tie.Need-marked-requires-2
-marked-requires-2 c κs = search needs
-
-lowest-requires : tie.Need-lowest-requires
-lowest-requires c κs = search needs
-
 returns : tie.Need-returns
 unfolding countOf
 returns c = let t = c .before .before .before in
@@ -28,11 +16,4 @@ returns-2 c = simp (sym (c .before .is-sound .ensures) ∙ c .if1 .left)
 
 pub count-spec : {M : Type 1} → statement M
 count-spec =
-    tie.close
-    (tie.spec
-    is-sound-requires
-    marked-requires
-    marked-requires-2
-    lowest-requires
-    returns
-    returns-2)
+    tie.close (tie.spec (λ c κs. search needs) (λ c κs. search needs) (λ c κs. search needs) (λ c κs. search needs) returns returns-2)

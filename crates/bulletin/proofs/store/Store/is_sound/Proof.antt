@@ -20,24 +20,12 @@ abbrev μ-loop : tie.MeasureT-loop
 long-of : (c : tie.Start Inv-loop μ-loop) → length (c .args .t1 .pages) ≡ 63
 long-of c = unmapped _ (c .args .t1 .pages) 63 (c .good .0 .1 .1 .1 .0 .1 .0 .1)
 
-is-in-range-requires : tie.Need-is-in-range-requires Inv-loop μ-loop
-is-in-range-requires c κs = search needs
-
 returns : tie.Need-returns Inv-loop μ-loop
 unfolding soundStore
 returns c = simp (sym (c .before .is-in-range .ensures) ∙ not-true _ (c .if1 .taken))
 
 loop-holds : tie.Need-loop-holds Inv-loop μ-loop
 loop-holds c = (omega arith, refl)
-
-mul-page : tie.Need-mul-page Inv-loop μ-loop
-mul-page c = search needs
-
-element-copy-out-page : tie.Need-element-copy-out-page Inv-loop μ-loop
-element-copy-out-page c = search needs
-
-is-sound-at-requires : tie.Need-is-sound-at-requires Inv-loop μ-loop
-is-sound-at-requires c κs = search needs
 
 returns-2 : tie.Need-returns-2 Inv-loop μ-loop
 unfolding soundStore
@@ -47,12 +35,6 @@ returns-2 c = let l = c .before .before .before .before in
     let long = long-of s in
     simp (sym (e .before .is-in-range .ensures) ∙ not-false _ (e .if1 .left))
     (sym (sound-stop (s .args .t1 .name .total) (s .args .t1 .pages) (l .loop .i) (omega arith) (sym (c .before .is-sound-at .ensures) ∙ not-true _ (c .if2 .taken))) ∙ l .loop .inv .1)
-
-add-i : tie.Need-add-i Inv-loop μ-loop
-add-i c = search needs
-
-loop-less : tie.Need-loop-less Inv-loop μ-loop
-loop-less c = search needs
 
 loop-again : tie.Need-loop-again Inv-loop μ-loop
 loop-again c = let l = c .before .before .before .before in
@@ -71,18 +53,4 @@ returns-3 c = let l = c .before in
 
 pub is-sound-spec : {M : Type 1} → statement M
 is-sound-spec =
-    tie.close
-    (tie.spec
-    Inv-loop
-    μ-loop
-    is-in-range-requires
-    returns
-    loop-holds
-    mul-page
-    element-copy-out-page
-    is-sound-at-requires
-    returns-2
-    add-i
-    loop-less
-    loop-again
-    returns-3)
+    tie.close (tie.spec Inv-loop μ-loop (λ c κs. search needs) returns loop-holds (λ c. search needs) (λ c. search needs) (λ c κs. search needs) returns-2 (λ c. search needs) (λ c. search needs) loop-again returns-3)

@@ -18,33 +18,6 @@ abbrev μ-loop : tie.MeasureT-loop
 loop-holds : tie.Need-loop-holds Inv-loop μ-loop
 loop-holds c = (omega arith, refl, joining-none _ _)
 
-mul-mine : tie.Need-mul-mine Inv-loop μ-loop
-mul-mine c = search needs
-
-element-copy-out-mine : tie.Need-element-copy-out-mine Inv-loop μ-loop
-element-copy-out-mine c = search needs
-
-mul-join : tie.Need-mul-join Inv-loop μ-loop
-mul-join c = search needs
-
-element-copy-out-join : tie.Need-element-copy-out-join Inv-loop μ-loop
-element-copy-out-join c = search needs
-
-join-requires : tie.Need-join-requires Inv-loop μ-loop
-join-requires c κs = search needs
-
-mul-page : tie.Need-mul-page Inv-loop μ-loop
-mul-page c = search needs
-
-element-set-from-page : tie.Need-element-set-from-page Inv-loop μ-loop
-element-set-from-page c = search needs
-
-add-i : tie.Need-add-i Inv-loop μ-loop
-add-i c = search needs
-
-loop-less : tie.Need-loop-less Inv-loop μ-loop
-loop-less c = search needs
-
 loop-again : tie.Need-loop-again Inv-loop μ-loop
 loop-again c = let a = c .before .before .before .before in
     let s = a .before in
@@ -64,19 +37,4 @@ returns c = let a = c .before in
 
 pub joined-spec : {M : Type 1} → statement M
 joined-spec =
-    tie.close
-    (tie.spec
-    Inv-loop
-    μ-loop
-    loop-holds
-    mul-mine
-    element-copy-out-mine
-    mul-join
-    element-copy-out-join
-    join-requires
-    mul-page
-    element-set-from-page
-    add-i
-    loop-less
-    loop-again
-    returns)
+    tie.close (tie.spec Inv-loop μ-loop loop-holds (λ c. search needs) (λ c. search needs) (λ c. search needs) (λ c. search needs) (λ c κs. search needs) (λ c. search needs) (λ c. search needs) (λ c. search needs) (λ c. search needs) loop-again returns)

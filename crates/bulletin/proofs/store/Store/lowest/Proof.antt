@@ -19,9 +19,6 @@ abbrev μ-loop : tie.MeasureT-loop
 long : (c : tie.Start Inv-loop μ-loop) → length (c .args .t1 .pages) ≡ 63
 long c = unmapped _ (c .args .t1 .pages) 63 (c .good .0 .1 .1 .1 .0 .1 .0 .1)
 
-cast-total : tie.Need-cast-total Inv-loop μ-loop
-cast-total c = search needs
-
 loop-holds : tie.Need-loop-holds Inv-loop μ-loop
 loop-holds c = (omega arith, refl)
 
@@ -30,29 +27,11 @@ returns c = let a = c .before .before in
     let s = a .before .before .before in
     sym (lowest-past (s .args .t1 .name .total) (drop (a .loop .i) (s .args .t1 .pages)) (a .loop .i) (c .if1 .taken)) ∙ a .loop .inv .1
 
-mul-page : tie.Need-mul-page Inv-loop μ-loop
-mul-page c = search needs
-
-element-copy-out-page : tie.Need-element-copy-out-page Inv-loop μ-loop
-element-copy-out-page c = search needs
-
-add-result : tie.Need-add-result Inv-loop μ-loop
-add-result c = search needs
-
-cast-result : tie.Need-cast-result Inv-loop μ-loop
-cast-result c = search needs
-
 returns-2 : tie.Need-returns-2 Inv-loop μ-loop
 returns-2 c = let a = c .before .before .before .before .before in
     let s = a .before .before .before in
     let size = long s in
     sym (lowest-here (s .args .t1 .name .total) (s .args .t1 .pages) (a .loop .i) (omega arith) (omega arith) (c .if2 .taken)) ∙ a .loop .inv .1
-
-add-i : tie.Need-add-i Inv-loop μ-loop
-add-i c = search needs
-
-loop-less : tie.Need-loop-less Inv-loop μ-loop
-loop-less c = search needs
 
 loop-again : tie.Need-loop-again Inv-loop μ-loop
 loop-again c = let a = c .before .before .before .before .before in
@@ -68,19 +47,4 @@ returns-3 c = let a = c .before in
 
 pub lowest-spec : {M : Type 1} → statement M
 lowest-spec =
-    tie.close
-    (tie.spec
-    Inv-loop
-    μ-loop
-    cast-total
-    loop-holds
-    returns
-    mul-page
-    element-copy-out-page
-    add-result
-    cast-result
-    returns-2
-    add-i
-    loop-less
-    loop-again
-    returns-3)
+    tie.close (tie.spec Inv-loop μ-loop (λ c. search needs) loop-holds returns (λ c. search needs) (λ c. search needs) (λ c. search needs) (λ c. search needs) returns-2 (λ c. search needs) (λ c. search needs) loop-again returns-3)

@@ -20,24 +20,6 @@ abbrev μ-loop : tie.MeasureT-loop
 long : (c : tie.Start Inv-loop μ-loop) → length (c .args .t1 .pages) ≡ 63
 long c = unmapped _ (c .args .t1 .pages) 63 (c .good .0 .1 .1 .1 .0 .1 .0 .1)
 
-loop-holds : tie.Need-loop-holds Inv-loop μ-loop
-loop-holds c = search needs
-
-mul-page : tie.Need-mul-page Inv-loop μ-loop
-mul-page c = search needs
-
-element-copy-out-page : tie.Need-element-copy-out-page Inv-loop μ-loop
-element-copy-out-page c = search needs
-
-add-n : tie.Need-add-n Inv-loop μ-loop
-add-n c = search needs
-
-add-i : tie.Need-add-i Inv-loop μ-loop
-add-i c = search needs
-
-loop-less : tie.Need-loop-less Inv-loop μ-loop
-loop-less c = search needs
-
 loop-again : tie.Need-loop-again Inv-loop μ-loop
 loop-again c = let a = c .before .before .before .before in
     let s = a .before in
@@ -55,15 +37,4 @@ returns c = let s = c .before .before in
 
 pub marked-spec : {M : Type 1} → statement M
 marked-spec =
-    tie.close
-    (tie.spec
-    Inv-loop
-    μ-loop
-    loop-holds
-    mul-page
-    element-copy-out-page
-    add-n
-    add-i
-    loop-less
-    loop-again
-    returns)
+    tie.close (tie.spec Inv-loop μ-loop (λ c. search needs) (λ c. search needs) (λ c. search needs) (λ c. search needs) (λ c. search needs) (λ c. search needs) loop-again returns)

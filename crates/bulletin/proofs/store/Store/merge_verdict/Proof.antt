@@ -7,24 +7,6 @@ use borrow.Author.Needs.{needs}
 use Rattle.bulletin.proofs.store.Store.merge_verdict.Statement.{statement}
 use Rattle.bulletin.proofs.store.Store.merge_verdict.Tie as tie
 
-is-sound-requires : tie.Need-is-sound-requires
-is-sound-requires c κs = search needs
-
-unless-requires : tie.Need-unless-requires
-unless-requires c κs = search needs
-
-is-sound-requires-2 : tie.Need-is-sound-requires-2
-is-sound-requires-2 c κs = search needs
-
-unless-requires-2 : tie.Need-unless-requires-2
-unless-requires-2 c κs = search needs
-
-is-requires : tie.Need-is-requires
-is-requires c κs = search needs
-
-unless-requires-3 : tie.Need-unless-requires-3
-unless-requires-3 c κs = search needs
-
 returns : tie.Need-returns
 unfolding mergeVerdict
 returns c = let u2 = c .before .before in
@@ -36,12 +18,4 @@ returns c = let u2 = c .before .before in
 
 pub merge-verdict-spec : {M : Type 1} → statement M
 merge-verdict-spec =
-    tie.close
-    (tie.spec
-    is-sound-requires
-    unless-requires
-    is-sound-requires-2
-    unless-requires-2
-    is-requires
-    unless-requires-3
-    returns)
+    tie.close (tie.spec (λ c κs. search needs) (λ c κs. search needs) (λ c κs. search needs) (λ c κs. search needs) (λ c κs. search needs) (λ c κs. search needs) returns)

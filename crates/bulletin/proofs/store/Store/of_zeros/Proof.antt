@@ -6,14 +6,8 @@ use borrow.Author.Needs.{needs}
 use Rattle.bulletin.proofs.store.Store.of_zeros.Statement.{statement}
 use Rattle.bulletin.proofs.store.Store.of_zeros.Tie as tie
 
-of-zeros-requires : tie.Need-of-zeros-requires
-of-zeros-requires c κs = search needs
-
-without-pages-requires : tie.Need-without-pages-requires
-without-pages-requires c κs = search needs
-
 returns : tie.Need-returns
 returns c = c .without-pages .ensures ∙ ap (λ (n : Name). noPages n) (c .before .of-zeros .ensures)
 
 pub of-zeros-spec : {M : Type 1} → statement M
-of-zeros-spec = tie.close (tie.spec of-zeros-requires without-pages-requires returns)
+of-zeros-spec = tie.close (tie.spec (λ c κs. search needs) (λ c κs. search needs) returns)

@@ -4,20 +4,8 @@ use borrow.Author.Needs.{needs}
 use Rattle.bulletin.proofs.store.Store.open.Statement.{statement}
 use Rattle.bulletin.proofs.store.Store.open.Tie as tie
 
-verdict-requires : tie.Need-verdict-requires
-verdict-requires c κs = search needs
-
 enum-told : tie.Need-enum-told
 enum-told c = search needs
-
-without-pages-requires : tie.Need-without-pages-requires
-without-pages-requires c κs = search needs
-
-enum-told-2 : tie.Need-enum-told-2
-enum-told-2 c = search needs
-
-of-zeros-requires : tie.Need-of-zeros-requires
-of-zeros-requires c κs = search needs
 
 returns : tie.Need-returns
 returns c = let v = c .before .before .before in
@@ -29,12 +17,4 @@ returns-2 c = let v = c .before .before .before in
 
 pub open-spec : {M : Type 1} → statement M
 open-spec =
-    tie.close
-    (tie.spec
-    verdict-requires
-    enum-told
-    without-pages-requires
-    enum-told-2
-    of-zeros-requires
-    returns
-    returns-2)
+    tie.close (tie.spec (λ c κs. search needs) enum-told (λ c κs. search needs) (λ c. search needs) (λ c κs. search needs) returns returns-2)

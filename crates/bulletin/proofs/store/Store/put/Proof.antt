@@ -8,33 +8,6 @@ use borrow.Author.Needs.{needs}
 use Rattle.bulletin.proofs.store.Store.put.Statement.{statement}
 use Rattle.bulletin.proofs.store.Store.put.Tie as tie
 
-sub-i : tie.Need-sub-i
-sub-i c = search needs
-
-cast-i : tie.Need-cast-i
-cast-i c = search needs
-
-mul-before : tie.Need-mul-before
-mul-before c = search needs
-
-element-copy-out-before : tie.Need-element-copy-out-before
-element-copy-out-before c = search needs
-
-held-requires : tie.Need-held-requires
-held-requires c κs = search needs
-
-join-requires : tie.Need-join-requires
-join-requires c κs = search needs
-
-told-requires : tie.Need-told-requires
-told-requires c κs = search needs
-
-mul-after : tie.Need-mul-after
-mul-after c = search needs
-
-element-set-from-after : tie.Need-element-set-from-after
-element-set-from-after c = search needs
-
 returns : tie.Need-returns
 unfolding putPage
 returns c = let j = c .before in
@@ -46,15 +19,4 @@ returns c = let j = c .before in
 
 pub put-spec : {M : Type 1} → statement M
 put-spec =
-    tie.close
-    (tie.spec
-    sub-i
-    cast-i
-    mul-before
-    element-copy-out-before
-    held-requires
-    join-requires
-    told-requires
-    mul-after
-    element-set-from-after
-    returns)
+    tie.close (tie.spec (λ c. search needs) (λ c. search needs) (λ c. search needs) (λ c. search needs) (λ c κs. search needs) (λ c κs. search needs) (λ c κs. search needs) (λ c. search needs) (λ c. search needs) returns)

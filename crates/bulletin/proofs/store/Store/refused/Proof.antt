@@ -3,9 +3,6 @@ use borrow.Author.Needs.{needs}
 use Rattle.bulletin.proofs.store.Store.refused.Statement.{statement}
 use Rattle.bulletin.proofs.store.Store.refused.Tie as tie
 
-enum-known-verdict : tie.Need-enum-known-verdict
-enum-known-verdict c = search needs
-
 enum-told : tie.Need-enum-told
 enum-told c = search needs
 
@@ -16,4 +13,4 @@ returns-2 : tie.Need-returns-2
 returns-2 c = simp (c .enum-told .given .1)
 
 pub refused-spec : {M : Type 1} → statement M
-refused-spec = tie.close (tie.spec enum-known-verdict enum-told returns returns-2)
+refused-spec = tie.close (tie.spec (λ c. search needs) enum-told returns returns-2)

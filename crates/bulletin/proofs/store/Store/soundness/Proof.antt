@@ -7,15 +7,9 @@ use borrow.Author.Needs.{needs}
 use Rattle.bulletin.proofs.store.Store.soundness.Statement.{statement}
 use Rattle.bulletin.proofs.store.Store.soundness.Tie as tie
 
-is-sound-requires : tie.Need-is-sound-requires
-is-sound-requires c κs = search needs
-
-unless-requires : tie.Need-unless-requires
-unless-requires c κs = search needs
-
 returns : tie.Need-returns
 unfolding soundness
 returns c = asked _ _ _ _ _ (c .unless .ensures) (c .before .is-sound .ensures) ∙ fine-then _
 
 pub soundness-spec : {M : Type 1} → statement M
-soundness-spec = tie.close (tie.spec is-sound-requires unless-requires returns)
+soundness-spec = tie.close (tie.spec (λ c κs. search needs) (λ c κs. search needs) returns)

@@ -15,34 +15,13 @@ shaped : (c : tie.Start) → Shaped (c .args .came)
 shaped c =
     record { slots = unmapped _ (c .args .came .slots) 16 (c .good .1 .0 .1 .1 .1 .1 .1 .1 .0 .1 .0 .1); text = unmapped _ (c .args .came .text) 18 (c .good .1 .0 .1 .1 .1 .1 .1 .1 .1 .0 .1 .0 .1) }
 
-soundness-requires : tie.Need-soundness-requires
-soundness-requires c κs = search needs
-
 enum-told : tie.Need-enum-told
 enum-told c = search needs
-
-enum-told-2 : tie.Need-enum-told-2
-enum-told-2 c = search needs
-
-refused-requires : tie.Need-refused-requires
-refused-requires c κs = search needs
 
 returns : tie.Need-returns
 returns c = let e = c .before in
     let s = e .before .before in
     taken-refused _ _ (s .soundness .result) _ _ (e .enum-told2 .given .1) (c .refused .ensures) (unsound-store _ _ _ _ (s .soundness .ensures) (e .enum-told2 .given .1))
-
-write-answer-requires : tie.Need-write-answer-requires
-write-answer-requires c κs = search needs
-
-enum-told-3 : tie.Need-enum-told-3
-enum-told-3 c = search needs
-
-enum-told-4 : tie.Need-enum-told-4
-enum-told-4 c = search needs
-
-refused-requires-2 : tie.Need-refused-requires-2
-refused-requires-2 c κs = search needs
 
 returns-2 : tie.Need-returns-2
 returns-2 c = let e = c .before in
@@ -50,21 +29,6 @@ returns-2 c = let e = c .before in
     let f = w .before in
     let sound = sound-store _ _ (f .before .before .soundness .ensures) (f .enum-told .given .1) in
     taken-refused _ _ (w .write-answer .result) _ _ (e .enum-told4 .given .1) (c .refused2 .ensures) (unwritable _ _ _ _ sound (w .write-answer .ensures) (e .enum-told4 .given .1))
-
-admit-requires : tie.Need-admit-requires
-admit-requires c κs = search needs
-
-enum-known-admitted : tie.Need-enum-known-admitted
-enum-known-admitted c = search needs
-
-enum-told-5 : tie.Need-enum-told-5
-enum-told-5 c = search needs
-
-verdict-requires : tie.Need-verdict-requires
-verdict-requires c κs = search needs
-
-refused-requires-3 : tie.Need-refused-requires-3
-refused-requires-3 c κs = search needs
 
 -- what the last step answers is what admitting is
 admitted : (c : tie.After-admit) → c .admit .result ≡ admission (c .before .before .before .before .before .before .before .before .before .args .self) (c .before .before .before .before .before .before .before .before .before .args .came)
@@ -98,23 +62,4 @@ returns-4 c = let n = c .before .before in
 
 pub take-spec : {M : Type 1} → statement M
 take-spec =
-    tie.close
-    (tie.spec
-    soundness-requires
-    enum-told
-    enum-told-2
-    refused-requires
-    returns
-    write-answer-requires
-    enum-told-3
-    enum-told-4
-    refused-requires-2
-    returns-2
-    admit-requires
-    enum-known-admitted
-    enum-told-5
-    verdict-requires
-    refused-requires-3
-    returns-3
-    put-requires
-    returns-4)
+    tie.close (tie.spec (λ c κs. search needs) enum-told (λ c. search needs) (λ c κs. search needs) returns (λ c κs. search needs) (λ c. search needs) (λ c. search needs) (λ c κs. search needs) returns-2 (λ c κs. search needs) (λ c. search needs) (λ c. search needs) (λ c κs. search needs) (λ c κs. search needs) returns-3 put-requires returns-4)

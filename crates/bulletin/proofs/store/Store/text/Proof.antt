@@ -5,14 +5,8 @@ use borrow.Author.Needs.{needs}
 use Rattle.bulletin.proofs.store.Store.text.Statement.{statement}
 use Rattle.bulletin.proofs.store.Store.text.Tie as tie
 
-text-verdict-requires : tie.Need-text-verdict-requires
-text-verdict-requires c κs = search needs
-
 enum-told : tie.Need-enum-told
 enum-told c = search needs
-
-enum-told-2 : tie.Need-enum-told-2
-enum-told-2 c = search needs
 
 text-length-requires : tie.Need-text-length-requires
 text-length-requires c κs = let v = c .before .before in
@@ -34,9 +28,6 @@ returns-2 : tie.Need-returns-2
 returns-2 c = let v = c .before .before in
     told-refused _ _ (v .text-verdict .result) _ (v .text-verdict .ensures) (c .enum-told .given .1)
 
-same-length : tie.Need-same-length
-same-length c = search needs
-
 returns-3 : tie.Need-returns-3
 returns-3 c = let y = c .before .before in
     let e = y .before .before in
@@ -47,14 +38,4 @@ returns-3 c = let y = c .before .before in
 
 pub text-spec : {M : Type 1} → statement M
 text-spec =
-    tie.close
-    (tie.spec
-    text-verdict-requires
-    enum-told
-    enum-told-2
-    text-length-requires
-    returns
-    copy-text-requires
-    returns-2
-    same-length
-    returns-3)
+    tie.close (tie.spec (λ c κs. search needs) enum-told (λ c. search needs) text-length-requires returns copy-text-requires returns-2 (λ c. search needs) returns-3)

@@ -14,20 +14,8 @@ Inv-loop self n₀ n = (n ≤ 18 * self .name .total) × (textLength n (bytesInO
 abbrev μ-loop : tie.MeasureT-loop
 μ-loop self n₀ n = n
 
-cast-n : tie.Need-cast-n Inv-loop μ-loop
-cast-n c = search needs
-
-mul-n : tie.Need-mul-n Inv-loop μ-loop
-mul-n c = search needs
-
 loop-holds : tie.Need-loop-holds Inv-loop μ-loop
 loop-holds c = (omega arith, refl)
-
-sub-m : tie.Need-sub-m Inv-loop μ-loop
-sub-m c = search needs
-
-byte-at-requires : tie.Need-byte-at-requires Inv-loop μ-loop
-byte-at-requires c κs = search needs
 
 returns : tie.Need-returns Inv-loop μ-loop
 returns c = let b = c .before in
@@ -35,9 +23,6 @@ returns c = let b = c .before in
     let s = a .before .before .before in
     let F = bytesInOrder (s .args .self .pages) in
     sym (len-stop (a .loop .n) F (omega arith) (λ q. c .if1 .taken (b .byte-at .ensures ∙ q))) ∙ a .loop .inv .1
-
-loop-less : tie.Need-loop-less Inv-loop μ-loop
-loop-less c = search needs
 
 loop-again : tie.Need-loop-again Inv-loop μ-loop
 loop-again c = let b = c .before in
@@ -55,16 +40,4 @@ returns-2 c = let a = c .before in
 
 pub text-length-spec : {M : Type 1} → statement M
 text-length-spec =
-    tie.close
-    (tie.spec
-    Inv-loop
-    μ-loop
-    cast-n
-    mul-n
-    loop-holds
-    sub-m
-    byte-at-requires
-    returns
-    loop-less
-    loop-again
-    returns-2)
+    tie.close (tie.spec Inv-loop μ-loop (λ c. search needs) (λ c. search needs) loop-holds (λ c. search needs) (λ c κs. search needs) returns (λ c. search needs) loop-again returns-2)

@@ -10,29 +10,14 @@ use borrow.Author.Needs.{needs}
 use Rattle.bulletin.proofs.store.Store.text_verdict.Statement.{statement}
 use Rattle.bulletin.proofs.store.Store.text_verdict.Tie as tie
 
-is-sound-requires : tie.Need-is-sound-requires
-is-sound-requires c κs = search needs
-
 returns : tie.Need-returns
 unfolding textVerdict
 returns c = simp (sym (c .before .is-sound .ensures) ∙ not-true _ (c .if1 .taken))
-
-lowest-requires : tie.Need-lowest-requires
-lowest-requires c κs = search needs
 
 returns-2 : tie.Need-returns-2
 unfolding textVerdict
 returns-2 c = let l = c .before in
     simp (sym (l .before .before .is-sound .ensures) ∙ not-false _ (l .before .if1 .left), eq-eqb _ _ (sym (l .lowest .ensures) ∙ c .if2 .taken))
-
-sub-page : tie.Need-sub-page
-sub-page c = search needs
-
-cast-page : tie.Need-cast-page
-cast-page c = search needs
-
-mul-page : tie.Need-mul-page
-mul-page c = search needs
 
 element-copy-out-page : tie.Need-element-copy-out-page
 element-copy-out-page c = let l = c .before in
@@ -40,9 +25,6 @@ element-copy-out-page c = let l = c .before in
     let p = s .args .t1 .pages in
     let long : length p ≡ 63 = unmapped _ p 63 (s .good .0 .1 .1 .1 .0 .1 .0 .1) in
     omega (arith, l .lowest .ensures, lowest-most (s .args .t1 .name .total) p 0)
-
-absence-requires : tie.Need-absence-requires
-absence-requires c κs = search needs
 
 returns-3 : tie.Need-returns-3
 unfolding textVerdict
@@ -52,15 +34,4 @@ returns-3 c = let e = c .before .before in
 
 pub text-verdict-spec : {M : Type 1} → statement M
 text-verdict-spec =
-    tie.close
-    (tie.spec
-    is-sound-requires
-    returns
-    lowest-requires
-    returns-2
-    sub-page
-    cast-page
-    mul-page
-    element-copy-out-page
-    absence-requires
-    returns-3)
+    tie.close (tie.spec (λ c κs. search needs) returns (λ c κs. search needs) returns-2 (λ c. search needs) (λ c. search needs) (λ c. search needs) element-copy-out-page (λ c κs. search needs) returns-3)

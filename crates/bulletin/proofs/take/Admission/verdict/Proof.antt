@@ -3,17 +3,8 @@ use borrow.Author.Needs.{needs}
 use Rattle.bulletin.proofs.take.Admission.verdict.Statement.{statement}
 use Rattle.bulletin.proofs.take.Admission.verdict.Tie as tie
 
-enum-told : tie.Need-enum-told
-enum-told c = search needs
-
-enum-known-self : tie.Need-enum-known-self
-enum-known-self c = search needs
-
-returns : tie.Need-returns
-returns c = search needs
-
 returns-2 : tie.Need-returns-2
 returns-2 c = simp (c .before .self .given .1)
 
 pub verdict-spec : {M : Type 1} → statement M
-verdict-spec = tie.close (tie.spec enum-told enum-known-self returns returns-2)
+verdict-spec = tie.close (tie.spec (λ c. search needs) (λ c. search needs) (λ c. search needs) returns-2)

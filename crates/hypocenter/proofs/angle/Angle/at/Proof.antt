@@ -7,33 +7,6 @@ use borrow.Author.Needs.{needs}
 use Rattle.hypocenter.proofs.angle.Angle.at.Statement.{statement}
 use Rattle.hypocenter.proofs.angle.Angle.at.Tie as tie
 
-field8-requires : tie.Need-field8-requires
-field8-requires c κs = search needs
-
-add-field8 : tie.Need-add-field8
-add-field8 c = search needs
-
-field8-requires-2 : tie.Need-field8-requires-2
-field8-requires-2 c κs = search needs
-
-add-field8-2 : tie.Need-add-field8-2
-add-field8-2 c = search needs
-
-add-field8-3 : tie.Need-add-field8-3
-add-field8-3 c = search needs
-
-field8-requires-3 : tie.Need-field8-requires-3
-field8-requires-3 c κs = search needs
-
-add-field8-4 : tie.Need-add-field8-4
-add-field8-4 c = search needs
-
-add-field8-5 : tie.Need-add-field8-5
-add-field8-5 c = search needs
-
-field8-requires-4 : tie.Need-field8-requires-4
-field8-requires-4 c κs = search needs
-
 returns : tie.Need-returns
 returns c =
     let a = c .before .before .before .before .args in
@@ -46,15 +19,4 @@ returns c =
 
 pub at-spec : {M : Type 1} → statement M
 at-spec =
-    tie.close
-    (tie.spec
-    field8-requires
-    add-field8
-    field8-requires-2
-    add-field8-2
-    add-field8-3
-    field8-requires-3
-    add-field8-4
-    add-field8-5
-    field8-requires-4
-    returns)
+    tie.close (tie.spec (λ c κs. search needs) (λ c. search needs) (λ c κs. search needs) (λ c. search needs) (λ c. search needs) (λ c κs. search needs) (λ c. search needs) (λ c. search needs) (λ c κs. search needs) returns)

@@ -11,16 +11,10 @@ use Rattle.listing.proofs.progress.Progress.byte_at.Tie as tie
 kept : (c : tie.Start) → length (c .args .t1 .begun) ≡ 64
 kept c = unmapped _ (c .args .t1 .begun) 64 (c .good .0 .1 .1 .1 .1 .0 .1 .0 .1)
 
-element-copy-out-result : tie.Need-element-copy-out-result
-element-copy-out-result c = search needs
-
 returns : tie.Need-returns
 returns c =
     let s = c .before .before in
     byte-kept (s .args .t1 .begun) (s .args .bytes .now) (s .args .kept) (s .args .i) (omega arith) (omega (arith, kept s))
-
-shared-slice-read-result : tie.Need-shared-slice-read-result
-shared-slice-read-result c = search needs
 
 returns-2 : tie.Need-returns-2
 returns-2 c =
@@ -34,5 +28,4 @@ returns-3 c =
 
 pub byte-at-spec : {M : Type 1} → statement M
 byte-at-spec =
-    tie.close
-    (tie.spec element-copy-out-result returns shared-slice-read-result returns-2 returns-3)
+    tie.close (tie.spec (λ c. search needs) returns (λ c. search needs) returns-2 returns-3)

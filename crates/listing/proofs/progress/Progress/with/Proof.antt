@@ -17,9 +17,6 @@ Inv-loop self bytes kept begun₀ i₀ begun i = (i ≤ 64) × (length begun ≡
 abbrev μ-loop : tie.MeasureT-loop
 μ-loop self bytes kept begun₀ i₀ begun i = 64 - i
 
-least-requires : tie.Need-least-requires Inv-loop μ-loop
-least-requires c κs = search needs
-
 kept : (c : tie.Start Inv-loop μ-loop) → length (c .args .self .begun) ≡ 64
 kept c = unmapped _ (c .args .self .begun) 64 (c .good .0 .1 .1 .1 .1 .0 .1 .0 .1)
 
@@ -36,18 +33,6 @@ done c n h e =
 loop-holds : tie.Need-loop-holds Inv-loop μ-loop
 loop-holds c = (omega arith, refl, λ k h. absurd (omega arith))
 
-byte-at-requires : tie.Need-byte-at-requires Inv-loop μ-loop
-byte-at-requires c κs = search needs
-
-array-write-begun : tie.Need-array-write-begun Inv-loop μ-loop
-array-write-begun c = search needs
-
-add-i : tie.Need-add-i Inv-loop μ-loop
-add-i c = search needs
-
-loop-less : tie.Need-loop-less Inv-loop μ-loop
-loop-less c = search needs
-
 loop-again : tie.Need-loop-again Inv-loop μ-loop
 loop-again c =
     let l = c .before .before in
@@ -56,12 +41,6 @@ loop-again c =
       length-set (l .loop .begun) (l .loop .i) (c .byte-at .result) ∙ l .loop .inv .1,
       fill-next (l .loop .begun) (take (l .before .least .result) (s .args .self .begun) ++ s .args .bytes .now) (l .loop .i) (c .byte-at .result) (omega arith) (l .loop .inv .2) (c .byte-at .ensures),
     )
-
-sub-if1 : tie.Need-sub-if1 Inv-loop μ-loop
-sub-if1 c = search needs
-
-add-all : tie.Need-add-all Inv-loop μ-loop
-add-all c = search needs
 
 returns : tie.Need-returns Inv-loop μ-loop
 returns c =
@@ -76,18 +55,4 @@ returns-2 c =
 
 pub with-spec : {M : Type 1} → statement M
 with-spec =
-    tie.close
-    (tie.spec
-    Inv-loop
-    μ-loop
-    least-requires
-    loop-holds
-    byte-at-requires
-    array-write-begun
-    add-i
-    loop-less
-    loop-again
-    sub-if1
-    add-all
-    returns
-    returns-2)
+    tie.close (tie.spec Inv-loop μ-loop (λ c κs. search needs) loop-holds (λ c κs. search needs) (λ c. search needs) (λ c. search needs) (λ c. search needs) loop-again (λ c. search needs) (λ c. search needs) returns returns-2)

@@ -6,15 +6,6 @@ use Rattle.listing.proofs.row.Row.of.Tie as tie
 enum-told : tie.Need-enum-told
 enum-told c = search needs
 
-of-record-requires : tie.Need-of-record-requires
-of-record-requires c κs = search needs
-
-enum-known-answer : tie.Need-enum-known-answer
-enum-known-answer c = search needs
-
-of-refusal-requires : tie.Need-of-refusal-requires
-of-refusal-requires c κs = search needs
-
 returns : tie.Need-returns
 returns c = simp (c .before .before .enum-told .given .1, c .of-record .ensures)
 
@@ -23,5 +14,4 @@ returns-2 c = simp (c .before .before .answer .given .1, c .of-refusal .ensures)
 
 pub of-spec : {M : Type 1} → statement M
 of-spec =
-    tie.close
-    (tie.spec enum-told of-record-requires enum-known-answer of-refusal-requires returns returns-2)
+    tie.close (tie.spec enum-told (λ c κs. search needs) (λ c. search needs) (λ c κs. search needs) returns returns-2)

@@ -10,9 +10,6 @@ use Rattle.listing.proofs.row.Row.slots_entry.Tie as tie
 returns : tie.Need-returns
 returns c = simp (eq-eqb _ 0 (c .if1 .taken))
 
-slots-used-requires : tie.Need-slots-used-requires
-slots-used-requires c κs = search needs
-
 cast-t5 : tie.Need-cast-t5
 cast-t5 c =
     let s = c .before .before in
@@ -22,4 +19,4 @@ returns-2 : tie.Need-returns-2
 returns-2 c = simp (c .slots-used .ensures, ne-eqb _ 0 (c .before .if1 .left))
 
 pub slots-entry-spec : {M : Type 1} → statement M
-slots-entry-spec = tie.close (tie.spec returns slots-used-requires cast-t5 returns-2)
+slots-entry-spec = tie.close (tie.spec returns (λ c κs. search needs) cast-t5 returns-2)

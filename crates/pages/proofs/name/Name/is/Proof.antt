@@ -6,9 +6,6 @@ use borrow.Author.Needs.{needs}
 use Rattle.pages.proofs.name.Name.is.Statement.{statement}
 use Rattle.pages.proofs.name.Name.is.Tie as tie
 
-same-common-requires : tie.Need-same-common-requires
-same-common-requires c κs = search needs
-
 returns : tie.Need-returns
 unfolding sameName
 returns c = let i = c .before .before in
@@ -25,4 +22,4 @@ unfolding sameName
 returns-3 c = simp (sym (c .before .same-common .ensures) ∙ c .if1 .left)
 
 pub is-spec : {M : Type 1} → statement M
-is-spec = tie.close (tie.spec same-common-requires returns returns-2 returns-3)
+is-spec = tie.close (tie.spec (λ c κs. search needs) returns returns-2 returns-3)

@@ -4,11 +4,8 @@ use Rattle.pages.proofs.name.Name.verdict.Statement.{statement}
 use Rattle.pages.proofs.Ranges.{name-found}
 use Rattle.pages.proofs.name.Name.verdict.Tie as tie
 
-check-requires : tie.Need-check-requires
-check-requires c κs = search needs
-
 returns : tie.Need-returns
 returns c = name-found (c .before .before .args .self) (c .check .result) (c .check .ensures)
 
 pub verdict-spec : {M : Type 1} → statement M
-verdict-spec = tie.close (tie.spec check-requires returns)
+verdict-spec = tie.close (tie.spec (λ c κs. search needs) returns)

@@ -14,12 +14,9 @@ returns c = simp (eq-eqb _ _ (c .if1 .taken))
 returns-2 : tie.Need-returns-2
 returns-2 c = sym (no-state _ (c .if2 .taken))
 
-same-bytes-requires : tie.Need-same-bytes-requires
-same-bytes-requires c κs = search needs
-
 returns-3 : tie.Need-returns-3
 returns-3 c = let e = c .before .before in
     c .same-bytes .ensures ∙ sym (without-bytes _ (e .if2 .left) (e .before .before .if1 .left))
 
 pub is-sound-spec : {M : Type 1} → statement M
-is-sound-spec = tie.close (tie.spec returns returns-2 same-bytes-requires returns-3)
+is-sound-spec = tie.close (tie.spec returns returns-2 (λ c κs. search needs) returns-3)

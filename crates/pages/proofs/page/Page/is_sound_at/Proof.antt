@@ -6,9 +6,6 @@ use Rattle.pages.specs.Pages.{soundAt}
 use Rattle.pages.proofs.page.Page.is_sound_at.Statement.{statement}
 use Rattle.pages.proofs.page.Page.is_sound_at.Tie as tie
 
-is-sound-requires : tie.Need-is-sound-requires
-is-sound-requires c κs = search needs
-
 returns : tie.Need-returns
 unfolding soundAt
 returns c = simp (sym (c .before .is-sound .ensures) ∙ not-true _ (c .if1 .taken))
@@ -22,4 +19,4 @@ unfolding soundAt
 returns-3 c = simp (sym (c .before .before .before .is-sound .ensures) ∙ not-false _ (c .before .before .if1 .left), le-ltb _ _ (c .before .if2 .left))
 
 pub is-sound-at-spec : {M : Type 1} → statement M
-is-sound-at-spec = tie.close (tie.spec is-sound-requires returns returns-2 returns-3)
+is-sound-at-spec = tie.close (tie.spec (λ c κs. search needs) returns returns-2 returns-3)

@@ -14,9 +14,6 @@ returns-2 : tie.Need-returns-2
 unfolding join
 returns-2 c = simp (ne-eqb _ _ (c .before .before .if1 .left), eq-eqb _ _ (c .if2 .taken))
 
-disputed-requires : tie.Need-disputed-requires
-disputed-requires c κs = search needs
-
 returns-3 : tie.Need-returns-3
 unfolding join
 returns-3 c =
@@ -24,9 +21,6 @@ returns-3 c =
     let c2 = c3 .before .before in
     let c1 = c2 .before .before in
     simp (ne-eqb _ _ (c1 .if1 .left), ne-eqb _ _ (c2 .if2 .left), ne-eqb _ _ (c3 .if3 .taken)) (c .disputed .ensures)
-
-disputed-requires-2 : tie.Need-disputed-requires-2
-disputed-requires-2 c κs = search needs
 
 returns-4 : tie.Need-returns-4
 unfolding join
@@ -37,9 +31,6 @@ returns-4 c =
     let c1 = c2 .before .before in
     simp (ne-eqb _ _ (c1 .if1 .left), ne-eqb _ _ (c2 .if2 .left), eq-eqb _ _ (c3 .if3 .left), ne-eqb _ _ (c4 .if4 .taken)) (c .disputed2 .ensures)
 
-same-bytes-requires : tie.Need-same-bytes-requires
-same-bytes-requires c κs = search needs
-
 returns-5 : tie.Need-returns-5
 unfolding join
 returns-5 c =
@@ -48,9 +39,6 @@ returns-5 c =
     let c2 = c3 .before .before in
     let c1 = c2 .before .before in
     simp (ne-eqb _ _ (c1 .if1 .left), ne-eqb _ _ (c2 .if2 .left), eq-eqb _ _ (c3 .if3 .left), eq-eqb _ _ (c4 .if4 .left), sym (c .before .same-bytes .ensures) ∙ c .if5 .taken)
-
-disputed-requires-3 : tie.Need-disputed-requires-3
-disputed-requires-3 c κs = search needs
 
 returns-6 : tie.Need-returns-6
 unfolding join
@@ -64,15 +52,4 @@ returns-6 c =
 
 pub join-spec : {M : Type 1} → statement M
 join-spec =
-    tie.close
-    (tie.spec
-    returns
-    returns-2
-    disputed-requires
-    returns-3
-    disputed-requires-2
-    returns-4
-    same-bytes-requires
-    returns-5
-    disputed-requires-3
-    returns-6)
+    tie.close (tie.spec returns returns-2 (λ c κs. search needs) returns-3 (λ c κs. search needs) returns-4 (λ c κs. search needs) returns-5 (λ c κs. search needs) returns-6)

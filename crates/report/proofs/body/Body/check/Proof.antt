@@ -13,33 +13,6 @@ use Rattle.report.proofs.body.Body.check.Tie as tie
 enum-told : tie.Need-enum-told
 enum-told c = search needs
 
-check-none-requires : tie.Need-check-none-requires
-check-none-requires c κs = search needs
-
-enum-known-self : tie.Need-enum-known-self
-enum-known-self c = search needs
-
-check-requires : tie.Need-check-requires
-check-requires c κs = search needs
-
-enum-known-self-2 : tie.Need-enum-known-self-2
-enum-known-self-2 c = search needs
-
-check-requires-2 : tie.Need-check-requires-2
-check-requires-2 c κs = search needs
-
-enum-known-self-3 : tie.Need-enum-known-self-3
-enum-known-self-3 c = search needs
-
-check-requires-3 : tie.Need-check-requires-3
-check-requires-3 c κs = search needs
-
-enum-known-self-4 : tie.Need-enum-known-self-4
-enum-known-self-4 c = search needs
-
-check-requires-4 : tie.Need-check-requires-4
-check-requires-4 c κs = search needs
-
 returns : tie.Need-returns
 returns c = let a = c .before .before .before .args in c .check-none .ensures ∙ sym (ap (λ (b : Body). a .found then bodyVerdict (layout b) (headValues (a .c) (layout b .code)) (sidesOf b (a .spare1) (a .spare2)) (slotsValues (layout b .slots) (a .slots))) (c .before .enum-told .given .1))
 
@@ -57,20 +30,4 @@ returns-5 c = let a = c .before .before .before .before .args in c .check4 .ensu
 
 pub check-spec : {M : Type 1} → statement M
 check-spec =
-    tie.close
-    (tie.spec
-    enum-told
-    check-none-requires
-    enum-known-self
-    check-requires
-    enum-known-self-2
-    check-requires-2
-    enum-known-self-3
-    check-requires-3
-    enum-known-self-4
-    check-requires-4
-    returns
-    returns-2
-    returns-3
-    returns-4
-    returns-5)
+    tie.close (tie.spec enum-told (λ c κs. search needs) (λ c. search needs) (λ c κs. search needs) (λ c. search needs) (λ c κs. search needs) (λ c. search needs) (λ c κs. search needs) (λ c. search needs) (λ c κs. search needs) returns returns-2 returns-3 returns-4 returns-5)

@@ -10,33 +10,6 @@ use Rattle.report.proofs.body.Body.fields.Tie as tie
 enum-told : tie.Need-enum-told
 enum-told c = search needs
 
-fields-none-requires : tie.Need-fields-none-requires
-fields-none-requires c κs = search needs
-
-enum-known-self : tie.Need-enum-known-self
-enum-known-self c = search needs
-
-fields-requires : tie.Need-fields-requires
-fields-requires c κs = search needs
-
-enum-known-self-2 : tie.Need-enum-known-self-2
-enum-known-self-2 c = search needs
-
-fields-requires-2 : tie.Need-fields-requires-2
-fields-requires-2 c κs = search needs
-
-enum-known-self-3 : tie.Need-enum-known-self-3
-enum-known-self-3 c = search needs
-
-fields-requires-3 : tie.Need-fields-requires-3
-fields-requires-3 c κs = search needs
-
-enum-known-self-4 : tie.Need-enum-known-self-4
-enum-known-self-4 c = search needs
-
-fields-requires-4 : tie.Need-fields-requires-4
-fields-requires-4 c κs = search needs
-
 returns : tie.Need-returns
 returns c = let a = c .before .before .before .args in c .fields-none .ensures ∙ sym (ap (λ (b : Body). fieldsIn (layout b) (sidesOf b (a .spare1) (a .spare2))) (c .before .enum-told .given .1))
 
@@ -54,20 +27,4 @@ returns-5 c = let a = c .before .before .before .before .args in c .fields4 .ens
 
 pub fields-spec : {M : Type 1} → statement M
 fields-spec =
-    tie.close
-    (tie.spec
-    enum-told
-    fields-none-requires
-    enum-known-self
-    fields-requires
-    enum-known-self-2
-    fields-requires-2
-    enum-known-self-3
-    fields-requires-3
-    enum-known-self-4
-    fields-requires-4
-    returns
-    returns-2
-    returns-3
-    returns-4
-    returns-5)
+    tie.close (tie.spec enum-told (λ c κs. search needs) (λ c. search needs) (λ c κs. search needs) (λ c. search needs) (λ c κs. search needs) (λ c. search needs) (λ c κs. search needs) (λ c. search needs) (λ c κs. search needs) returns returns-2 returns-3 returns-4 returns-5)

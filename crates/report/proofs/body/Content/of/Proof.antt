@@ -12,54 +12,6 @@ use Rattle.slots.specs.Slots.{slotsOf}
 use Prim.Native.Nat.{ℕ}
 use Rattle.report.proofs.body.Content.of.Tie as tie
 
-field8-requires : tie.Need-field8-requires
-field8-requires c κs = search needs
-
-of-requires : tie.Need-of-requires
-of-requires c κs = search needs
-
-none-requires : tie.Need-none-requires
-none-requires c κs = search needs
-
-spares-requires : tie.Need-spares-requires
-spares-requires c κs = search needs
-
-of-requires-2 : tie.Need-of-requires-2
-of-requires-2 c κs = search needs
-
-prefectures-of-requires : tie.Need-prefectures-of-requires
-prefectures-of-requires c κs = search needs
-
-spares-requires-2 : tie.Need-spares-requires-2
-spares-requires-2 c κs = search needs
-
-of-requires-3 : tie.Need-of-requires-3
-of-requires-3 c κs = search needs
-
-none-requires-2 : tie.Need-none-requires-2
-none-requires-2 c κs = search needs
-
-page-text-requires : tie.Need-page-text-requires
-page-text-requires c κs = search needs
-
-spares-requires-3 : tie.Need-spares-requires-3
-spares-requires-3 c κs = search needs
-
-of-requires-4 : tie.Need-of-requires-4
-of-requires-4 c κs = search needs
-
-places-of-requires : tie.Need-places-of-requires
-places-of-requires c κs = search needs
-
-spares-requires-4 : tie.Need-spares-requires-4
-spares-requires-4 c κs = search needs
-
-none-requires-3 : tie.Need-none-requires-3
-none-requires-3 c κs = search needs
-
-field64-requires : tie.Need-field64-requires
-field64-requires c κs = search needs
-
 returns : tie.Need-returns
 unfolding bodyFrom slotsOf
 returns c =
@@ -111,26 +63,4 @@ returns-5 c =
 
 pub of-spec : {M : Type 1} → statement M
 of-spec =
-    tie.close
-    (tie.spec
-    field8-requires
-    of-requires
-    none-requires
-    spares-requires
-    of-requires-2
-    prefectures-of-requires
-    spares-requires-2
-    of-requires-3
-    none-requires-2
-    page-text-requires
-    spares-requires-3
-    of-requires-4
-    places-of-requires
-    spares-requires-4
-    none-requires-3
-    field64-requires
-    returns
-    returns-2
-    returns-3
-    returns-4
-    returns-5)
+    tie.close (tie.spec (λ c κs. search needs) (λ c κs. search needs) (λ c κs. search needs) (λ c κs. search needs) (λ c κs. search needs) (λ c κs. search needs) (λ c κs. search needs) (λ c κs. search needs) (λ c κs. search needs) (λ c κs. search needs) (λ c κs. search needs) (λ c κs. search needs) (λ c κs. search needs) (λ c κs. search needs) (λ c κs. search needs) (λ c κs. search needs) returns returns-2 returns-3 returns-4 returns-5)

@@ -31,12 +31,6 @@ has-text c = sym (ap (λ (v : Fields). v .table .text) (c .before .before .befor
 eighteen : (c : tie.After-are-tidy) → length (record-of c .text) ≡ 18
 eighteen c = length-unmapped _ (record-of c .text) 18 (c .before .before .before .before .before .before .good .0 .1 .1 .1 .1 .1 .1 .1 .0 .1 .0 .1)
 
-fields-requires : tie.Need-fields-requires
-fields-requires c κs = search needs
-
-are-tidy-requires : tie.Need-are-tidy-requires
-are-tidy-requires c κs = search needs
-
 returns : tie.Need-returns
 returns c =
     let t = c .before in
@@ -49,9 +43,6 @@ returns-2 c =
     let r = record-of t in
     sym (ap₂ _&&_ (sym (found t) ∙ not-false _ (c .before .if1 .left)) (text-held (layout (r .body) .text) (r .text) (text-apart (r .body)) (eighteen t) (has-text t ∙ c .if2 .taken)))
 
-is-blank-requires : tie.Need-is-blank-requires
-is-blank-requires c κs = search needs
-
 returns-3 : tie.Need-returns-3
 returns-3 c =
     let e = c .before in
@@ -62,5 +53,4 @@ returns-3 c =
 
 pub is-tidy-spec : {M : Type 1} → statement M
 is-tidy-spec =
-    tie.close
-    (tie.spec fields-requires are-tidy-requires returns returns-2 is-blank-requires returns-3)
+    tie.close (tie.spec (λ c κs. search needs) (λ c κs. search needs) returns returns-2 (λ c κs. search needs) returns-3)

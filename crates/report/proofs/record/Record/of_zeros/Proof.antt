@@ -4,12 +4,9 @@ use Rattle.report.proofs.record.Record.of_zeros.Statement.{statement}
 use Rattle.report.specs.Records.{zeros}
 use Rattle.report.proofs.record.Record.of_zeros.Tie as tie
 
-none-requires : tie.Need-none-requires
-none-requires c κs = search needs
-
 returns : tie.Need-returns
 unfolding zeros
 returns c = simp (c .none .ensures)
 
 pub of-zeros-spec : {M : Type 1} → statement M
-of-zeros-spec = tie.close (tie.spec none-requires returns)
+of-zeros-spec = tie.close (tie.spec (λ c κs. search needs) returns)

@@ -4,12 +4,9 @@ use Rattle.report.proofs.record.Record.slots_used.Statement.{statement}
 use Rattle.report.specs.Meaning.{usedOf}
 use Rattle.report.proofs.record.Record.slots_used.Tie as tie
 
-used-requires : tie.Need-used-requires
-used-requires c κs = search needs
-
 returns : tie.Need-returns
 unfolding usedOf
 returns c = c .used .ensures
 
 pub slots-used-spec : {M : Type 1} → statement M
-slots-used-spec = tie.close (tie.spec used-requires returns)
+slots-used-spec = tie.close (tie.spec (λ c κs. search needs) returns)

@@ -7,9 +7,6 @@ use Rattle.rows.proofs.refusal.Verdict.then.Tie as tie
 enum-told : tie.Need-enum-told
 enum-told c = search needs
 
-enum-told-2 : tie.Need-enum-told-2
-enum-told-2 c = search needs
-
 returns : tie.Need-returns
 unfolding _then_
 returns c = simp (c .enum-told .given .1)
@@ -19,4 +16,4 @@ unfolding _then_
 returns-2 c = simp (c .enum-told2 .given .1)
 
 pub then-spec : {M : Type 1} → statement M
-then-spec = tie.close (tie.spec enum-told enum-told-2 returns returns-2)
+then-spec = tie.close (tie.spec enum-told (λ c. search needs) returns returns-2)

@@ -10,30 +10,6 @@ use Rattle.rows.proofs.refusal.Verdict.time.Tie as tie
 returns : tie.Need-returns
 returns c = simp (lt-leb _ _ (c .if1 .taken), then-fine)
 
-cast-within : tie.Need-cast-within
-cast-within c = search needs
-
-within-requires : tie.Need-within-requires
-within-requires c κs = search needs
-
-add-within : tie.Need-add-within
-add-within c = search needs
-
-cast-within-2 : tie.Need-cast-within-2
-cast-within-2 c = search needs
-
-within-requires-2 : tie.Need-within-requires-2
-within-requires-2 c κs = search needs
-
-add-within-2 : tie.Need-add-within-2
-add-within-2 c = search needs
-
-cast-within-3 : tie.Need-cast-within-3
-cast-within-3 c = search needs
-
-within-requires-3 : tie.Need-within-requires-3
-within-requires-3 c κs = search needs
-
 returns-2 : tie.Need-returns-2
 unfolding walk judge
 returns-2 c = simp (
@@ -48,15 +24,4 @@ returns-2 c = simp (
 
 pub time-spec : {M : Type 1} → statement M
 time-spec =
-    tie.close
-    (tie.spec
-    returns
-    cast-within
-    within-requires
-    add-within
-    cast-within-2
-    within-requires-2
-    add-within-2
-    cast-within-3
-    within-requires-3
-    returns-2)
+    tie.close (tie.spec returns (λ c. search needs) (λ c κs. search needs) (λ c. search needs) (λ c. search needs) (λ c κs. search needs) (λ c. search needs) (λ c. search needs) (λ c κs. search needs) returns-2)

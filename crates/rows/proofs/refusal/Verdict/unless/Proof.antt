@@ -11,9 +11,6 @@ returns : tie.Need-returns
 unfolding _then_ unless
 returns c = simp (c .before .enum-told .given .1, c .if1 .taken)
 
-enum-told-2 : tie.Need-enum-told-2
-enum-told-2 c = search needs
-
 returns-2 : tie.Need-returns-2
 unfolding _then_ unless
 returns-2 c = simp (c .before .enum-told .given .1, c .if1 .left)
@@ -23,4 +20,4 @@ unfolding _then_ unless
 returns-3 c = simp (c .enum-told2 .given .1)
 
 pub unless-spec : {M : Type 1} → statement M
-unless-spec = tie.close (tie.spec enum-told returns enum-told-2 returns-2 returns-3)
+unless-spec = tie.close (tie.spec enum-told returns (λ c. search needs) returns-2 returns-3)

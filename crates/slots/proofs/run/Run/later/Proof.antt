@@ -9,15 +9,9 @@ returns : tie.Need-returns
 unfolding laterRun
 returns c = simp (c .if1 .taken)
 
-unless-requires : tie.Need-unless-requires
-unless-requires c κs = search needs
-
-then-requires : tie.Need-then-requires
-then-requires c κs = search needs
-
 returns-2 : tie.Need-returns-2
 unfolding laterRun
 returns-2 c = simp (c .before .before .if1 .left, c .then .ensures, c .before .unless .ensures, then-assoc)
 
 pub later-spec : {M : Type 1} → statement M
-later-spec = tie.close (tie.spec returns unless-requires then-requires returns-2)
+later-spec = tie.close (tie.spec returns (λ c κs. search needs) (λ c κs. search needs) returns-2)
