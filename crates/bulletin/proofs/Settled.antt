@@ -10,7 +10,7 @@ use borrow.Fn.World.{World, Pr}
 use Rattle.bulletin.proofs as bulletin
 use Rattle.bulletin.proofs.in_place.take_in
 use Rattle.settled.specs.Settled.{Settled}
-use Rattle.settled.proofs.Law.{answer, both, beside, first, second}
+use Rattle.settled.proofs.Law.{answer, both, first, second}
 
 pub Store-of-zeros-is-settled : Settled bulletin.store.Store.of_zeros.ended bulletin.store.Store.of_zeros.Reads.Post
 Store-of-zeros-is-settled κs a x y = answer

@@ -4,7 +4,8 @@ ghost use mathlib.Core.List.{[]};
 ghost use Rattle.rows.specs.Runs.Questions.{_then_};
 ghost use Rattle.rows.specs.Runs.Verdict.{walk, bodyVerdict};
 ghost use Rattle.hypocenter.specs.Hypocenter.{hypocenter, quakeValues, quakeFrom};
-ghost use Rattle.rows.specs.Values.{fieldsIn, headValues, sidesAt, tableIn, sparesIn};
+ghost use Rattle.rows.specs.Values.{headValues, sidesAt};
+ghost use Rattle.rows.specs.Runs.Fields.{fieldsIn, tableIn, sparesIn};
 
 pub mod meaning; // what the numbers say
 mod codes; // which values a field may hold

@@ -4,7 +4,8 @@ ghost use mathlib.Core.List.{[]};
 ghost use Rattle.rows.specs.Runs.Questions.{_then_};
 ghost use Rattle.rows.specs.Runs.Verdict.{walk, bodyVerdict};
 ghost use Rattle.intensity.specs.Intensity.{intensity, shakingValues, prefectures, shakingFrom};
-ghost use Rattle.rows.specs.Values.{fieldsIn, headValues, sidesAt, tableIn, sparesIn};
+ghost use Rattle.rows.specs.Values.{headValues, sidesAt};
+ghost use Rattle.rows.specs.Runs.Fields.{fieldsIn, tableIn, sparesIn};
 ghost use Rattle.slots.specs.Slots.{slotsValues};
 
 pub mod prefectures; // its slots

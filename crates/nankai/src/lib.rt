@@ -3,7 +3,8 @@
 ghost use mathlib.Core.Path.{_≡_};
 ghost use mathlib.Core.List.{[]};
 ghost use Rattle.bits.specs.Frame.{laid};
-ghost use Rattle.rows.specs.Values.{widths, fieldsIn, headValues, sidesAt, tableIn, sparesIn};
+ghost use Rattle.rows.specs.Values.{widths, headValues, sidesAt};
+ghost use Rattle.rows.specs.Runs.Fields.{fieldsIn, tableIn, sparesIn};
 ghost use Rattle.rows.specs.Runs.Questions.{_then_};
 ghost use Rattle.rows.specs.Runs.Verdict.{bodyVerdict};
 ghost use Rattle.nankai.specs.Nankai.{nankai, pageText, numberValues, numbersFrom};

@@ -6,7 +6,8 @@ use mathlib.Core.Bool.{Bool, _&&_, true, not}
 use Rattle.rows.specs.Kept.{In}
 use Rattle.rows.specs.Layout.{Layout, Row, Rule, among, noCategory, rising, spare}
 use mathlib.Core.List.{List, [], _∷_}
-use Rattle.rows.specs.Values.{Sides, sidesAt, spareIn, isSpare}
+use Rattle.rows.specs.Values.{Sides, sidesAt}
+use Rattle.rows.specs.Runs.Fields.{spareIn, isSpare}
 use mathlib.Core.Path.{_∙_, _≡_, ap, refl, subst, sym}
 use Prim.Native.Nat.{_≤_, suc, zero, ℕ}
 use mathlib.Core.Logic.{_⊎_, inl, inr, ⊎-elim}

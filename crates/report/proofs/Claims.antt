@@ -1,7 +1,7 @@
 -- What is proved of the definitions of this crate, each claim with the sentence of document 01 that it settles.
-use mathlib.Core.Path.{_≡_, ap}
+use mathlib.Core.Path.{_≡_, ap, refl}
 use mathlib.Core.Bool.{true, false}
-use mathlib.Core.List.{List, [], map}
+use mathlib.Core.List.{List, [], map, _∷_}
 use Prim.Native.Nat.{ℕ, _≤_, _<_}
 use lib.ListN.{length, getD}
 use types.Run.{OneOf}
@@ -39,7 +39,10 @@ use Rattle.report.specs.declared.body.Body.{Body}
 use Rattle.report.proofs.Shaped.{Shaped, frame-shaped, record-filled}
 use Rattle.report.proofs.Categories.{all, layouts}
 use Rattle.report.specs.Categories.{layout}
-use Rattle.slots.specs.Slots.{slotParts, slotsValues}
+use Rattle.slots.specs.Slots.{slotParts, slotsValues, slotValues}
+use Rattle.slots.specs.declared.slot.Slot.{Slot}
+use Rattle.ash_fall.specs.AshFall.{ashFall}
+use Rattle.intensity.specs.Intensity.{intensity}
 use Rattle.report.proofs.Tables.{tables-tile as tiled, rules-fit as fit}
 use Rattle.report.proofs.Writing.Validity.{recordLayout, recordValues, valid-keeps, keeps-valid, reason as write-reason}
 use Rattle.report.proofs.Writing.WriteReasons.{reserving, no-gap as write-no-gap, above-63}
@@ -63,6 +66,14 @@ values-never-run-short s b = frame-filled s (layout b)
 pub record-values-never-run-short : (r : Record) (x y : ℕ) → length (r .slots) ≡ 16 → length (r .text) ≡ 18
     → Filled (layout (r .body)) (values r x y)
 record-values-never-run-short r x y n m = record-filled r x y (record { slots = n; text = m })
+
+-- "hour, strength or intensity, place": what a slot of the record holds is told by its fields of those names and no other; "in category 3 each
+-- slot's hour is zero".
+pub slots-of-category-3-are-intensity-and-prefecture : (s : Slot) → slotValues (intensity .slots) s ≡ s .strength ∷ s .place ∷ []
+slots-of-category-3-are-intensity-and-prefecture s = refl
+
+pub slots-of-category-9-are-hour-strength-and-place : (s : Slot) → slotValues (ashFall .slots) s ≡ s .hour ∷ s .strength ∷ s .place ∷ []
+slots-of-category-9-are-hour-strength-and-place s = refl
 
 -- ---- reading
 

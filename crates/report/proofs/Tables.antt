@@ -5,7 +5,8 @@ use Rattle.rows.proofs.Rules.JudgedFrames.{JudgesAll, judged, ordered}
 use mathlib.Core.List.{List, _∷_, map, [], _++_}
 use Rattle.rows.specs.Layout.{allFit, allRows, row, spare, tiles, Layout, ending, slotsRows}
 use Rattle.slots.proofs.Tables.{Suited, is-suited, suited}
-use Rattle.rows.specs.Values.{Values, cut, any, firstBit, lastValues, widths}
+use Rattle.rows.specs.Values.{Values, cut, lastValues, widths}
+use Rattle.rows.specs.Runs.Fields.{hasRows, firstBit}
 use Prim.Native.Nat.{_/_, _^_, ℕ, _*_, _+_}
 use mathlib.Core.Path.{_≡_, refl}
 use Rattle.report.proofs.Categories.{all, layouts, listed, ruled}
@@ -53,7 +54,7 @@ piecesFit l =
     || (allWide (widths (l .front))
     && (allWide (widths (l .behind))
     && ((eqb (l .slots .count) 0 || eqb (l .slots .first) behind)
-    && ((not (any (l .text)) || eqb 57 page)
+    && ((not (hasRows (l .text)) || eqb 57 page)
     && (eqb (firstBit (l .behind ++ ending)) (page + total (widths (l .text)))
     && (leb behind 256 && (leb (l .slots .first + l .slots .bits * l .slots .count) 256 && leb (firstBit (l .behind ++ ending) + total (widths (l .behind))) 256)))))))
 

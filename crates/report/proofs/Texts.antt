@@ -9,7 +9,8 @@ use mathlib.Core.Bool.{_&&_, false, true}
 use Rattle.rows.specs.Runs.Questions.{_then_}
 use mathlib.Core.Path.{_∙_, _≡_, ap, ap₂, refl, subst, sym}
 use mathlib.Core.Logic.{_⊎_, inl, inr}
-use Rattle.rows.specs.Values.{any, cut, filled, headValues}
+use Rattle.rows.specs.Values.{cut, filled, headValues}
+use Rattle.rows.specs.Runs.Fields.{hasRows}
 use Rattle.nankai.proofs.Walks.{any-text-passes}
 use native.Mathlib.Omega.{arith}
 use Rattle.rows.specs.Runs.Verdict.{bodyVerdict, empty, ranged, verdict, walk}
@@ -46,16 +47,16 @@ record-verdict r x y h n = simp (text-passes (layout (r .body) .text) (r .text) 
 
 -- ---- what is behind it
 
-pub text-held : (rs : List Row) (text : List ℕ) → (rs ≡ []) ⊎ (rs ≡ nankai .text) → length text ≡ 18 → any rs ≡ true → empty (drop (length rs) text) ≡ true
+pub text-held : (rs : List Row) (text : List ℕ) → (rs ≡ []) ⊎ (rs ≡ nankai .text) → length text ≡ 18 → hasRows rs ≡ true → empty (drop (length rs) text) ≡ true
 unfolding empty
-text-held rs text (inl e) n a = absurd (false-not-true (sym (ap any e) ∙ a))
+text-held rs text (inl e) n a = absurd (false-not-true (sym (ap hasRows e) ∙ a))
 text-held rs text (inr e) n a =
     let enough : length text ≤ 18 = omega arith in
     ap (λ (qs : List Row). empty (drop (length qs) text)) e ∙ ap empty (drop-of-length-le text enough)
 
-pub text-none : (rs : List Row) (text : List ℕ) → (rs ≡ []) ⊎ (rs ≡ nankai .text) → any rs ≡ false → empty (drop (length rs) text) ≡ empty text
+pub text-none : (rs : List Row) (text : List ℕ) → (rs ≡ []) ⊎ (rs ≡ nankai .text) → hasRows rs ≡ false → empty (drop (length rs) text) ≡ empty text
 text-none rs text (inl e) a = ap (λ (qs : List Row). empty (drop (length qs) text)) e
-text-none rs text (inr e) a = absurd (false-not-true (sym a ∙ ap any e))
+text-none rs text (inr e) a = absurd (false-not-true (sym a ∙ ap hasRows e))
 
 -- ---- it is told by its values
 

@@ -1,3 +1,4 @@
 pub mod Questions
 pub mod Times
 pub mod Verdict
+pub mod Fields

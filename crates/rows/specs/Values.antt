@@ -2,14 +2,11 @@
 use Prim.Native.Nat.{ℕ, zero, suc, _+_, _*_, _-_}
 use mathlib.Core.List.{List, _∷_, _++_, map, []}
 use lib.ListN.{getD, length, replicate}
-use Rattle.bits.specs.Frame.{fieldOf, fieldIn}
+use Rattle.bits.specs.Frame.{fieldOf}
 use Rattle.rows.specs.declared.common.Common.{Common}
 use Rattle.rows.specs.declared.time.Time.{Time}
-use Rattle.rows.specs.Layout.{Row, Layout, common, ending, noCategory, slotRows, Parts, Slots, Rule, among, rising, spare}
-use Rattle.rows.specs.declared.fields.Fields.{Fields}
-use mathlib.Core.Bool.{Bool, false, true, cond}
-use Rattle.rows.specs.declared.fields.Table.{Table}
-use Rattle.rows.specs.declared.fields.Spares.{Spares}
+use Rattle.rows.specs.Layout.{Row, Layout, common, ending, noCategory, slotRows, Parts, Slots}
+use mathlib.Core.Bool.{Bool, false, true}
 
 -- the values in the order of the frame, bits 8 to 225
 pub record Values : Type 0 where
@@ -56,7 +53,7 @@ sidesAt s l = record { front = map (cut s) (l .front); behind = map (cut s) (l .
 abbrev pub filled : ℕ → List ℕ → List ℕ
 filled n l = l ++ replicate (n - length l) 0
 
--- ---- as code hands it on
+-- ---- the fields of a slot that a category has
 
 abbrev pub flags : Parts → List Bool
 flags p = p .day ∷ p .hour ∷ p .minute ∷ p .strength ∷ p .place ∷ []
@@ -72,49 +69,7 @@ spread (true ∷ bs) (v ∷ vs) = v ∷ spread bs vs
 abbrev pub partWidths : Slots → List ℕ
 partWidths k = spread (flags (k .parts)) (widths (k .rows))
 
-abbrev pub any : List Row → Bool
-any [] = false
-any (r ∷ rs) = true
-
--- the first bit of the first row, 0 where there is none
-abbrev pub firstBit : List Row → ℕ
-firstBit [] = 0
-firstBit (r ∷ rs) = r .first
-
--- what stands in the first spare among rows, 0 where there is none
-abbrev pub isSpare : Rule → Bool
-isSpare (among ss) = false
-isSpare (rising hi) = false
-isSpare spare = true
-
-abbrev pub spareIn : List ℕ → List Row → ℕ
-spareIn s [] = 0
-spareIn s (r ∷ rs) = cond (isSpare (r .rule)) (fieldIn 57 s (r .first) (r .width)) (spareIn s rs)
-
-abbrev pub sparesIn : List ℕ → Layout → Spares
-sparesIn s l = record { front = spareIn s (l .front); behind = spareIn s (l .behind) }
-
--- what a category's table says in numbers
-abbrev pub tableIn : Layout → Table
-tableIn l = record {
-  code = l .code;
-  count = l .slots .count;
-  first = l .slots .first;
-  bits = l .slots .bits;
-  widths = partWidths (l .slots);
-  text = any (l .text);
-  rest = firstBit (l .behind ++ ending);
-}
-
--- and the values of its rows with their widths; behind the last row there are no bits
-abbrev pub fieldsIn : Layout → Sides → Fields
-fieldsIn l v = record {
-  table = tableIn l;
-  ahead = filled 18 (widths (l .front));
-  front = filled 18 (v .front);
-  after = filled 3 (widths (l .behind));
-  behind = filled 3 (v .behind);
-}
+-- ---- the common rows, the last ones, and a time
 
 -- message type, Rc, Dc, month, day, hour, minute, It
 abbrev pub headValues : Common → ℕ → List ℕ
@@ -137,6 +92,8 @@ timeFrom vs i = record { day = getD vs i 0; hour = getD vs (i + 1) 0; minute = g
 
 abbrev pub timeValues : Time → List ℕ
 timeValues t = t .day ∷ t .hour ∷ t .minute ∷ []
+
+-- ---- one behind the other
 
 abbrev pub joined : List (List ℕ) → List ℕ
 joined [] = []

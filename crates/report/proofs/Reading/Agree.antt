@@ -9,7 +9,8 @@ use Rattle.rows.specs.declared.refusal.Verdict.the-variants.{Fine}
 use Rattle.report.specs.declared.record.Record.{Record}
 use Rattle.report.specs.declared.read.Reading.{Reading}
 use Rattle.rows.specs.Layout.{Layout, common, ending}
-use Rattle.rows.specs.Values.{Values, cut, valuesOf, lastValues, Sides, commonOf, headValues, spareIn}
+use Rattle.rows.specs.Values.{Values, cut, valuesOf, lastValues, Sides, commonOf, headValues}
+use Rattle.rows.specs.Runs.Fields.{spareIn}
 use Rattle.rows.specs.Runs.Verdict.{verdict}
 use Rattle.report.specs.Records.{bodyOf, textOf, recordAs, recordOf, values}
 use Rattle.report.specs.Runs.Reading.{outerOf, innerOf, reading}

@@ -17,7 +17,8 @@ use Rattle.rows.specs.declared.refusal.Verdict.{Verdict}
 use Rattle.rows.specs.declared.refusal.Verdict.the-variants.{Fine, Refused}
 use Rattle.report.specs.declared.record.Record.{Record}
 use Rattle.report.specs.Records.{bodyOf, recordAs, recordOf, values}
-use Rattle.rows.specs.Values.{cut, valuesOf, flat, isSpare, spareIn}
+use Rattle.rows.specs.Values.{cut, valuesOf, flat}
+use Rattle.rows.specs.Runs.Fields.{isSpare, spareIn}
 use Rattle.report.specs.Runs.Reading.{readAnswer, reading, readOf}
 use Rattle.report.specs.Conforms.{Conforms}
 use Rattle.rows.specs.Kept.{Kept, Holds, In, Keeps}

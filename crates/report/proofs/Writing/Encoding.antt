@@ -13,7 +13,8 @@ use mathlib.Core.Logic.{_⊎_, inl, inr}
 use Rattle.bits.proofs.LayLoop.{all-inside, laid-padded}
 use Rattle.slots.proofs.Parts.{allWide, fieldlike}
 use Rattle.rows.proofs.Rules.Outcomes.{and-both, false-not-true, fine-both, unless-fine}
-use Rattle.rows.specs.Values.{filled, any, fieldsIn, firstBit, headValues, joined, widths, lastValues, partWidths}
+use Rattle.rows.specs.Values.{filled, headValues, joined, widths, lastValues, partWidths}
+use Rattle.rows.specs.Runs.Fields.{hasRows, fieldsIn, firstBit}
 use native.Mathlib.Omega.{arith}
 use Rattle.bits.specs.Frame.{bytesOf, laid, laidIn, number, placed}
 use Rattle.bits.specs.Layout.{encode, total}
@@ -57,7 +58,7 @@ record Pieces (l : Layout) : Type 0 where
   ahead : allWide (widths (l .front)) ≡ true
   behind : allWide (widths (l .behind)) ≡ true
   slots : eqb (l .slots .count) 0 || eqb (l .slots .first) (slotsAt l) ≡ true
-  text : not (any (l .text)) || eqb 57 (textAt l) ≡ true
+  text : not (hasRows (l .text)) || eqb 57 (textAt l) ≡ true
   rest : firstBit (l .behind ++ ending) ≡ behindAt l
   front-in : slotsAt l ≤ 256
   slots-in : l .slots .first + l .slots .bits * l .slots .count ≤ 256
@@ -73,7 +74,7 @@ pieces b k =
     let a = and-both (allWide (widths (l .front))) _ (coded (l .code) (eqb (l .code) 0) _ refl k (listed piecesFit pieces-fit b)) in
     let c = and-both (allWide (widths (l .behind))) _ (a .1) in
     let d = and-both (eqb (l .slots .count) 0 || eqb (l .slots .first) (slotsAt l)) _ (c .1) in
-    let e = and-both (not (any (l .text)) || eqb 57 (textAt l)) _ (d .1) in
+    let e = and-both (not (hasRows (l .text)) || eqb 57 (textAt l)) _ (d .1) in
     let f = and-both (eqb (firstBit (l .behind ++ ending)) (behindAt l)) _ (e .1) in
     let g = and-both (leb (slotsAt l) 256) _ (f .1) in
     let h = and-both (leb (l .slots .first + l .slots .bits * l .slots .count) 256) _ (g .1) in
@@ -101,13 +102,13 @@ slots-start k f vs a true c e g h = ap (λ (n : ℕ). laid f (k .first) (widths 
 slots-start k f vs a false true e g h = ap (λ (n : ℕ). laid f n (widths (slotsRows k (k .count) (k .first))) vs) (eqb-true (k .first) a g)
 slots-start k f vs a false false e g h = absurd (false-not-true h)
 
-text-laid : (rs : List Row) (f text : List ℕ) (a : ℕ) → (rs ≡ []) ⊎ (rs ≡ nankai .text) → length text ≡ 18 → not (any rs) || eqb 57 a ≡ true
-    → cond (any rs) (laid f 57 (widths (nankai .text)) text) f ≡ laid f a (widths rs) (take (length rs) text)
+text-laid : (rs : List Row) (f text : List ℕ) (a : ℕ) → (rs ≡ []) ⊎ (rs ≡ nankai .text) → length text ≡ 18 → not (hasRows rs) || eqb 57 a ≡ true
+    → cond (hasRows rs) (laid f 57 (widths (nankai .text)) text) f ≡ laid f a (widths rs) (take (length rs) text)
 text-laid rs f text a (inl e) n h =
-    ap (λ (qs : List Row). cond (any qs) (laid f 57 (widths (nankai .text)) text) f) e ∙ sym (ap (λ (qs : List Row). laid f a (widths qs) (take (length qs) text)) e)
+    ap (λ (qs : List Row). cond (hasRows qs) (laid f 57 (widths (nankai .text)) text) f) e ∙ sym (ap (λ (qs : List Row). laid f a (widths qs) (take (length qs) text)) e)
 text-laid rs f text a (inr e) n h =
-    ap (λ (qs : List Row). cond (any qs) (laid f 57 (widths (nankai .text)) text) f) e
-    ∙ ap₂ (λ (m : ℕ) (t : List ℕ). laid f m (widths (nankai .text)) t) (eqb-true 57 a (subst (λ (qs : List Row). not (any qs) || eqb 57 a ≡ true) e h)) (sym (take-all 18 text (omega arith)))
+    ap (λ (qs : List Row). cond (hasRows qs) (laid f 57 (widths (nankai .text)) text) f) e
+    ∙ ap₂ (λ (m : ℕ) (t : List ℕ). laid f m (widths (nankai .text)) t) (eqb-true 57 a (subst (λ (qs : List Row). not (hasRows qs) || eqb 57 a ≡ true) e h)) (sym (take-all 18 text (omega arith)))
     ∙ sym (ap (λ (qs : List Row). laid f a (widths qs) (take (length qs) text)) e)
 
 -- six runs of fields
@@ -161,7 +162,7 @@ module _ (r : Record) (s : Shaped r) (k : known (r .body) ≡ true) where
       ∙ slots-start (l .slots) x (joined (slotsValues (l .slots) (r .slots))) (slotsAt l) _ _ refl refl (p .slots)
 
   text-put : (x : List ℕ) → let l = layout (r .body) in (
-      cond (any (l .text)) (laid x 57 (widths (nankai .text)) (r .text)) x ≡ laid x (textAt l) (widths (l .text)) (take (length (l .text)) (r .text))
+      cond (hasRows (l .text)) (laid x 57 (widths (nankai .text)) (r .text)) x ≡ laid x (textAt l) (widths (l .text)) (take (length (l .text)) (r .text))
       )
   text-put x = text-laid (layout (r .body) .text) x (r .text) (textAt (layout (r .body))) (text-apart (r .body)) (s .text) (pieces (r .body) k .text)
 

@@ -22,7 +22,7 @@ use Rattle.rows.proofs.Rules.Outcomes.{and-both, unless-true}
 use Rattle.nankai.specs.Nankai.{nankai}
 use Rattle.report.proofs.Categories.{AllSpared, Spared, all-spared, listed, ruled, sides-spared, text-apart}
 use Rattle.report.specs.declared.body.Body.{Body}
-use Rattle.rows.specs.Values.{isSpare}
+use Rattle.rows.specs.Runs.Fields.{isSpare}
 use Rattle.report.specs.Categories.{layout}
 use Rattle.slots.proofs.Used.{names}
 use Rattle.report.proofs.Tables.{slots-named}

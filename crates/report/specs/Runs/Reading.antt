@@ -13,7 +13,8 @@ use Rattle.report.specs.declared.read.Reading.{Reading}
 use Rattle.rows.specs.Runs.Questions.{_then_, unless}
 use Rattle.rows.specs.Runs.Verdict.{allowed, verdict}
 use Rattle.report.specs.Records.{bodyOf, recordOf, zeros, textOf}
-use Rattle.rows.specs.Values.{valuesOf, sparesIn}
+use Rattle.rows.specs.Values.{valuesOf}
+use Rattle.rows.specs.Runs.Fields.{sparesIn}
 use Rattle.report.specs.declared.body.Body.{Body}
 use Rattle.report.specs.declared.body.Content.{Content}
 use Rattle.report.specs.Categories.{categories, layout, preambles}

@@ -3,7 +3,7 @@ use borrow.Author.Needs.{needs}
 use Rattle.report.proofs.body.Body.fields.Statement.{statement}
 use Rattle.report.specs.declared.body.Body.{Body}
 use mathlib.Core.Path.{_∙_, ap, sym}
-use Rattle.rows.specs.Values.{fieldsIn}
+use Rattle.rows.specs.Runs.Fields.{fieldsIn}
 use Rattle.report.specs.Categories.{layout, sidesOf}
 use Rattle.report.proofs.body.Body.fields.Tie as tie
 

@@ -11,7 +11,8 @@ use Rattle.report.proofs.Categories.{text-apart}
 use Rattle.report.proofs.Texts.{text-held, text-none}
 use Rattle.rows.specs.declared.fields.Fields.{Fields}
 use Rattle.report.specs.declared.record.Record.{Record}
-use Rattle.rows.specs.Values.{any, partWidths}
+use Rattle.rows.specs.Values.{partWidths}
+use Rattle.rows.specs.Runs.Fields.{hasRows}
 use Rattle.slots.specs.Slots.{tidySlots}
 use Rattle.report.proofs.record.Record.is_tidy.Tie as tie
 
@@ -25,7 +26,7 @@ found c =
     c .are-tidy .ensures ∙ ap (λ (v : Fields). tidySlots (v .table .widths) (v .table .count) (r .slots)) (c .before .before .before .fields .ensures)
 
 -- whether the category has text
-has-text : (c : tie.After-are-tidy) → any (layout (record-of c .body) .text) ≡ c .before .before .before .fields .result .table .text
+has-text : (c : tie.After-are-tidy) → hasRows (layout (record-of c .body) .text) ≡ c .before .before .before .fields .result .table .text
 has-text c = sym (ap (λ (v : Fields). v .table .text) (c .before .before .before .fields .ensures))
 
 eighteen : (c : tie.After-are-tidy) → length (record-of c .text) ≡ 18

@@ -1,0 +1,55 @@
+-- A category's table and the values of its rows as code hands them on, and what stands in the spares of a frame.
+use mathlib.Core.Bool.{Bool, cond, false, true}
+use Rattle.rows.specs.declared.fields.Fields.{Fields}
+use Rattle.rows.specs.Layout.{Layout, Row, Rule, among, ending, rising, spare}
+use mathlib.Core.List.{List, [], _++_, _∷_}
+use Rattle.rows.specs.Values.{Sides, filled, partWidths, widths}
+use Rattle.rows.specs.declared.fields.Spares.{Spares}
+use Rattle.rows.specs.declared.fields.Table.{Table}
+use Rattle.bits.specs.Frame.{fieldIn}
+use Prim.Native.Nat.{ℕ}
+
+-- whether there is a row at all
+abbrev pub hasRows : List Row → Bool
+hasRows [] = false
+hasRows (r ∷ rs) = true
+
+-- the first bit of the first row, 0 where there is none
+abbrev pub firstBit : List Row → ℕ
+firstBit [] = 0
+firstBit (r ∷ rs) = r .first
+
+-- what stands in the first spare among rows, 0 where there is none
+abbrev pub isSpare : Rule → Bool
+isSpare (among ss) = false
+isSpare (rising hi) = false
+isSpare spare = true
+
+abbrev pub spareIn : List ℕ → List Row → ℕ
+spareIn s [] = 0
+spareIn s (r ∷ rs) = cond (isSpare (r .rule)) (fieldIn 57 s (r .first) (r .width)) (spareIn s rs)
+
+abbrev pub sparesIn : List ℕ → Layout → Spares
+sparesIn s l = record { front = spareIn s (l .front); behind = spareIn s (l .behind) }
+
+-- what a category's table says in numbers
+abbrev pub tableIn : Layout → Table
+tableIn l = record {
+  code = l .code;
+  count = l .slots .count;
+  first = l .slots .first;
+  bits = l .slots .bits;
+  widths = partWidths (l .slots);
+  text = hasRows (l .text);
+  rest = firstBit (l .behind ++ ending);
+}
+
+-- and the values of its rows with their widths; behind the last row there are no bits
+abbrev pub fieldsIn : Layout → Sides → Fields
+fieldsIn l v = record {
+  table = tableIn l;
+  ahead = filled 18 (widths (l .front));
+  front = filled 18 (v .front);
+  after = filled 3 (widths (l .behind));
+  behind = filled 3 (v .behind);
+}
