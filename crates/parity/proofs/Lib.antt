@@ -3,4 +3,5 @@ pub mod Step
 pub mod Xor
 pub mod Linear
 pub mod Front
+pub mod Bytes
 pub mod Settled

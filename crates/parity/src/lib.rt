@@ -2,7 +2,8 @@
 // is for the crates above.
 ghost use mathlib.Core.Path.{_≡_};
 ghost use Prim.Native.Nat.{_^_, _<_};
-ghost use Rattle.parity.specs.Parity.{step, parityOf, parityRight};
+ghost use Rattle.bits.specs.Frame.{bitOf};
+ghost use Rattle.parity.specs.Parity.{step, after, parityOf, parityRight};
 
 // The register after one bit more.
 fn push(register: u32, bit: u32) -> u32
@@ -17,18 +18,33 @@ fn push(register: u32, bit: u32) -> u32
     }
 }
 
-// The parity that bits 0 to 225 ask for.
+// The register after the first `count` bits of a byte more.
+fn push_bits(register: u32, byte: u8, count: usize) -> u32
+    requires { ⌜ register < 2 ^ 24 ⌝ }
+    ensures { λ r. ⌜ (r ≡ after register (bitOf byte) count) × (r < 2 ^ 24) ⌝ }
+{
+    let mut next = register;
+    let mut at: usize = 0;
+    while at < count {
+        let bit = bits::bit_of(byte, at);
+        next = push(next, bit as u32);
+        at += 1;
+    }
+    next
+}
+
+// The parity that bits 0 to 225 ask for: those of 28 bytes, and two of the next. The bits of one byte have fixed
+// places, so going byte by byte costs less than finding each bit in the frame.
 pub fn parity(frame: [u8; 32]) -> u32
     ensures { λ r. ⌜ r ≡ parityOf frame ⌝ }
 {
     let mut register: u32 = 0;
     let mut at: usize = 0;
-    while at < 226 {
-        let bit = bits::bit(frame, at);
-        register = push(register, bit as u32);
+    while at < 28 {
+        register = push_bits(register, frame[at], 8);
         at += 1;
     }
-    register
+    push_bits(register, frame[28], 2)
 }
 
 // Whether bits 226 to 249 hold that parity.
