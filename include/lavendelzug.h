@@ -36,7 +36,7 @@ extern "C" {
 /* ---- Lengths in bytes ---- */
 #define LZ_FRAME_BYTES 32    /* 250 bits, most significant first, then six zeros */
 #define LZ_LINE_DIGITS 63    /* a frame as text, without an end of line */
-#define LZ_RECORD_BYTES 241  /* what a frame says */
+#define LZ_RECORD_BYTES 251  /* what a frame says */
 #define LZ_NAME_BYTES 8      /* which bulletin */
 #define LZ_STORE_BYTES 1205  /* a bulletin's pages */
 #define LZ_COUNT_BYTES 3     /* held, disputed, lowest */
@@ -79,7 +79,7 @@ extern "C" {
 #define LZ_MARK_DISPUTED 2  /* with 15: more than one was */
 
 /*
- * ---- A record: 241 bytes ----
+ * ---- A record: 251 bytes ----
  *
  * Each number stands at a fixed place, in one byte unless more are named, the most
  * significant byte first. The ranges are those that are read and written.
@@ -91,9 +91,15 @@ extern "C" {
  *    3   Rc                        2, 7
  *    4   month, day, hour, minute  1-12, 1-31, 0-23, 0-59: when it was issued
  *    8   It                        0, 2; in category 9 also 1
- *    9   22 bytes by category, zero where the category uses fewer
- *   31   16 slots of 12 bytes
- *  223   18 bytes of text: any in category 4, else zero
+ *    9   32 bytes by category, zero where the category uses fewer
+ *   41   16 slots of 12 bytes
+ *  233   18 bytes of text: any in category 4, else zero
+ *
+ * What a category has beside slots and text stands in the order of the frame. A
+ * field of at most 8 bits has 1 byte, of at most 16 bits 2, of at most 32 bits 4,
+ * a longer one 8. Spare fields have their bytes too, but a record holds nothing
+ * of them: they are zero, and anything else there is 11, as it is behind the last
+ * field.
  */
 #define LZ_RECORD_CATEGORY 0
 #define LZ_RECORD_PREAMBLE 1
@@ -104,46 +110,78 @@ extern "C" {
 #define LZ_RECORD_HOUR 6
 #define LZ_RECORD_MINUTE 7
 #define LZ_RECORD_IT 8
-#define LZ_RECORD_TEXT 223
+#define LZ_RECORD_TEXT 233
 
 /*
  * Category 2. Depth 501 is deeper than 500 km, 511 unknown. Magnitude 126 is
  * above 8.0 without a moment magnitude, 127 unknown. Side 0 is north or east.
  *
- *    9   three notifications       2 bytes each: 0 (none), 101-500
- *   15   day, hour, minute         1-31, 0-23, 0-59: when the earthquake was
- *   18   depth in km               2 bytes: 0-501, 511
- *   20   magnitude in tenths       1-101, 126, 127
- *   21   epicenter                 2 bytes: 11-1000
- *   23   latitude: side, degrees, minutes, seconds   0-1, 0-89, 0-59, 0-59
- *   27   longitude: the same                         0-1, 0-179, 0-59, 0-59
+ *    9   spare                     2 bytes: 0
+ *   11   three notifications       2 bytes each: 0 (none), 101-500
+ *   17   day, hour, minute         1-31, 0-23, 0-59: when the earthquake was
+ *   20   depth in km               2 bytes: 0-501, 511
+ *   22   magnitude in tenths       1-101, 126, 127
+ *   23   epicenter                 2 bytes: 11-1000
+ *   25   latitude: side, degrees, minutes, seconds   0-1, 0-89, 0-59, 0-59
+ *   29   longitude: the same                         0-1, 0-179, 0-59, 0-59
+ *   33   spare                     8 bytes: 0
  */
-#define LZ_QUAKE_NOTIFICATIONS 9
-#define LZ_QUAKE_DAY 15
-#define LZ_QUAKE_HOUR 16
-#define LZ_QUAKE_MINUTE 17
-#define LZ_QUAKE_DEPTH 18
-#define LZ_QUAKE_MAGNITUDE 20
-#define LZ_QUAKE_EPICENTER 21
-#define LZ_QUAKE_LATITUDE 23
-#define LZ_QUAKE_LONGITUDE 27
+#define LZ_QUAKE_SPARE1 9
+#define LZ_QUAKE_NOTIFICATIONS 11
+#define LZ_QUAKE_DAY 17
+#define LZ_QUAKE_HOUR 18
+#define LZ_QUAKE_MINUTE 19
+#define LZ_QUAKE_DEPTH 20
+#define LZ_QUAKE_MAGNITUDE 22
+#define LZ_QUAKE_EPICENTER 23
+#define LZ_QUAKE_LATITUDE 25
+#define LZ_QUAKE_LONGITUDE 29
+#define LZ_QUAKE_SPARE2 33
 
-/* Category 3: when the earthquake was, as above. */
-#define LZ_INTENSITY_DAY 9
-#define LZ_INTENSITY_HOUR 10
-#define LZ_INTENSITY_MINUTE 11
+/*
+ * Category 3.
+ *
+ *    9   spare                     2 bytes: 0
+ *   11   day, hour, minute         as above: when the earthquake was
+ *   14   spare                     0
+ */
+#define LZ_INTENSITY_SPARE1 9
+#define LZ_INTENSITY_DAY 11
+#define LZ_INTENSITY_HOUR 12
+#define LZ_INTENSITY_MINUTE 13
+#define LZ_INTENSITY_SPARE2 14
 
-/* Category 4: Is (1-15), page number (1-63), page total (from the number to 63). */
-#define LZ_NANKAI_IS 9
-#define LZ_NANKAI_PAGE 10
-#define LZ_NANKAI_TOTAL 11
+/*
+ * Category 4.
+ *
+ *    9   spare                     2 bytes: 0
+ *   11   Is                        1-15
+ *   12   page number               1-63
+ *   13   page total                from the number to 63
+ *   14   spare                     0
+ */
+#define LZ_NANKAI_SPARE1 9
+#define LZ_NANKAI_IS 11
+#define LZ_NANKAI_PAGE 12
+#define LZ_NANKAI_TOTAL 13
+#define LZ_NANKAI_SPARE2 14
 
-/* Category 9: the time as above, warning type (1-2), volcano (2 bytes: 101-4000). */
-#define LZ_ASH_DAY 9
-#define LZ_ASH_HOUR 10
-#define LZ_ASH_MINUTE 11
-#define LZ_ASH_WARNING 12
-#define LZ_ASH_VOLCANO 13
+/*
+ * Category 9.
+ *
+ *    9   spare                     2 bytes: 0
+ *   11   day, hour, minute         as above: of the volcanic activity
+ *   14   warning type              1-2
+ *   15   volcano                   2 bytes: 101-4000
+ *   17   spare                     2 bytes: 0
+ */
+#define LZ_ASH_SPARE1 9
+#define LZ_ASH_DAY 11
+#define LZ_ASH_HOUR 12
+#define LZ_ASH_MINUTE 13
+#define LZ_ASH_WARNING 14
+#define LZ_ASH_VOLCANO 15
+#define LZ_ASH_SPARE2 17
 
 /*
  * Slot number i, counted from 0, starts at LZ_RECORD_SLOT(i). The first slot is
@@ -157,7 +195,7 @@ extern "C" {
  *   category 3    0   intensity 1-7    prefecture 1-47        16 slots
  *   category 9  1-6   1-7              place 110000-4799999    4 slots
  */
-#define LZ_RECORD_SLOT(i) (31 + LZ_SLOT_BYTES * (i))
+#define LZ_RECORD_SLOT(i) (41 + LZ_SLOT_BYTES * (i))
 #define LZ_SLOTS 16
 #define LZ_SLOT_BYTES 12
 #define LZ_SLOT_DAY 0
@@ -211,7 +249,7 @@ uint32_t lz_parity(const uint8_t *frame, size_t frame_length);
 /*
  * Reads a frame into a record, whose writing gives the same frame, and answers 0.
  * Where something is refused the record's buffer stays as it was.
- * Refuses: 255 where record_length is not 241; 1, 2, 3, 4, 5, 6, 7; then 8, 9
+ * Refuses: 255 where record_length is not 251; 1, 2, 3, 4, 5, 6, 7; then 8, 9
  * and 10 by the lowest place.
  */
 uint32_t lz_read(const uint8_t *frame, size_t frame_length,
@@ -220,7 +258,7 @@ uint32_t lz_read(const uint8_t *frame, size_t frame_length,
 /*
  * Writes a record to a frame, whose reading gives the same record, and answers 0.
  * Where something is refused the frame's buffer stays as it was.
- * Refuses: 255 where record_length is not 241; 1, 3, 7, 11; then 8 and 10 by the
+ * Refuses: 255 where record_length is not 251; 1, 3, 7, 11; then 8 and 10 by the
  * lowest place.
  */
 uint32_t lz_write(const uint8_t *record_bytes, size_t record_length,
@@ -228,7 +266,7 @@ uint32_t lz_write(const uint8_t *record_bytes, size_t record_length,
 
 /*
  * Reads a line, which is lent without its end of line, into a record as lz_read
- * reads a frame. Refuses: 255 where record_length is not 241; 17; 2 to 10.
+ * reads a frame. Refuses: 255 where record_length is not 251; 17; 2 to 10.
  */
 uint32_t lz_read_line(const uint8_t *line, size_t line_length,
                       uint8_t *record_bytes, size_t record_length);
@@ -246,7 +284,7 @@ uint32_t lz_write_line(const uint8_t *frame, size_t frame_length,
  * ---- The pages of a Nankai bulletin ----
  *
  * Before all else each of these answers 255, and touches nothing, where a name
- * is not 8 bytes long, a store not 1205, a record not 241 or counts not 3.
+ * is not 8 bytes long, a store not 1205, a record not 251 or counts not 3.
  */
 
 /*

@@ -5,10 +5,10 @@ use crate::packed::{packed, Bytes, LENGTH};
 use crate::reading::{bytes_of, frame_of};
 use crate::writing::with_stray;
 use crate::{door, pattern, Count};
-use reference::generate::{any_bulletin, any_history, any_record, any_store, any_taking};
+use reference::generate::{any_bulletin, any_history, any_record, any_store, any_taking, Bulletin};
 use reference::player::{Answer, Player, Step, Stores, STORES};
 use reference::random::Random;
-use reference::record::{Category, Record};
+use reference::record::Record;
 use reference::samples;
 use reference::store::{Name, Store, StoreBytes, STORE_BYTES};
 
@@ -142,7 +142,7 @@ pub fn stray_records(count: &mut Count) {
     for _ in 0..STRAY_RECORDS {
         let bulletin = any_bulletin(&mut random);
         let store = any_store(&mut random, &bulletin);
-        let record = stray_record(&mut random);
+        let record = stray_record(&mut random, &bulletin);
         let mut after = store;
         let answer = door::take(&mut after, &record);
         let sound = Store::of_bytes(&store).is_sound();
@@ -152,11 +152,11 @@ pub fn stray_records(count: &mut Count) {
 }
 
 /// Record bytes with a first byte that is no category, or with something
-/// behind what the category has.
-fn stray_record(random: &mut Random) -> Bytes {
-    let record = any_record(random);
+/// where the category has no field. Many are pages of the bulletin but for that.
+fn stray_record(random: &mut Random, bulletin: &Bulletin) -> Bytes {
+    let record = if random.one_in(2) { any_taking(random, bulletin) } else { any_record(random) };
     let mut bytes = packed(&record);
-    if record.body.category() == Some(Category::Hypocenter) || random.one_in(2) {
+    if random.one_in(2) {
         bytes[0] = random.pick(&[0, 1, 5, 8, 10, 255]);
         bytes
     } else {

@@ -54,8 +54,8 @@ fn main() {
     run("writing, document 004", writing::document_004);
     run("writing, frames of other lengths", writing::frame_lengths);
     run("writing, record bytes of other lengths", writing::record_lengths);
-    run("writing, a bit behind the category's bytes", writing::stray_bits);
-    run("writing, bytes behind the category's bytes", writing::stray_records);
+    run("writing, a bit where no field stands", writing::stray_bits);
+    run("writing, bytes where no field stands", writing::stray_records);
     run("writing, no category", writing::no_category);
     run("written and read again", writing::there_and_back);
     run("lines of all kinds", lines::any_lines);

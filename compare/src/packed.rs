@@ -1,18 +1,31 @@
-//! The bytes of a record, put at their places one by one.
+//! The bytes of a record: what every record has, slots and text at their
+//! places, and what its category has by the rows of the category's table.
 
-use reference::record::{Angle, Body, Record, Slot, Time};
+use reference::fields::{fields, spares};
+use reference::record::{Category, Record, Slot};
+use reference::write::placed;
+use std::ops::Range;
 
-pub const LENGTH: usize = 241;
-pub const SLOTS: usize = 31;
+pub const LENGTH: usize = 251;
+pub const SLOTS: usize = 41;
 pub const SLOT_LENGTH: usize = 12;
-pub const TEXT: usize = 223;
+pub const TEXT: usize = 233;
+
+/// Where what a category has beside slots and text begins.
+const OWN: usize = 9;
 
 pub type Bytes = [u8; LENGTH];
+
+/// A row of a category's table, with its first bit and the bytes it takes.
+struct Row {
+    first: usize,
+    spare: bool,
+    bytes: Range<usize>,
+}
 
 /// What stands nowhere in the record is zero.
 pub fn packed(record: &Record) -> Bytes {
     let mut bytes = [0; LENGTH];
-    bytes[0] = record.body.category().map_or(0, |category| category.code() as u8);
     bytes[1] = record.preamble;
     bytes[2] = record.reserved;
     bytes[3] = record.rc;
@@ -21,7 +34,10 @@ pub fn packed(record: &Record) -> Bytes {
     bytes[6] = record.hour;
     bytes[7] = record.minute;
     bytes[8] = record.it;
-    put_body(&mut bytes, &record.body);
+    if let Some(category) = record.body.category() {
+        bytes[0] = category.code() as u8;
+        put_own(&mut bytes, record, category);
+    }
     for (number, slot) in record.slots.iter().enumerate() {
         put_slot(&mut bytes, SLOTS + SLOT_LENGTH * number, slot);
     }
@@ -29,40 +45,56 @@ pub fn packed(record: &Record) -> Bytes {
     bytes
 }
 
-fn put(bytes: &mut Bytes, place: usize, part: &[u8]) {
-    bytes[place..place + part.len()].copy_from_slice(part);
+/// The bytes in front of the slots in which no field of a category stands:
+/// those of its spares, and those behind its last row. Without a category it
+/// is all of them.
+pub fn unused(category: Option<Category>) -> Vec<usize> {
+    let rows = category.map_or(Vec::new(), rows);
+    let is_used = |place| rows.iter().any(|row| !row.spare && row.bytes.contains(&place));
+    (OWN..SLOTS).filter(|&place| !is_used(place)).collect()
 }
 
-fn put_body(bytes: &mut Bytes, body: &Body) {
-    match body {
-        Body::Nothing => {}
-        Body::Hypocenter(hypocenter) => {
-            for (number, notification) in hypocenter.notifications.iter().enumerate() {
-                put(bytes, 9 + 2 * number, &notification.to_be_bytes());
-            }
-            put_time(bytes, 15, &hypocenter.time);
-            put(bytes, 18, &hypocenter.depth.to_be_bytes());
-            bytes[20] = hypocenter.magnitude;
-            put(bytes, 21, &hypocenter.epicenter.to_be_bytes());
-            put_angle(bytes, 23, &hypocenter.latitude);
-            put_angle(bytes, 27, &hypocenter.longitude);
-        }
-        Body::Intensity(time) => put_time(bytes, 9, time),
-        Body::Nankai { serial, page, total } => put(bytes, 9, &[*serial, *page, *total]),
-        Body::AshFall { time, warning, volcano } => {
-            put_time(bytes, 9, time);
-            bytes[12] = *warning;
-            put(bytes, 13, &volcano.to_be_bytes());
-        }
+/// What a category has beside slots and text, from Spare1 on in the order of
+/// the frame, one behind the other.
+fn rows(category: Category) -> Vec<Row> {
+    let spares = spares(category);
+    let mut table = spares.to_vec();
+    let fields = fields(category).into_iter().filter(|field| field.first > spares[0].0);
+    table.extend(fields.map(|field| (field.first, field.width)));
+    table.sort_unstable();
+    let mut end = OWN;
+    let row = |(first, width)| {
+        let start = end;
+        end += size(width);
+        Row { first, spare: spares.contains(&(first, width)), bytes: start..end }
+    };
+    table.into_iter().map(row).collect()
+}
+
+/// How many bytes a field of so many bits takes.
+fn size(width: usize) -> usize {
+    match width {
+        0..=8 => 1,
+        9..=16 => 2,
+        17..=32 => 4,
+        _ => 8,
     }
 }
 
-fn put_time(bytes: &mut Bytes, place: usize, time: &Time) {
-    put(bytes, place, &[time.day, time.hour, time.minute]);
+/// A record does not hold what stands in spares.
+fn put_own(bytes: &mut Bytes, record: &Record, category: Category) {
+    let numbers = placed(record, category);
+    for row in rows(category).iter().filter(|row| !row.spare) {
+        let number = numbers.iter().find(|number| number.first == row.first);
+        let value = number.expect("every field of the category is placed").value.to_be_bytes();
+        let (above, low) = value.split_at(value.len() - row.bytes.len());
+        assert!(above.iter().all(|&byte| byte == 0), "a number is wider than its bytes");
+        put(bytes, row.bytes.start, low);
+    }
 }
 
-fn put_angle(bytes: &mut Bytes, place: usize, angle: &Angle) {
-    put(bytes, place, &[angle.side, angle.degrees, angle.minutes, angle.seconds]);
+fn put(bytes: &mut Bytes, place: usize, part: &[u8]) {
+    bytes[place..place + part.len()].copy_from_slice(part);
 }
 
 fn put_slot(bytes: &mut Bytes, place: usize, slot: &Slot) {

@@ -17,7 +17,7 @@ const ANY_FRAMES: usize = 1_000_000;
 const HOKKAIDO: u64 = 1;
 
 /// The byte of the page number in category 4.
-const PAGE_NUMBER: usize = 10;
+const PAGE_NUMBER: usize = 12;
 
 /// Frames of every kind that the reference builds, right ones and wrong ones.
 pub fn any_frames(count: &mut Count) {

@@ -1,20 +1,17 @@
 //! Writing the bytes of a record to a frame, against the reference writer:
 //! answer, place and all 32 bytes, and what a refusal leaves in the frame.
 
-use crate::packed::{packed, Bytes, LENGTH, SLOTS};
+use crate::packed::{packed, unused, Bytes, LENGTH};
 use crate::{door, pattern, Count};
 use reference::generate::{any_record, boundary_records, valid_record};
 use reference::random::Random;
-use reference::record::{Body, Category, Record};
+use reference::record::{Category, Record};
 use reference::samples;
 use reference::write::write;
 
 const ANY_RECORDS: usize = 1_000_000;
 const STRAY_RECORDS: usize = 200_000;
 const FRAME_LENGTH: usize = 32;
-
-/// Where what a category has beside slots and text begins.
-const BODY: usize = 9;
 
 /// What a call answers, and the frame after it.
 type Outcome = ([u8; 4], Vec<u8>);
@@ -49,8 +46,8 @@ pub fn frame_lengths(count: &mut Count) {
         for length in [0, 31, 33, 40] {
             agree(count, &valid_record(&mut random, category), length);
             agree(count, &any_record(&mut random), length);
-            let page = valid_record(&mut random, Category::Nankai);
-            let stray = with_stray(&mut random, &page);
+            let record = valid_record(&mut random, category);
+            let stray = with_stray(&mut random, &record);
             count.same(&stray, &outcome(&stray, length), &refused(1, length));
         }
     }
@@ -72,12 +69,13 @@ pub fn record_lengths(count: &mut Count) {
     }
 }
 
-/// Every bit behind what a category has, set in a valid record: that is 11.
+/// Every bit of a category's spares and behind its last field, set in a valid
+/// record: that is 11.
 pub fn stray_bits(count: &mut Count) {
     let mut random = Random::new(56);
     for category in Category::ALL {
         let record = valid_record(&mut random, category);
-        for place in end_of(&record.body)..SLOTS {
+        for place in unused(Some(category)) {
             for bit in 0..8 {
                 let mut bytes = packed(&record);
                 bytes[place] = 1 << bit;
@@ -93,9 +91,6 @@ pub fn stray_records(count: &mut Count) {
     let mut random = Random::new(57);
     for _ in 0..STRAY_RECORDS {
         let record = any_record(&mut random);
-        if end_of(&record.body) == SLOTS {
-            continue;
-        }
         let bytes = with_stray(&mut random, &record);
         let number = match expected(&record, FRAME_LENGTH).0[0] {
             earlier @ (3 | 7) => earlier,
@@ -171,23 +166,13 @@ fn refused(number: u8, length: usize) -> Outcome {
     ([number, 0, 0, 0], pattern(length))
 }
 
-/// The byte behind what a body has, at most the first byte of the slots.
-fn end_of(body: &Body) -> usize {
-    match body {
-        Body::Nothing => BODY,
-        Body::Hypocenter(_) => SLOTS,
-        Body::Intensity(_) | Body::Nankai { .. } => BODY + 3,
-        Body::AshFall { .. } => BODY + 6,
-    }
-}
-
-/// The bytes of a record with something in one place or more behind what its
-/// body has.
+/// The bytes of a record with something in one place or more where its
+/// category has no field.
 pub fn with_stray(random: &mut Random, record: &Record) -> Bytes {
     let mut bytes = packed(record);
-    let end = end_of(&record.body);
+    let places = unused(record.body.category());
     for _ in 0..1 + random.below(3) {
-        bytes[end + random.below(SLOTS - end)] = 1 + random.below(255) as u8;
+        bytes[random.pick(&places)] = 1 + random.below(255) as u8;
     }
     bytes
 }

@@ -41,6 +41,14 @@ void check_taking_refused(void)
     TAKING_IS(refused(LZ_REFUSED_NO_PAGE), store, record);
     record[LZ_RECORD_TEXT] = 1;
     TAKING_IS(refused(LZ_REFUSED_UNUSED), store, record);
+    for (unsigned i = 0; i < 4; i++) {
+        /* both spares, and the first and the last byte behind them */
+        static const unsigned unused[4] = {LZ_NANKAI_SPARE1, LZ_NANKAI_SPARE2,
+                                           LZ_NANKAI_SPARE2 + 1, LZ_RECORD_SLOT(0) - 1};
+        page_record(record, 1, page_texts[0]);
+        record[unused[i]] = 1;
+        TAKING_IS(refused(LZ_REFUSED_UNUSED), store, record);
+    }
     page_record(record, 4, page_texts[0]);
     TAKING_IS(refused_at(LZ_REFUSED_RANGE, 207), store, record);
     record[LZ_NANKAI_TOTAL] = 4;

@@ -99,6 +99,8 @@ static const struct record_fault record_faults[] = {
     {LZ_RECORD_TEXT + 17, 1, 0, LZ_REFUSED_UNUSED, 0},
     {LZ_RECORD_SLOT(15) + LZ_SLOT_PLACE, 1, 0, LZ_REFUSED_UNUSED, 0},
     {LZ_RECORD_SLOT(0) + LZ_SLOT_DAY, 1, 0, LZ_REFUSED_UNUSED, 0},
+    {LZ_QUAKE_SPARE2, 1, 0, LZ_REFUSED_UNUSED, 0},
+    {LZ_QUAKE_SPARE1, 1, 0, LZ_REFUSED_UNUSED, 0},
     {LZ_RECORD_RC, 1, 7, LZ_REFUSED_RANGE, 14},
     {LZ_RECORD_IT, 1, 0, LZ_REFUSED_RANGE, 41},
     {LZ_QUAKE_MAGNITUDE, 102, 64, LZ_REFUSED_RANGE, 105},
@@ -138,6 +140,37 @@ static void check_order_of_writing(void)
     SAME_WORD(LZ_FINE, lz_write(record, sizeof record, frame, sizeof frame));
 }
 
+/* Bytes in front of the slots in which no field of a category stands. */
+struct unused {
+    void (*sample)(uint8_t *record);
+    unsigned from, to;
+};
+
+/* Spares; behind the second one there is nothing more. */
+static const struct unused unused[] = {
+    {hypocenter_record, LZ_QUAKE_SPARE1, LZ_QUAKE_NOTIFICATIONS},
+    {hypocenter_record, LZ_QUAKE_SPARE2, LZ_RECORD_SLOT(0)},
+    {intensity_record, LZ_INTENSITY_SPARE1, LZ_INTENSITY_DAY},
+    {intensity_record, LZ_INTENSITY_SPARE2, LZ_RECORD_SLOT(0)},
+    {nankai_record, LZ_NANKAI_SPARE1, LZ_NANKAI_IS},
+    {nankai_record, LZ_NANKAI_SPARE2, LZ_RECORD_SLOT(0)},
+    {ash_fall_record, LZ_ASH_SPARE1, LZ_ASH_DAY},
+    {ash_fall_record, LZ_ASH_SPARE2, LZ_RECORD_SLOT(0)},
+};
+
+/* Each of them alone is 11. */
+static void check_unused_refused(void)
+{
+    uint8_t record[LZ_RECORD_BYTES];
+    for (size_t i = 0; i < sizeof unused / sizeof unused[0]; i++) {
+        for (unsigned at = unused[i].from; at < unused[i].to; at++) {
+            unused[i].sample(record);
+            record[at] = 1;
+            WRITING_IS(refused(LZ_REFUSED_UNUSED), record, LZ_FRAME_BYTES);
+        }
+    }
+}
+
 /* What a used slot has beyond its category is 11, and all of a place counts. */
 static void check_slot_refused(void)
 {
@@ -156,11 +189,12 @@ void check_writing_refused(void)
 {
     uint8_t record[LZ_RECORD_BYTES];
     check_order_of_writing();
+    check_unused_refused();
     check_slot_refused();
     intensity_record(record);
     memcpy(record + LZ_RECORD_SLOT(10), record + LZ_RECORD_SLOT(0), LZ_SLOT_BYTES);
     WRITING_IS(refused_at(LZ_REFUSED_GAP, 159), record, LZ_FRAME_BYTES);
-    record[LZ_INTENSITY_MINUTE + 1] = 1;
+    record[LZ_INTENSITY_SPARE2] = 1;
     WRITING_IS(refused(LZ_REFUSED_UNUSED), record, LZ_FRAME_BYTES);
 }
 

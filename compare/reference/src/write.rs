@@ -8,10 +8,11 @@ use crate::record::{Angle, Body, Category, Hypocenter, Record, Refusal, Slot, Ti
 
 /// A number of the record and where it goes in the frame. The number may be
 /// too wide for its place; then it is also out of range.
-struct Placed {
-    first: usize,
-    width: usize,
-    value: u64,
+#[derive(Clone, Copy, Debug)]
+pub struct Placed {
+    pub first: usize,
+    pub width: usize,
+    pub value: u64,
 }
 
 /// Writes the frame of a record into a lent buffer, or says which refusal
@@ -79,7 +80,7 @@ fn image(record: &Record, category: Category, placed: &[Placed]) -> Frame {
 }
 
 /// Every number of the record that has a range or is text, with its place.
-fn placed(record: &Record, category: Category) -> Vec<Placed> {
+pub fn placed(record: &Record, category: Category) -> Vec<Placed> {
     let mut all = vec![
         place(14, 3, record.rc),
         place(21, 4, record.month),

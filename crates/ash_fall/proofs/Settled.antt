@@ -20,3 +20,6 @@ Eruption-fields-is-settled κs a x y = answer
 
 pub places-of-is-settled : Settled ash_fall.places.places_of.ended ash_fall.places.places_of.Reads.Post
 places-of-is-settled κs a x y = answer
+
+pub Eruption-of-values-is-settled : Settled ash_fall.Eruption.of_values.ended ash_fall.Eruption.of_values.Reads.Post
+Eruption-of-values-is-settled κs a x y = answer

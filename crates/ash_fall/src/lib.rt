@@ -5,7 +5,7 @@ ghost use Rattle.rows.specs.Runs.Questions.{_then_};
 ghost use Rattle.rows.specs.Runs.Verdict.{walk, bodyVerdict};
 ghost use Rattle.ash_fall.specs.AshFall.{ashFall, eruptionValues, eruptionFrom, places};
 ghost use Rattle.rows.specs.Values.{headValues, sidesAt};
-ghost use Rattle.rows.specs.Runs.Fields.{fieldsIn, tableIn, sparesIn};
+ghost use Rattle.rows.specs.Runs.Fields.{keptIn, fieldsIn, tableIn, sparesIn};
 ghost use Rattle.slots.specs.Slots.{slotsValues};
 
 pub mod meaning; // what a place says
@@ -18,6 +18,8 @@ use rows::common::Common;
 use rows::fields::Fields;
 use rows::fields::Spares;
 use rows::fields::Table;
+use rows::fields::one_byte;
+use rows::fields::two_bytes;
 use rows::refusal::Verdict;
 use rows::time::Time;
 use slots::slot::Slot;
@@ -62,6 +64,17 @@ impl Eruption {
             time: Time::at(f, 53),
             warning: bits::field8(f, 69, 2),
             volcano: bits::field16(f, 71, 12),
+        }
+    }
+
+    // The fields that numbers say, of each as much as its field holds.
+    pub fn of_values(front: [u64; 18]) -> Eruption
+        ensures { λ r. ⌜ r ≡ eruptionFrom (keptIn front [] ashFall) ⌝ }
+    {
+        Eruption {
+            time: Time::of_values(front[1], front[2], front[3]),
+            warning: one_byte(front[4]),
+            volcano: two_bytes(front[5]),
         }
     }
 

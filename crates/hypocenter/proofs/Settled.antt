@@ -20,3 +20,6 @@ spares-is-settled κs a x y = answer
 
 pub Quake-fields-is-settled : Settled hypocenter.Quake.fields.ended hypocenter.Quake.fields.Reads.Post
 Quake-fields-is-settled κs a x y = answer
+
+pub Quake-of-values-is-settled : Settled hypocenter.Quake.of_values.ended hypocenter.Quake.of_values.Reads.Post
+Quake-of-values-is-settled κs a x y = answer

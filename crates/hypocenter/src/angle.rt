@@ -1,11 +1,12 @@
 // A latitude or a longitude.
 ghost use mathlib.Core.Path.{_≡_};
-ghost use mathlib.Core.List.{[], map};
-ghost use Prim.Native.Nat.{_≤_};
+ghost use mathlib.Core.List.{[], _∷_, map};
+ghost use Prim.Native.Nat.{_≤_, _%_, _^_};
 ghost use Rattle.rows.specs.Values.{cut};
 ghost use Rattle.rows.specs.Runs.Questions.{_then_};
 ghost use Rattle.rows.specs.Runs.Verdict.{walk};
 ghost use Rattle.hypocenter.specs.Hypocenter.{angle, angleFrom, angleValues};
+use rows::fields::one_byte;
 use rows::refusal::Verdict;
 
 // Side 0 is north or east, 1 is south or west.
@@ -18,6 +19,18 @@ pub struct Angle {
 
 // Degrees have `width` bits.
 impl Angle {
+    // The angle that four numbers say, of each its last byte.
+    pub(crate) fn of_values(side: u64, degrees: u64, minutes: u64, seconds: u64) -> Angle
+        ensures { λ r. ⌜ r ≡ angleFrom (side % 2 ^ 8 ∷ degrees % 2 ^ 8 ∷ minutes % 2 ^ 8 ∷ seconds % 2 ^ 8 ∷ []) 0 ⌝ }
+    {
+        Angle {
+            side: one_byte(side),
+            degrees: one_byte(degrees),
+            minutes: one_byte(minutes),
+            seconds: one_byte(seconds),
+        }
+    }
+
     pub(crate) fn at(f: [u8; 32], at: usize, width: usize) -> Angle
         requires { ⌜ (at ≤ 200) × (width ≤ 8) ⌝ }
         ensures { λ r. ⌜ r ≡ angleFrom (map (cut f) (angle at width 0)) 0 ⌝ }

@@ -5,7 +5,7 @@ ghost use Rattle.rows.specs.Runs.Questions.{_then_};
 ghost use Rattle.rows.specs.Runs.Verdict.{walk, bodyVerdict};
 ghost use Rattle.hypocenter.specs.Hypocenter.{hypocenter, quakeValues, quakeFrom};
 ghost use Rattle.rows.specs.Values.{headValues, sidesAt};
-ghost use Rattle.rows.specs.Runs.Fields.{fieldsIn, tableIn, sparesIn};
+ghost use Rattle.rows.specs.Runs.Fields.{keptIn, fieldsIn, tableIn, sparesIn};
 
 pub mod meaning; // what the numbers say
 mod codes; // which values a field may hold
@@ -21,6 +21,8 @@ use rows::common::Common;
 use rows::fields::Fields;
 use rows::fields::Spares;
 use rows::fields::Table;
+use rows::fields::one_byte;
+use rows::fields::two_bytes;
 use rows::refusal::Verdict;
 use rows::time::Time;
 
@@ -77,6 +79,23 @@ impl Quake {
             epicenter: bits::field16(f, 112, 10),
             latitude: Angle::at(f, 122, 7),
             longitude: Angle::at(f, 142, 8),
+        }
+    }
+
+    // The fields that numbers say, of each as much as its field holds.
+    pub fn of_values(front: [u64; 18]) -> Quake
+        ensures { λ r. ⌜ r ≡ quakeFrom (keptIn front [] hypocenter) ⌝ }
+    {
+        Quake {
+            notification1: two_bytes(front[1]),
+            notification2: two_bytes(front[2]),
+            notification3: two_bytes(front[3]),
+            time: Time::of_values(front[4], front[5], front[6]),
+            depth: two_bytes(front[7]),
+            magnitude: one_byte(front[8]),
+            epicenter: two_bytes(front[9]),
+            latitude: Angle::of_values(front[10], front[11], front[12], front[13]),
+            longitude: Angle::of_values(front[14], front[15], front[16], front[17]),
         }
     }
 

@@ -16,7 +16,7 @@ use Rattle.inserter.specs.Answers.{takeInto, mergeInto}
 use Rattle.inserter.proofs.StoreDoors.{taking-buffer, merging-buffer}
 
 -- "A refused taking leaves the store as given": byte for byte
-pub a-refused-taking-leaves-the-bytes : (buffer bytes : List ℕ) (x : Refusal) → length buffer ≡ 1205 → length bytes ≡ 241
+pub a-refused-taking-leaves-the-bytes : (buffer bytes : List ℕ) (x : Refusal) → length buffer ≡ 1205 → length bytes ≡ 251
     → takeOf (storeFrom buffer) (unpacked bytes) .answer ≡ NotTaken x → takeInto buffer bytes .buffer ≡ buffer
 a-refused-taking-leaves-the-bytes buffer bytes x e f refused =
     taking-buffer buffer bytes e f

@@ -1,4 +1,4 @@
--- The two ways out of handing over what was read, in a buffer of 241 bytes.
+-- The two ways out of handing over what was read, in a buffer of 251 bytes.
 use mathlib.Core.Path.{_≡_, sym, ap, _∙_}
 use Prim.Native.Nat.{ℕ}
 use mathlib.Core.List.{List}
@@ -13,10 +13,10 @@ use Rattle.record_bytes.specs.Packed.{packedInto}
 use Rattle.record_bytes.proofs.ToBytes.Whole.{into-right}
 use Rattle.inserter.specs.Answers.{answerWord, callResult, readingByAnswer, readingInto}
 
-module _ (got : Reading) (buffer : List ℕ) (long : length buffer ≡ 241) where
+module _ (got : Reading) (buffer : List ℕ) (long : length buffer ≡ 251) where
   by-answer : (v : Verdict) → got .answer ≡ v → readingInto got buffer ≡ readingByAnswer v (got .«record») buffer
   unfolding readingInto
-  by-answer v e = simp (eq-eqb (length buffer) 241 long, e)
+  by-answer v e = simp (eq-eqb (length buffer) 251 long, e)
 
   pub read-whole : (out : List ℕ) → got .answer ≡ Fine → out ≡ packedInto (got .«record») buffer → callResult 0 out ≡ readingInto got buffer
   read-whole out e p = ap (callResult 0) (p ∙ into-right (got .«record») buffer long) ∙ sym (by-answer Fine e)

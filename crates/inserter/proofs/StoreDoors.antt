@@ -62,7 +62,7 @@ opening-left name buffer out n o answer e f named is put said =
     let wrote : out ≡ storeBytes (o .store) = put ∙ into-whole (o .store) buffer f in
     (λ i. callResult (said i) (wrote i)) ∙ ap openResult (is ∙ ap openOf (named ∙ name-whole name e)) ∙ through _ _ buffer (both e f)
 
-pub taking-left : (buffer bytes out : List ℕ) (s : Store) (r : Record) (t : Taking) (answer : ℕ) → length buffer ≡ 1205 → length bytes ≡ 241
+pub taking-left : (buffer bytes out : List ℕ) (s : Store) (r : Record) (t : Taking) (answer : ℕ) → length buffer ≡ 1205 → length bytes ≡ 251
     → s ≡ storeOrZeros buffer → r ≡ recordFrom bytes → t ≡ takeOf s r → out ≡ storeInto (t .store) buffer → answer ≡ takenWord (t .answer)
     → callResult answer out ≡ takeInto buffer bytes
 unfolding takeInto
@@ -84,7 +84,7 @@ merging-left buffer other out s o m answer e f kept came is put said =
 
 -- the same, told of the buffer alone
 
-pub taking-buffer : (buffer bytes : List ℕ) → length buffer ≡ 1205 → length bytes ≡ 241
+pub taking-buffer : (buffer bytes : List ℕ) → length buffer ≡ 1205 → length bytes ≡ 251
     → takeInto buffer bytes .buffer ≡ storeBytes (takeOf (storeFrom buffer) (unpacked bytes) .store)
 unfolding takeInto
 taking-buffer buffer bytes e f = sym (ap (λ (l : CallResult). l .buffer) (through _ (takeResult (takeOf (storeFrom buffer) (unpacked bytes))) buffer (both e f)))

@@ -1,4 +1,4 @@
--- The way through writing from 241 bytes.
+-- The way through writing from 251 bytes.
 use mathlib.Core.Path.{_≡_, sym, ap, _∙_}
 use mathlib.Core.Bool.{Bool, cond}
 use Prim.Native.Nat.{ℕ}
@@ -12,20 +12,20 @@ use Rattle.report.specs.Runs.Writing.{writeAnswer, writeOf}
 use Rattle.record_bytes.specs.Unpacked.{unpacked, recordFrom}
 use Rattle.inserter.specs.Answers.{CallResult, answerWord, callResult, writeInto}
 
-pub record-whole : (bytes : List ℕ) → length bytes ≡ 241 → recordFrom bytes ≡ unpacked bytes
+pub record-whole : (bytes : List ℕ) → length bytes ≡ 251 → recordFrom bytes ≡ unpacked bytes
 unfolding recordFrom
-record-whole bytes long = rw (eq-eqb (length bytes) 241 long)
+record-whole bytes long = rw (eq-eqb (length bytes) 251 long)
 
 module _ (bytes buffer : List ℕ) where
   -- what is left where the bytes are of the right length
   abbrev right : Record → CallResult
   right r = callResult (answerWord (answers (writeAnswer r (length buffer)))) (writeOf r buffer)
 
-  taken : length bytes ≡ 241 → writeInto bytes buffer ≡ right (unpacked bytes)
+  taken : length bytes ≡ 251 → writeInto bytes buffer ≡ right (unpacked bytes)
   unfolding writeInto
-  taken long = ap (λ (b : Bool). cond b (right (unpacked bytes)) (callResult (answerWord (plain 255)) buffer)) (eq-eqb (length bytes) 241 long)
+  taken long = ap (λ (b : Bool). cond b (right (unpacked bytes)) (callResult (answerWord (plain 255)) buffer)) (eq-eqb (length bytes) 251 long)
 
-  pub written : (out : List ℕ) (r : Record) (v : Verdict) (answer : ℕ) → length bytes ≡ 241 → r ≡ recordFrom bytes → v ≡ writeAnswer r (length buffer)
+  pub written : (out : List ℕ) (r : Record) (v : Verdict) (answer : ℕ) → length bytes ≡ 251 → r ≡ recordFrom bytes → v ≡ writeAnswer r (length buffer)
       → out ≡ writeOf r buffer → answer ≡ answerWord (answers v) → callResult answer out ≡ writeInto bytes buffer
   written out r v answer long is found wrote said =
       let told : answer ≡ answerWord (answers (writeAnswer r (length buffer))) = said ∙ ap (λ (x : Verdict). answerWord (answers x)) found in

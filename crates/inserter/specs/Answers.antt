@@ -58,7 +58,7 @@ readingByAnswer Fine r buffer = callResult (answerWord (answers Fine)) (packed r
 readingByAnswer (Refused x) r buffer = callResult (answerWord (answers (Refused x))) buffer
 
 unfoldable pub readingInto : Reading → List ℕ → CallResult
-readingInto r buffer = ifLengthsFit (eqb (length buffer) 241) (readingByAnswer (r .answer) (r .«record») buffer) buffer
+readingInto r buffer = ifLengthsFit (eqb (length buffer) 251) (readingByAnswer (r .answer) (r .«record») buffer) buffer
 
 abbrev pub readInto : List ℕ → List ℕ → CallResult
 readInto frame buffer = readingInto (readOf frame) buffer
@@ -71,7 +71,7 @@ readLineInto line buffer = readingInto (lineReading line) buffer
 unfoldable pub writeInto : List ℕ → List ℕ → CallResult
 writeInto bytes buffer =
     let r = unpacked bytes in
-    ifLengthsFit (eqb (length bytes) 241) (callResult (answerWord (answers (writeAnswer r (length buffer)))) (writeOf r buffer)) buffer
+    ifLengthsFit (eqb (length bytes) 251) (callResult (answerWord (answers (writeAnswer r (length buffer)))) (writeOf r buffer)) buffer
 
 abbrev pub writeLineInto : List ℕ → List ℕ → CallResult
 writeLineInto frame buffer = callResult (answerWord (answers (lineAnswer frame (length buffer)))) (lineInto frame buffer)
@@ -95,7 +95,7 @@ abbrev pub takeResult : Taking → CallResult
 takeResult t = callResult (takenWord (t .answer)) (storeBytes (t .store))
 
 unfoldable pub takeInto : List ℕ → List ℕ → CallResult
-takeInto buffer bytes = ifLengthsFit (eqb (length buffer) 1205 && eqb (length bytes) 241) (takeResult (takeOf (storeFrom buffer) (unpacked bytes))) buffer
+takeInto buffer bytes = ifLengthsFit (eqb (length buffer) 1205 && eqb (length bytes) 251) (takeResult (takeOf (storeFrom buffer) (unpacked bytes))) buffer
 
 abbrev pub mergeResult : Merging → CallResult
 mergeResult m = callResult (answerWord (answers (m .answer))) (storeBytes (m .store))

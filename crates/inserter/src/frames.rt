@@ -22,7 +22,7 @@ pub extern "C" fn lz_parity(frame: &[u8]) -> u32
     parity::parity(bits::frame_of(frame))
 }
 
-// A record that was read goes into a lent buffer of 241 bytes; a refusal leaves the buffer as it was.
+// A record that was read goes into a lent buffer of 251 bytes; a refusal leaves the buffer as it was.
 pub(crate) fn hand_over(reading: Reading, record_bytes: &mut [u8]) -> u32
     ensures { λ r. ⌜ callResult r (now (record_bytes .exit)) ≡ readingInto reading (now (record_bytes .entry)) ⌝ }
 {
@@ -42,7 +42,7 @@ pub(crate) fn hand_over(reading: Reading, record_bytes: &mut [u8]) -> u32
 
 // Reads a lent frame. The answer has the number of the refusal in the high byte, its place in the
 // next, and is 0 where nothing is refused: then the buffer holds the record's bytes, and otherwise
-// it stays as it was. A buffer that is not 241 bytes long is 255, whatever the frame is.
+// it stays as it was. A buffer that is not 251 bytes long is 255, whatever the frame is.
 #[no_mangle]
 pub extern "C" fn lz_read(frame: &[u8], record_bytes: &mut [u8]) -> u32
     ensures { λ r. ⌜ callResult r (now (record_bytes .exit)) ≡ readInto (now (frame .entry)) (now (record_bytes .entry)) ⌝ }
@@ -51,7 +51,7 @@ pub extern "C" fn lz_read(frame: &[u8], record_bytes: &mut [u8]) -> u32
 }
 
 // Writes the record of lent bytes to a lent frame. The answer is as that of `lz_read`; where
-// something is refused the frame stays as it was. Record bytes that are not 241 are 255, whatever
+// something is refused the frame stays as it was. Record bytes that are not 251 are 255, whatever
 // the frame is.
 #[no_mangle]
 pub extern "C" fn lz_write(record_bytes: &[u8], frame: &mut [u8]) -> u32

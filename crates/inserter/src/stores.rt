@@ -34,7 +34,7 @@ pub extern "C" fn lz_open(name: &[u8], store: &mut [u8]) -> u32
     verdict_word(answer)
 }
 
-// Takes the page of a record's 241 bytes: 1 where it is new, 2 where the store had the same, 3 where it
+// Takes the page of a record's 251 bytes: 1 where it is new, 2 where the store had the same, 3 where it
 // is disputed. A refusal leaves the store as it was.
 #[no_mangle]
 pub extern "C" fn lz_take(store: &mut [u8], record_bytes: &[u8]) -> u32

@@ -17,3 +17,6 @@ Shaking-fields-is-settled κs a x y = answer
 
 pub prefectures-of-is-settled : Settled intensity.prefectures.prefectures_of.ended intensity.prefectures.prefectures_of.Reads.Post
 prefectures-of-is-settled κs a x y = answer
+
+pub Shaking-of-values-is-settled : Settled intensity.Shaking.of_values.ended intensity.Shaking.of_values.Reads.Post
+Shaking-of-values-is-settled κs a x y = answer

@@ -5,7 +5,7 @@ ghost use Rattle.rows.specs.Runs.Questions.{_then_};
 ghost use Rattle.rows.specs.Runs.Verdict.{walk, bodyVerdict};
 ghost use Rattle.intensity.specs.Intensity.{intensity, shakingValues, prefectures, shakingFrom};
 ghost use Rattle.rows.specs.Values.{headValues, sidesAt};
-ghost use Rattle.rows.specs.Runs.Fields.{fieldsIn, tableIn, sparesIn};
+ghost use Rattle.rows.specs.Runs.Fields.{keptIn, fieldsIn, tableIn, sparesIn};
 ghost use Rattle.slots.specs.Slots.{slotsValues};
 
 pub mod prefectures; // its slots
@@ -57,6 +57,15 @@ impl Shaking {
     {
         Shaking {
             time: Time::at(f, 53),
+        }
+    }
+
+    // The fields that numbers say, of each as much as its field holds.
+    pub fn of_values(front: [u64; 18]) -> Shaking
+        ensures { λ r. ⌜ r ≡ shakingFrom (keptIn front [] intensity) ⌝ }
+    {
+        Shaking {
+            time: Time::of_values(front[1], front[2], front[3]),
         }
     }
 

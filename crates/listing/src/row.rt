@@ -71,13 +71,11 @@ impl Row {
         ensures { λ r. ⌜ r ≡ rowFor Fine found ⌝ }
     {
         let body = found.body;
-        let fields = body.fields(0, 0);
-        let table = fields.table;
-        let slots = Row::slots_entry(table.count, found);
+        let slots = Row::slots_entry(body.count(), found);
         Row {
             answer: 0,
             place: Entry::Dash,
-            category: Entry::Number(table.code),
+            category: Entry::Number(body.code()),
             slots: slots,
         }
     }

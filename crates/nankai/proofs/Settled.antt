@@ -20,3 +20,6 @@ PageNumbers-fields-is-settled κs a x y = answer
 
 pub lay-text-is-settled : Settled nankai.lay_text.ended nankai.lay_text.Reads.Post
 lay-text-is-settled κs a x y = answer
+
+pub PageNumbers-of-values-is-settled : Settled nankai.PageNumbers.of_values.ended nankai.PageNumbers.of_values.Reads.Post
+PageNumbers-of-values-is-settled κs a x y = answer

@@ -4,7 +4,7 @@ ghost use mathlib.Core.Path.{_≡_};
 ghost use mathlib.Core.List.{[]};
 ghost use Rattle.bits.specs.Frame.{laid};
 ghost use Rattle.rows.specs.Values.{widths, headValues, sidesAt};
-ghost use Rattle.rows.specs.Runs.Fields.{fieldsIn, tableIn, sparesIn};
+ghost use Rattle.rows.specs.Runs.Fields.{keptIn, fieldsIn, tableIn, sparesIn};
 ghost use Rattle.rows.specs.Runs.Questions.{_then_};
 ghost use Rattle.rows.specs.Runs.Verdict.{bodyVerdict};
 ghost use Rattle.nankai.specs.Nankai.{nankai, pageText, numberValues, numbersFrom};
@@ -14,6 +14,7 @@ use rows::common::Common;
 use rows::fields::Fields;
 use rows::fields::Spares;
 use rows::fields::Table;
+use rows::fields::one_byte;
 use rows::refusal::Verdict;
 
 // What stands in its spares.
@@ -57,6 +58,17 @@ impl PageNumbers {
             serial: bits::field8(f, 53, 4),
             number: bits::field8(f, 201, 6),
             total: bits::field8(f, 207, 6),
+        }
+    }
+
+    // The fields that numbers say, of each as much as its field holds.
+    pub fn of_values(front: [u64; 18], behind: [u64; 3]) -> PageNumbers
+        ensures { λ r. ⌜ r ≡ numbersFrom (keptIn front behind nankai) ⌝ }
+    {
+        PageNumbers {
+            serial: one_byte(front[1]),
+            number: one_byte(behind[0]),
+            total: one_byte(behind[1]),
         }
     }
 

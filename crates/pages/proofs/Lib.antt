@@ -1,4 +1,3 @@
-pub mod Texts
 pub mod States
 pub mod Sound
 pub mod Shapes

@@ -6,7 +6,8 @@ use native.Mathlib.Omega.{arith}
 use Rattle.pages.specs.declared.page.Page.{Page}
 use lib.Dec.{eqb}
 use borrow.Author.Tests.{ne-eqb, eqb-true, eqb-false}
-use Rattle.pages.specs.Pages.{sameBytes, noText, soundPage}
+use Rattle.pages.specs.Pages.{noText, soundPage}
+use Rattle.rows.specs.Values.{sameBytes}
 
 pub no-state : (p : Page) → 2 < p .mark → soundPage p ≡ false
 unfolding soundPage

@@ -6,8 +6,9 @@ use mathlib.Core.Logic.{_⊎_, inl, inr, ⊎-elim}
 use Prim.Native.Nat.{ℕ}
 use native.Mathlib.Omega.{arith}
 use Rattle.pages.specs.declared.page.Page.{Page}
-use Rattle.pages.specs.Pages.{sameBytes, join, absentPage, heldPage, disputedPage}
-use Rattle.pages.proofs.Texts.{eq-same, ne-same, same?}
+use Rattle.pages.specs.Pages.{join, absentPage, heldPage, disputedPage}
+use Rattle.rows.specs.Values.{sameBytes}
+use Rattle.rows.proofs.Rules.Tests.{eq-same, ne-same, same?}
 
 abbrev pub Text : Type 0
 Text = List ℕ

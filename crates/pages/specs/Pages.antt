@@ -1,18 +1,12 @@
 -- One page of a store (document 01, "The page store"): "absent, held with its 18 bytes, or disputed".
 use mathlib.Core.Path.{_≡_}
-use mathlib.Core.Bool.{Bool, true, false, _&&_, cond}
+use mathlib.Core.Bool.{Bool, true, false, cond}
 use mathlib.Core.List.{List, [], _∷_}
 use Prim.Native.Nat.{ℕ, _<_}
 use lib.ListN.{length, getD, replicate}
 use lib.Dec.{eqb, ltb}
+use Rattle.rows.specs.Values.{sameBytes}
 use Rattle.pages.specs.declared.page.Page.{Page}
-
--- two texts are the same bytes
-unfoldable pub sameBytes : List ℕ → List ℕ → Bool
-sameBytes [] [] = true
-sameBytes [] (b ∷ m) = false
-sameBytes (a ∷ l) [] = false
-sameBytes (a ∷ l) (b ∷ m) = eqb a b && sameBytes l m
 
 abbrev pub noText : List ℕ
 noText = replicate 18 0

@@ -1,6 +1,7 @@
 // One page: absent, held with its bytes, or disputed.
 ghost use mathlib.Core.Path.{_≡_};
-ghost use Rattle.pages.specs.Pages.{sameBytes, absentPage, heldPage, disputedPage, join, soundPage, soundAt};
+ghost use Rattle.pages.specs.Pages.{absentPage, heldPage, disputedPage, join, soundPage, soundAt};
+ghost use Rattle.rows.specs.Values.{sameBytes};
 
 // Mark 0 is absent, 1 held, 2 disputed. Only a held page has bytes.
 pub struct Page {

@@ -10,15 +10,15 @@ use Rattle.report.specs.declared.record.Record.{Record}
 use Rattle.rows.specs.Runs.Verdict.{allowed}
 use Rattle.report.specs.Runs.Writing.{known, writeAnswer}
 use Rattle.record_bytes.specs.Packed.{packed}
-use Rattle.record_bytes.specs.Unpacked.{bodyFrom, stray, unpacked}
+use Rattle.record_bytes.specs.Unpacked.{bodyInBytes, stray, unpacked}
 use Rattle.report.specs.Categories.{preambles}
 use Rattle.record_bytes.proofs.ToBytes.Whole as Whole
 use Rattle.record_bytes.proofs.RoundTrip as RoundTrip
 use Rattle.record_bytes.proofs.FromBytes.Refused as Refusing
 
--- A record with "sixteen slots (hour, strength or intensity, place) and 18 text bytes" has 241 bytes, whatever its category.
-pub packed-has-241-bytes : (r : Record) → length (r .slots) ≡ 16 → length (r .text) ≡ 18 → length (packed r) ≡ 241
-packed-has-241-bytes = Whole.length-packed
+-- A record with "sixteen slots (hour, strength or intensity, place) and 18 text bytes" has 251 bytes, whatever its category.
+pub packed-has-251-bytes : (r : Record) → length (r .slots) ≡ 16 → length (r .text) ≡ 18 → length (packed r) ≡ 251
+packed-has-251-bytes = Whole.length-packed
 
 -- Nothing is lost: records whose numbers fit their bytes are told apart by the bytes.
 pub bytes-tell-records-apart : (r s : Record) → RoundTrip.Fits r → RoundTrip.Fits s → packed r ≡ packed s → r ≡ s
@@ -28,7 +28,7 @@ bytes-tell-records-apart = RoundTrip.told-apart
 pub packed-then-unpacked : (r : Record) → RoundTrip.Fits r → unpacked (packed r) ≡ r
 packed-then-unpacked = RoundTrip.back
 
--- Something in bytes 9 to 30 behind what the category has is 11, and in its turn: "1, 3, 7, 11, then 8 and 10 by lowest bit".
-pub stray-bytes-are-refused : (l : List ℕ) → stray (bodyFrom l) l ≡ true → allowed preambles (getD l 1 0) ≡ true → known (bodyFrom l) ≡ true
+-- A spare that is not zero in bytes 9 to 40, or something behind the category's last field, is 11, and in its turn: "1, 3, 7, 11, then 8 and 10 by lowest bit".
+pub stray-bytes-are-refused : (l : List ℕ) → stray (bodyInBytes l) l ≡ true → allowed preambles (getD l 1 0) ≡ true → known (bodyInBytes l) ≡ true
     → writeAnswer (unpacked l) 32 ≡ Refused Unused
 stray-bytes-are-refused = Refusing.stray-refused

@@ -1,3 +1,3 @@
 pub mod Places
-pub mod Stray
+pub mod Read
 pub mod Refused

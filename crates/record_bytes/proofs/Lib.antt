@@ -1,4 +1,5 @@
 pub mod Claims
+pub mod Cells
 pub mod Texts
 pub mod ToBytes
 pub mod FromBytes

@@ -1,37 +1,31 @@
 -- From the bytes back to the record, so that the bytes tell records apart.
 use mathlib.Core.Path.{_≡_, refl, sym, ap, _∙_}
-use Prim.Native.Nat.{ℕ, suc, _+_, _*_, _^_, _<_}
+use Prim.Native.Nat.{ℕ, suc, _+_, _-_, _*_, _^_, _<_}
 use native.Mathlib.Omega.{arith}
 use native.Mathlib.Nat.{mod-eq-of-lt}
-use mathlib.Core.Bool.{Bool, false}
+use mathlib.Core.Bool.{Bool, false, not}
 use mathlib.Core.List.{List, [], _∷_, _++_, append-assoc}
-use lib.ListN.{length, getD, drop}
-use lib.Seq.{drop-at}
+use lib.ListN.{length, getD, drop, take, replicate, length-map}
+use lib.Seq.{drop-at, drop-drop, take-at}
 use Rattle.bits.specs.Frame.{number}
-use Rattle.bits.proofs.Claims.{decoded-then-encoded}
 use Rattle.slots.specs.declared.slot.Slot.{Slot}
 use Rattle.report.specs.declared.record.Record.{Record}
-use Rattle.rows.specs.Runs.Verdict.{empty}
-use Rattle.rows.specs.Values.{each}
+use Rattle.rows.specs.Values.{each, sameBytes, widths}
+use Rattle.rows.proofs.Rules.Tests.{same-refl}
 use Rattle.lent.specs.Numbers.{wide}
-use Rattle.record_bytes.specs.Packed.{zeroFilled, headBytes, bodyBytes, slotBytes, slotsBytes, packed}
-use Rattle.record_bytes.specs.Unpacked.{eightAt, slotAt, bodyOfCode, bodyFrom, stray, slotsFrom, slotsOrMisplaced, textInBytes, unpackedAs, unpacked}
-use Rattle.record_bytes.proofs.ToBytes.Whole.{front, most, length-front, length-most}
-use Rattle.record_bytes.proofs.FromBytes.Places.{each-same, byte-behind}
-use Rattle.report.specs.declared.body.Body.the-variants.{AshFall, Hypocenter, Intensity, Nankai, NoCategory}
+use Rattle.record_bytes.specs.Packed.{bodyBytes, cells, slotBytes, slotsBytes, packed}
+use Rattle.record_bytes.specs.Unpacked.{bodyInBytes, sidesInBytes, size, slotAt, stray, slotsFrom, slotsOrMisplaced, textInBytes, unpackedAs, unpacked}
+use Rattle.record_bytes.proofs.Cells.{FitBytes, cells-back, length-cells, number-wide}
+use Rattle.record_bytes.proofs.ToBytes.Whole.{front, most, length-body, length-front, length-most}
+use Rattle.record_bytes.proofs.FromBytes.Places.{each-same, byte-behind, number-behind}
 use Rattle.report.specs.declared.body.Body.{Body}
-use Rattle.report.specs.Categories.{layout}
-use Rattle.rows.specs.Faults.{place}
+use Rattle.report.specs.Categories.{layout, sidesOf}
+use Rattle.report.proofs.Categories.{body-again, sides-filled}
 
--- ---- the numbers that have more than one byte fit their bytes
+-- ---- the numbers fit their bytes
 
 abbrev pub BodyFits : Body → Type 0
-BodyFits NoCategory = Unit
-BodyFits (Hypocenter q) =
-    (q .notification1 < 2 ^ 16) × ((q .notification2 < 2 ^ 16) × ((q .notification3 < 2 ^ 16) × ((q .depth < 2 ^ 16) × (q .epicenter < 2 ^ 16))))
-BodyFits (Intensity t) = Unit
-BodyFits (Nankai p) = Unit
-BodyFits (AshFall e) = e .volcano < 2 ^ 16
+BodyFits b = FitBytes (widths (layout b .front)) (sidesOf b 0 0 .front) × FitBytes (widths (layout b .behind)) (sidesOf b 0 0 .behind)
 
 abbrev pub SlotsFit : List Slot → Type 0
 SlotsFit [] = Unit
@@ -43,55 +37,7 @@ pub record Fits (r : Record) : Type 0 where
   pub body : BodyFits (r .body)
   pub places : SlotsFit (r .slots)
 
-two-back : (v : ℕ) → v < 2 ^ 16 → number (wide 2 v) ≡ v
-two-back v h = decoded-then-encoded (8 ∷ 8 ∷ []) v ∙ mod-eq-of-lt h
-
-place-back : (v : ℕ) → v < 2 ^ 64 → number (wide 8 v) ≡ v
-place-back v h = decoded-then-encoded (8 ∷ 8 ∷ 8 ∷ 8 ∷ 8 ∷ 8 ∷ 8 ∷ 8 ∷ []) v ∙ mod-eq-of-lt h
-
--- ---- 9 to 30
-
-body-back : (r : Record) (b : Body) (rest : List ℕ) → BodyFits b → bodyOfCode (headBytes r ++ zeroFilled 22 (bodyBytes b) ++ rest) (layout b .code) ≡ b
-unfolding bodyOfCode bodyBytes
-body-back r NoCategory rest h = refl
-body-back r (Hypocenter q) rest h =
-    ap Hypocenter λ i. record {
-      notification1 = two-back (q .notification1) (h .0) i;
-      notification2 = two-back (q .notification2) (h .1 .0) i;
-      notification3 = two-back (q .notification3) (h .1 .1 .0) i;
-      time = q .time;
-      depth = two-back (q .depth) (h .1 .1 .1 .0) i;
-      magnitude = q .magnitude;
-      epicenter = two-back (q .epicenter) (h .1 .1 .1 .1) i;
-      latitude = q .latitude;
-      longitude = q .longitude;
-    }
-body-back r (Intensity t) rest h = refl
-body-back r (Nankai p) rest h = refl
-body-back r (AshFall e) rest h = ap AshFall λ i. record { time = e .time; warning = e .warning; volcano = two-back (e .volcano) h i }
-
--- behind the body's bytes there are zeros
-not-stray : (r : Record) (b : Body) (rest : List ℕ) → stray b (headBytes r ++ zeroFilled 22 (bodyBytes b) ++ rest) ≡ false
-unfolding bodyBytes empty
-not-stray r NoCategory rest = refl
-not-stray r (Hypocenter q) rest = refl
-not-stray r (Intensity t) rest = refl
-not-stray r (Nankai p) rest = refl
-not-stray r (AshFall e) rest = refl
-
 -- ---- one behind the other
-
-place-behind : (n : ℕ) (l : List ℕ) (j k : ℕ) → j ≡ n + k → eightAt l j ≡ eightAt (drop n l) k
-place-behind n l j k e = λ i. number (
-    byte-behind n l j k e i
-    ∷ byte-behind n l (j + 1) (k + 1) (omega (arith, e)) i
-    ∷ byte-behind n l (j + 2) (k + 2) (omega (arith, e)) i
-    ∷ byte-behind n l (j + 3) (k + 3) (omega (arith, e)) i
-    ∷ byte-behind n l (j + 4) (k + 4) (omega (arith, e)) i
-    ∷ byte-behind n l (j + 5) (k + 5) (omega (arith, e)) i
-    ∷ byte-behind n l (j + 6) (k + 6) (omega (arith, e)) i
-    ∷ byte-behind n l (j + 7) (k + 7) (omega (arith, e)) i ∷ []
-    )
 
 slot-behind : (n : ℕ) (l : List ℕ) (j k : ℕ) → j ≡ n + k → slotAt l j ≡ slotAt (drop n l) k
 slot-behind n l j k e = λ i. record {
@@ -99,8 +45,11 @@ slot-behind n l j k e = λ i. record {
   hour = byte-behind n l (j + 1) (k + 1) (omega (arith, e)) i;
   minute = byte-behind n l (j + 2) (k + 2) (omega (arith, e)) i;
   strength = byte-behind n l (j + 3) (k + 3) (omega (arith, e)) i;
-  place = place-behind n l (j + 4) (k + 4) (omega (arith, e)) i;
+  place = number-behind n l (j + 4) (k + 4) 8 (omega (arith, e)) i;
 }
+
+place-back : (v : ℕ) → v < 2 ^ 64 → number (wide 8 v) ≡ v
+place-back v h = number-wide 8 v ∙ mod-eq-of-lt h
 
 slots-back : (ss : List Slot) (rest : List ℕ) → SlotsFit ss → each (length ss) (λ i. slotAt (slotsBytes ss ++ rest) (12 * i)) ≡ ss
 unfolding slotsBytes
@@ -124,28 +73,51 @@ module _ (r : Record) (f : Fits r) where
   unfolding packed
   behind-front = append-assoc (front r) (slotsBytes (r .slots)) (r .text)
 
-  body-part : bodyFrom (packed r) ≡ r .body
+  -- from byte 9 on
+  behind-head : drop 9 (packed r) ≡ bodyBytes (r .body) ++ (slotsBytes (r .slots) ++ r .text)
   unfolding packed
-  body-part =
-      ap (λ (l : List ℕ). bodyOfCode l (layout (r .body) .code)) behind-front
-      ∙ body-back r (r .body) (slotsBytes (r .slots) ++ r .text) (f .body)
+  behind-head = append-assoc (bodyBytes (r .body)) (slotsBytes (r .slots)) (r .text)
+
+  sides-part : sidesInBytes (packed r) (layout (r .body)) ≡ sidesOf (r .body) 0 0
+  sides-part =
+      let l = layout (r .body) in
+      let v = sidesOf (r .body) 0 0 in
+      let a : List ℕ = cells (widths (l .front)) (v .front) in
+      let b : List ℕ = cells (widths (l .behind)) (v .behind) in
+      let z : List ℕ = replicate (32 - length (a ++ b)) 0 in
+      let c : List ℕ = slotsBytes (r .slots) ++ r .text in
+      let start : drop 9 (packed r) ≡ a ++ (b ++ (z ++ c)) = behind-head ∙ append-assoc (a ++ b) z c ∙ append-assoc a b (z ++ c) in
+      let n : length a ≡ size (widths (l .front)) = length-cells (widths (l .front)) (v .front) (length-map (l .front) (λ x. x .width) ∙ sym (sides-filled (r .body) 0 0 .0)) in
+      let more : drop (9 + size (widths (l .front))) (packed r) ≡ b ++ (z ++ c) =
+      sym (drop-drop (size (widths (l .front))) 9 (packed r)) ∙ ap (drop (size (widths (l .front)))) start ∙ drop-at a (b ++ (z ++ c)) (size (widths (l .front))) n
+      in
+      λ i. record {
+        front = cells-back (packed r) 9 (widths (l .front)) (v .front) (b ++ (z ++ c)) start (f .body .0) i;
+        behind = cells-back (packed r) (9 + size (widths (l .front))) (widths (l .behind)) (v .behind) (z ++ c) more (f .body .1) i;
+      }
+
+  body-part : bodyInBytes (packed r) ≡ r .body
+  unfolding packed
+  body-part = body-again (r .body) 0 0 (sidesInBytes (packed r)) sides-part
 
   stray-part : stray (r .body) (packed r) ≡ false
-  stray-part = ap (stray (r .body)) behind-front ∙ not-stray r (r .body) (slotsBytes (r .slots) ++ r .text)
+  stray-part =
+      ap (λ (l : List ℕ). not (sameBytes l (bodyBytes (r .body)))) (ap (take 32) behind-head ∙ take-at (bodyBytes (r .body)) (slotsBytes (r .slots) ++ r .text) 32 (length-body (r .body)))
+      ∙ ap not (same-refl (bodyBytes (r .body)))
 
   slots-part : slotsFrom (packed r) ≡ r .slots
   slots-part =
-      each-same 16 (λ i. slotAt (packed r) (31 + 12 * i)) (λ i. slotAt (drop 31 (packed r)) (12 * i)) (λ i. slot-behind 31 (packed r) (31 + 12 * i) (12 * i) refl)
-      ∙ ap (λ (l : List ℕ). each 16 (λ i. slotAt (drop 31 l) (12 * i))) behind-front
-      ∙ ap (λ (l : List ℕ). each 16 (λ i. slotAt l (12 * i))) (drop-at (front r) (slotsBytes (r .slots) ++ r .text) 31 (length-front r))
+      each-same 16 (λ i. slotAt (packed r) (41 + 12 * i)) (λ i. slotAt (drop 41 (packed r)) (12 * i)) (λ i. slot-behind 41 (packed r) (41 + 12 * i) (12 * i) refl)
+      ∙ ap (λ (l : List ℕ). each 16 (λ i. slotAt (drop 41 l) (12 * i))) behind-front
+      ∙ ap (λ (l : List ℕ). each 16 (λ i. slotAt l (12 * i))) (drop-at (front r) (slotsBytes (r .slots) ++ r .text) 41 (length-front r))
       ∙ ap (λ (n : ℕ). each n (λ i. slotAt (slotsBytes (r .slots) ++ r .text) (12 * i))) (sym (f .slots))
       ∙ slots-back (r .slots) (r .text) (f .places)
 
   text-part : textInBytes (packed r) ≡ r .text
   unfolding packed
   text-part =
-      each-same 18 (λ i. getD (packed r) (223 + i) 0) (λ i. getD (drop 223 (packed r)) i 0) (λ i. byte-behind 223 (packed r) (223 + i) i refl)
-      ∙ ap (λ (l : List ℕ). each 18 (λ i. getD l i 0)) (drop-at (most r) (r .text) 223 (length-most r (f .slots)))
+      each-same 18 (λ i. getD (packed r) (233 + i) 0) (λ i. getD (drop 233 (packed r)) i 0) (λ i. byte-behind 233 (packed r) (233 + i) i refl)
+      ∙ ap (λ (l : List ℕ). each 18 (λ i. getD l i 0)) (drop-at (most r) (r .text) 233 (length-most r (f .slots)))
       ∙ ap (λ (n : ℕ). each n (λ i. getD (r .text) i 0)) (sym (f .text))
       ∙ text-back (r .text)
 

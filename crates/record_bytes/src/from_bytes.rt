@@ -1,88 +1,45 @@
-// From any 241 bytes back to a record.
+// From any 251 bytes back to a record.
 ghost use mathlib.Core.Path.{_≡_};
 ghost use mathlib.Core.Bool.{not};
-ghost use mathlib.Core.List.{[], _∷_};
 ghost use Prim.Native.Nat.{_+_, _≤_};
-ghost use lib.ListN.{length, set, take, drop};
-ghost use Rattle.bits.specs.Frame.{number};
-ghost use Rattle.rows.specs.Runs.Verdict.{empty};
-ghost use Rattle.record_bytes.specs.Packed.{bodyBytes};
-ghost use Rattle.record_bytes.specs.Unpacked.{twoAt, fourAt, eightAt, timeAt, angleAt, slotAt, commonFrom, quakeInBytes, pageFrom, eruptionInBytes, bodyFrom, stray, slotsFrom, misplaced, slotsOrMisplaced, recordFrom};
+ghost use lib.ListN.{length, set, take, drop, replicate};
+ghost use Rattle.rows.specs.Values.{sameBytes};
+ghost use Rattle.record_bytes.specs.Unpacked.{numberAt, slotAt, commonInBytes, size, cellsAt, bodyInBytes, stray, slotsFrom, misplaced, slotsOrMisplaced, recordFrom};
+use crate::sizes::FIELDS_AT;
+use crate::sizes::FIELDS_SIZE;
 use crate::sizes::RECORD_SIZE;
 use crate::sizes::SLOT_COUNT;
 use crate::sizes::SLOT_SIZE;
 use crate::sizes::SLOTS_AT;
 use crate::sizes::TEXT_AT;
+use crate::sizes::bytes_for;
 use crate::text::text_at;
-use ash_fall::Eruption;
-use hypocenter::Quake;
-use hypocenter::angle::Angle;
-use intensity::Shaking;
-use nankai::PageNumbers;
+use crate::to_bytes::own_bytes;
 use report::body::Body;
 use report::record::Record;
 use rows::common::Common;
-use rows::time::Time;
 use slots::slot::Slot;
 
 // ---- numbers
 
-fn two(high: u8, low: u8) -> u16
-    ensures { λ r. ⌜ r ≡ number (high ∷ low ∷ []) ⌝ }
+fn wide(x: u8) -> u64
+    ensures { λ r. ⌜ r ≡ x ⌝ }
 {
-    (high as u16) * 256 + low as u16
+    x as u64
 }
 
-fn four(first: u8, second: u8, third: u8, last: u8) -> u32
-    ensures { λ r. ⌜ r ≡ number (first ∷ second ∷ third ∷ last ∷ []) ⌝ }
+// The number in so many bytes from the byte `at` on.
+fn number_at(bytes: &[u8], at: usize, count: usize) -> u64
+    requires { ⌜ (count ≤ 8) × (at + count ≤ length (now bytes)) ⌝ }
+    ensures { λ r. ⌜ r ≡ numberAt (now (bytes .entry)) at count ⌝ }
 {
-    (first as u32) * 0x100_0000 + (second as u32) * 0x1_0000 + (third as u32) * 256 + last as u32
-}
-
-fn two_at(bytes: &[u8], at: usize) -> u16
-    requires { ⌜ at + 2 ≤ length (now bytes) ⌝ }
-    ensures { λ r. ⌜ r ≡ twoAt (now (bytes .entry)) at ⌝ }
-{
-    two(bytes[at], bytes[at + 1])
-}
-
-fn four_at(bytes: &[u8], at: usize) -> u32
-    requires { ⌜ at + 4 ≤ length (now bytes) ⌝ }
-    ensures { λ r. ⌜ r ≡ fourAt (now (bytes .entry)) at ⌝ }
-{
-    four(bytes[at], bytes[at + 1], bytes[at + 2], bytes[at + 3])
-}
-
-fn eight_at(bytes: &[u8], at: usize) -> u64
-    requires { ⌜ at + 8 ≤ length (now bytes) ⌝ }
-    ensures { λ r. ⌜ r ≡ eightAt (now (bytes .entry)) at ⌝ }
-{
-    let high = four_at(bytes, at);
-    let low = four_at(bytes, at + 4);
-    (high as u64) * 0x1_0000_0000 + low as u64
-}
-
-fn time_at(bytes: &[u8], at: usize) -> Time
-    requires { ⌜ at + 3 ≤ length (now bytes) ⌝ }
-    ensures { λ r. ⌜ r ≡ timeAt (now (bytes .entry)) at ⌝ }
-{
-    Time {
-        day: bytes[at],
-        hour: bytes[at + 1],
-        minute: bytes[at + 2],
+    let mut sum: u64 = 0;
+    let mut k = 0;
+    while k < count {
+        sum = sum * 256 + wide(bytes[at + k]);
+        k += 1;
     }
-}
-
-fn angle_at(bytes: &[u8], at: usize) -> Angle
-    requires { ⌜ at + 4 ≤ length (now bytes) ⌝ }
-    ensures { λ r. ⌜ r ≡ angleAt (now (bytes .entry)) at ⌝ }
-{
-    Angle {
-        side: bytes[at],
-        degrees: bytes[at + 1],
-        minutes: bytes[at + 2],
-        seconds: bytes[at + 3],
-    }
+    sum
 }
 
 fn slot_at(bytes: &[u8], at: usize) -> Slot
@@ -94,15 +51,15 @@ fn slot_at(bytes: &[u8], at: usize) -> Slot
         hour: bytes[at + 1],
         minute: bytes[at + 2],
         strength: bytes[at + 3],
-        place: eight_at(bytes, at + 4),
+        place: number_at(bytes, at + 4, 8),
     }
 }
 
 // ---- 3 to 8
 
 fn common_of(bytes: &[u8]) -> Common
-    requires { ⌜ length (now bytes) ≡ 241 ⌝ }
-    ensures { λ r. ⌜ r ≡ commonFrom (now (bytes .entry)) ⌝ }
+    requires { ⌜ length (now bytes) ≡ 251 ⌝ }
+    ensures { λ r. ⌜ r ≡ commonInBytes (now (bytes .entry)) ⌝ }
 {
     Common {
         rc: bytes[3],
@@ -114,94 +71,59 @@ fn common_of(bytes: &[u8]) -> Common
     }
 }
 
-// ---- 9 to 30
+// ---- 9 to 40
 
-fn quake_of(bytes: &[u8]) -> Quake
-    requires { ⌜ length (now bytes) ≡ 241 ⌝ }
-    ensures { λ r. ⌜ r ≡ quakeInBytes (now (bytes .entry)) ⌝ }
+// The values of fields of these widths from the byte `at` on, into zeros; and the place behind them.
+fn read_cells(bytes: &[u8], at: usize, widths: &[u8], values: &mut [u64]) -> usize
+    requires { ⌜ (at + size (now widths) ≤ length (now bytes)) × (now values ≡ replicate (length (now widths)) 0) ⌝ }
+    ensures { λ r. ⌜ (r ≡ at + size (now (widths .entry))) × (now (values .exit) ≡ cellsAt (now (bytes .entry)) at (now (widths .entry))) ⌝ }
 {
-    Quake {
-        notification1: two_at(bytes, 9),
-        notification2: two_at(bytes, 11),
-        notification3: two_at(bytes, 13),
-        time: time_at(bytes, 15),
-        depth: two_at(bytes, 18),
-        magnitude: bytes[20],
-        epicenter: two_at(bytes, 21),
-        latitude: angle_at(bytes, 23),
-        longitude: angle_at(bytes, 27),
+    let mut next = at;
+    let mut k = 0;
+    while k < widths.len() {
+        let count = bytes_for(widths[k]);
+        values[k] = number_at(bytes, next, count);
+        next += count;
+        k += 1;
     }
+    next
 }
 
-fn page_of(bytes: &[u8]) -> PageNumbers
-    requires { ⌜ length (now bytes) ≡ 241 ⌝ }
-    ensures { λ r. ⌜ r ≡ pageFrom (now (bytes .entry)) ⌝ }
-{
-    PageNumbers {
-        serial: bytes[9],
-        number: bytes[10],
-        total: bytes[11],
-    }
-}
-
-fn eruption_of(bytes: &[u8]) -> Eruption
-    requires { ⌜ length (now bytes) ≡ 241 ⌝ }
-    ensures { λ r. ⌜ r ≡ eruptionInBytes (now (bytes .entry)) ⌝ }
-{
-    Eruption {
-        time: time_at(bytes, 9),
-        warning: bytes[12],
-        volcano: two_at(bytes, 13),
-    }
-}
-
+// The body of the category's code, whose table says the widths.
 fn body_of(bytes: &[u8]) -> Body
-    requires { ⌜ length (now bytes) ≡ 241 ⌝ }
-    ensures { λ r. ⌜ r ≡ bodyFrom (now (bytes .entry)) ⌝ }
+    requires { ⌜ length (now bytes) ≡ 251 ⌝ }
+    ensures { λ r. ⌜ r ≡ bodyInBytes (now (bytes .entry)) ⌝ }
 {
-    match bytes[0] {
-        2 => Body::Hypocenter(quake_of(bytes)),
-        3 => Body::Intensity(Shaking {
-            time: time_at(bytes, 9),
-        }),
-        4 => Body::Nankai(page_of(bytes)),
-        9 => Body::AshFall(eruption_of(bytes)),
-        _ => Body::NoCategory,
-    }
+    let mut front = [0u64; 18];
+    let mut behind = [0u64; 3];
+    let blank = Body::of_values(bytes[0], front, behind);
+    let fields = blank.fields(0, 0);
+    let ahead = fields.ahead;
+    let after = fields.after;
+    let middle = read_cells(bytes, FIELDS_AT, &ahead, &mut front);
+    read_cells(bytes, middle, &after, &mut behind);
+    Body::of_values(bytes[0], front, behind)
 }
 
-// The byte behind what a body has.
-fn end_of(b: Body) -> usize
-    ensures { λ r. ⌜ r ≡ 9 + length (bodyBytes b) ⌝ }
+// Whether bytes 9 to 40 are others.
+fn has_stray(bytes: &[u8], own: [u8; FIELDS_SIZE]) -> bool
+    requires { ⌜ length (now bytes) ≡ 251 ⌝ }
+    ensures { λ r. ⌜ r ≡ not (sameBytes (take 32 (drop 9 (now (bytes .entry)))) own) ⌝ }
 {
-    match b {
-        Body::NoCategory => 9,
-        Body::Hypocenter(_) => 31,
-        Body::Intensity(_) => 12,
-        Body::Nankai(_) => 12,
-        Body::AshFall(_) => 15,
-    }
-}
-
-// Something stands from the byte `from` on, before the slots.
-fn has_stray(bytes: &[u8], from: usize) -> bool
-    requires { ⌜ length (now bytes) ≡ 241 ⌝ }
-    ensures { λ r. ⌜ r ≡ not (empty (drop from (take 31 (now (bytes .entry))))) ⌝ }
-{
-    let mut at = from;
-    while at < SLOTS_AT {
-        if bytes[at] != 0 {
+    let mut k = 0;
+    while k < FIELDS_SIZE {
+        if bytes[FIELDS_AT + k] != own[k] {
             return true;
         }
-        at += 1;
+        k += 1;
     }
     false
 }
 
-// ---- 31 to 222
+// ---- 41 to 232
 
 fn slots_of(bytes: &[u8]) -> [Slot; SLOT_COUNT]
-    requires { ⌜ length (now bytes) ≡ 241 ⌝ }
+    requires { ⌜ length (now bytes) ≡ 251 ⌝ }
     ensures { λ r. ⌜ r ≡ slotsFrom (now (bytes .entry)) ⌝ }
 {
     let none = Slot::none();
@@ -232,17 +154,17 @@ fn with_misplaced(slots: [Slot; SLOT_COUNT]) -> [Slot; SLOT_COUNT]
 }
 
 fn marked_slots_of(bytes: &[u8], body: Body) -> [Slot; SLOT_COUNT]
-    requires { ⌜ length (now bytes) ≡ 241 ⌝ }
+    requires { ⌜ length (now bytes) ≡ 251 ⌝ }
     ensures { λ r. ⌜ r ≡ slotsOrMisplaced (stray body (now (bytes .entry))) (slotsFrom (now (bytes .entry))) ⌝ }
 {
     let slots = slots_of(bytes);
-    if has_stray(bytes, end_of(body)) {
+    if has_stray(bytes, own_bytes(body)) {
         return with_misplaced(slots);
     }
     slots
 }
 
-// The record that 241 lent bytes are, whatever they are. Bytes of another length are a record of zeros.
+// The record that 251 lent bytes are, whatever they are. Bytes of another length are a record of zeros.
 pub fn unpack(bytes: &[u8]) -> Record
     ensures { λ r. ⌜ r ≡ recordFrom (now (bytes .entry)) ⌝ }
 {

@@ -2,9 +2,13 @@
 -- lines here; the other laws go by these.
 use Rattle.report.specs.declared.body.Body.the-variants.{AshFall, Hypocenter, Intensity, Nankai, NoCategory}
 use Rattle.report.specs.declared.body.Body.{Body}
-use mathlib.Core.Bool.{Bool, _&&_, true, not}
+use mathlib.Core.Bool.{Bool, _&&_, false, true, not}
+use lib.Dec.{eqb}
+use borrow.Author.Tests.{ne-eqb}
+use Rattle.rows.specs.Runs.Verdict.{allowed}
+use Rattle.rows.proofs.Rules.Spans.{allowed-in, in-allowed, not-allowed}
 use Rattle.rows.specs.Kept.{In}
-use Rattle.rows.specs.Layout.{Layout, Row, Rule, among, noCategory, rising, spare}
+use Rattle.rows.specs.Layout.{Layout, Row, Rule, asks, noCategory, spare}
 use mathlib.Core.List.{List, [], _∷_}
 use Rattle.rows.specs.Values.{Sides, sidesAt}
 use Rattle.rows.specs.Runs.Fields.{spareIn, isSpare}
@@ -89,13 +93,19 @@ told-apart (Intensity t) = inr (inr (inl (omega arith, omega arith)))
 told-apart (Nankai p) = inr (inr (inr (inl (omega arith, omega arith))))
 told-apart (AshFall e) = inr (inr (inr (inr (inl (omega arith, omega arith)))))
 
--- what brings a page is of category 4
+-- category 4 alone brings a page
+pub page-or-none : (b : Body) → ((p : PageNumbers) × (b ≡ Nankai p)) ⊎ (pagedOf b ≡ NoPages)
+page-or-none NoCategory = inr refl
+page-or-none (Hypocenter q) = inr refl
+page-or-none (Intensity t) = inr refl
+page-or-none (Nankai p) = inl (p, refl)
+page-or-none (AshFall e) = inr refl
+
 pub paged-back : (b : Body) (p : PageNumbers) → pagedOf b ≡ Numbers p → b ≡ Nankai p
-paged-back NoCategory p e = absurd (not-paged p e)
-paged-back (Hypocenter q) p e = absurd (not-paged p e)
-paged-back (Intensity t) p e = absurd (not-paged p e)
-paged-back (Nankai q) p e = cc
-paged-back (AshFall u) p e = absurd (not-paged p e)
+paged-back b p e = ⊎-elim (λ k. k .1 ∙ ap Nankai (same (k .0) (sym (ap pagedOf (k .1)) ∙ e))) (λ n. absurd (not-paged p (sym n ∙ e))) (page-or-none b)
+  where
+    same : (q : PageNumbers) → Numbers q ≡ Numbers p → q ≡ p
+    same q h = cc
 
 -- a category has no text, or one where category 4 has it
 pub text-apart : (b : Body) → (layout b .text ≡ []) ⊎ (layout b .text ≡ nankai .text)
@@ -105,11 +115,7 @@ text-apart (Intensity t) = inl refl
 text-apart (Nankai p) = inr refl
 text-apart (AshFall e) = inl refl
 
--- ---- a body that was made by the code dc from a frame
-
-pub record Suits (s : List ℕ) (dc : ℕ) : Type 0 where
-  pub code : layout (bodyBy s dc) .code ≡ dc
-  pub sides : sidesOf (bodyBy s dc) (spareIn s (layout (bodyBy s dc) .front)) (spareIn s (layout (bodyBy s dc) .behind)) ≡ sidesAt s (layout (bodyBy s dc))
+-- ---- codes
 
 -- what holds of each category holds of all
 by-category : (P : ℕ → Type 0) → P 2 → P 3 → P 4 → P 9 → (dc : ℕ) → In categories dc → P dc
@@ -122,6 +128,52 @@ by-category P two three four nine dc h =
     only : (n dc : ℕ) → (n ≤ dc) × (dc ≤ n) → n ≡ dc
     only n dc k = omega arith
 
+-- ---- a body that was made by the code dc from values
+
+no-category : (v : Layout → Sides) (dc : ℕ) → (In categories dc → ⊥) → bodyFrom v dc ≡ NoCategory
+unfolding bodyFrom
+no-category v dc h = simp (
+  ne-eqb dc 2 (λ e. h (inl (omega arith, omega arith))),
+  ne-eqb dc 3 (λ e. h (inr (inl (omega arith, omega arith)))),
+  ne-eqb dc 4 (λ e. h (inr (inr (inl (omega arith, omega arith))))),
+  ne-eqb dc 9 (λ e. h (inr (inr (inr (inl (omega arith, omega arith)))))),
+)
+
+-- what holds of each category and of no category holds of every code
+by-code : (P : ℕ → Type 0) → P 2 → P 3 → P 4 → P 9 → ((dc : ℕ) → (In categories dc → ⊥) → P dc) → (dc : ℕ) → P dc
+by-code P two three four nine none dc = by (allowed categories dc) refl
+  where
+    by : (b : Bool) → allowed categories dc ≡ b → P dc
+    by true e = by-category P two three four nine dc (allowed-in categories dc e)
+    by false e = none dc (λ h. false-not-true (sym e ∙ in-allowed categories dc h))
+
+-- it has a category exactly where the code is a category's
+pub known-code : (v : Layout → Sides) (dc : ℕ) → not (eqb (layout (bodyFrom v dc) .code) 0) ≡ allowed categories dc
+unfolding bodyFrom allowed
+known-code v = by-code (λ (dc : ℕ). not (eqb (layout (bodyFrom v dc) .code) 0) ≡ allowed categories dc) refl refl refl refl
+    (λ dc h. ap (λ (b : Body). not (eqb (layout b .code) 0)) (no-category v dc h) ∙ sym (not-allowed categories dc h))
+
+-- its table goes by the code alone, and it by the values that the table's rows have
+pub made-alike : (v w : Layout → Sides) (dc : ℕ) → layout (bodyFrom v dc) ≡ layout (bodyFrom w dc)
+unfolding bodyFrom
+made-alike v w = by-code (λ (dc : ℕ). layout (bodyFrom v dc) ≡ layout (bodyFrom w dc)) refl refl refl refl
+    (λ dc h. ap layout (no-category v dc h ∙ sym (no-category w dc h)))
+
+pub same-body : (v w : Layout → Sides) (dc : ℕ) → v (layout (bodyFrom v dc)) ≡ w (layout (bodyFrom v dc)) → bodyFrom v dc ≡ bodyFrom w dc
+unfolding bodyFrom
+same-body v w = by-code (λ (dc : ℕ). v (layout (bodyFrom v dc)) ≡ w (layout (bodyFrom v dc)) → bodyFrom v dc ≡ bodyFrom w dc)
+    (λ e. ap (λ (s : Sides). Hypocenter (quakeFrom s)) e)
+    (λ e. ap (λ (s : Sides). Intensity (shakingFrom s)) e)
+    (λ e. ap (λ (s : Sides). Nankai (numbersFrom s)) e)
+    (λ e. ap (λ (s : Sides). AshFall (eruptionFrom s)) e)
+    (λ dc h e. no-category v dc h ∙ sym (no-category w dc h))
+
+-- ---- the same from a frame
+
+pub record Suits (s : List ℕ) (dc : ℕ) : Type 0 where
+  pub code : layout (bodyBy s dc) .code ≡ dc
+  pub sides : sidesOf (bodyBy s dc) (spareIn s (layout (bodyBy s dc) .front)) (spareIn s (layout (bodyBy s dc) .behind)) ≡ sidesAt s (layout (bodyBy s dc))
+
 pub suits : (s : List ℕ) (dc : ℕ) → In categories dc → Suits s dc
 unfolding bodyFrom
 suits s = by-category (Suits s) (record { code = refl; sides = refl }) (record { code = refl; sides = refl }) (record { code = refl; sides = refl }) (record { code = refl; sides = refl })
@@ -130,8 +182,7 @@ suits s = by-category (Suits s) (record { code = refl; sides = refl }) (record {
 
 -- a spare has the value zero
 abbrev pub Spared : Rule → ℕ → Type 0
-Spared (among ss) v = Unit
-Spared (rising hi) v = Unit
+Spared (asks a) v = Unit
 Spared spare v = v ≡ 0
 
 abbrev pub AllSpared : List Row → List ℕ → Type 0
@@ -145,8 +196,7 @@ ruled [] = true
 ruled (r ∷ rs) = not (isSpare (r .rule)) && ruled rs
 
 rule-spared : (r : Rule) (v : ℕ) → not (isSpare r) ≡ true → Spared r v
-rule-spared (among ss) v e = tt
-rule-spared (rising hi) v e = tt
+rule-spared (asks a) v e = tt
 rule-spared spare v e = absurd (false-not-true e)
 
 pub all-spared : (rs : List Row) (vs : List ℕ) → ruled rs ≡ true → AllSpared rs vs

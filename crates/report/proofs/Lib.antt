@@ -1,4 +1,5 @@
 pub mod Categories
+pub mod Told
 pub mod Tables
 pub mod Texts
 pub mod Shaped

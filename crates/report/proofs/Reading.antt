@@ -1,6 +1,5 @@
 pub mod Agree
 pub mod Frames
-pub mod KnownCodes
 pub mod ReadNumbers
 pub mod ReadSteps
 pub mod Used

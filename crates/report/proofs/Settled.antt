@@ -9,8 +9,8 @@ Record-slots-used-is-settled κs a x y = answer
 pub Record-of-zeros-is-settled : Settled report.record.Record.of_zeros.ended report.record.Record.of_zeros.Reads.Post
 Record-of-zeros-is-settled κs a x y = answer
 
-pub check-is-settled : Settled report.check.check.ended report.check.check.Reads.Post
-check-is-settled κs a x y = answer
+pub Record-told-is-settled : Settled report.record.Record.told.ended report.record.Record.told.Reads.Post
+Record-told-is-settled κs a x y = answer
 
 pub read-is-settled : Settled report.read.read.ended report.read.read.Reads.Post
 read-is-settled κs a x y = answer
@@ -26,3 +26,12 @@ Body-fields-is-settled κs a x y = answer
 
 pub Body-page-is-settled : Settled report.body.Body.page.ended report.body.Body.page.Reads.Post
 Body-page-is-settled κs a x y = answer
+
+pub Body-code-is-settled : Settled report.body.Body.code.ended report.body.Body.code.Reads.Post
+Body-code-is-settled κs a x y = answer
+
+pub Body-count-is-settled : Settled report.body.Body.count.ended report.body.Body.count.Reads.Post
+Body-count-is-settled κs a x y = answer
+
+pub Body-of-values-is-settled : Settled report.body.Body.of_values.ended report.body.Body.of_values.Reads.Post
+Body-of-values-is-settled κs a x y = answer

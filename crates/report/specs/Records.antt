@@ -4,7 +4,7 @@ use Rattle.rows.specs.Layout.{Layout, common}
 use mathlib.Core.List.{List, map}
 use Rattle.report.specs.declared.body.Body.the-variants.{NoCategory}
 use Rattle.report.specs.declared.record.Record.{Record}
-use Rattle.rows.specs.Values.{Values, commonOf, cut, filled, headValues, lastValues, sidesAt}
+use Rattle.rows.specs.Values.{Values, commonOf, cut, filled, headValues, lastValues, noCommon, sidesAt}
 use Rattle.report.specs.Categories.{bodyFrom, layout, sidesOf}
 use Rattle.bits.specs.Frame.{fieldOf}
 use lib.ListN.{length, replicate, take}
@@ -42,7 +42,7 @@ unfoldable pub zeros : Record
 zeros = record {
   preamble = 0;
   reserved = 0;
-  common = record { rc = 0; month = 0; day = 0; hour = 0; minute = 0; it = 0 };
+  common = noCommon;
   body = NoCategory;
   slots = replicate 16 noSlot;
   text = replicate 18 0;

@@ -7,8 +7,9 @@ ghost use Rattle.report.specs.Records.{bodyOf};
 ghost use Rattle.rows.specs.Runs.Verdict.{bodyVerdict};
 ghost use Rattle.report.specs.Runs.Reading.{contentAs};
 ghost use Rattle.rows.specs.Values.{headValues};
-ghost use Rattle.rows.specs.Runs.Fields.{fieldsIn};
-ghost use Rattle.report.specs.Categories.{layout, sidesOf, pagedOf};
+ghost use Rattle.rows.specs.Runs.Fields.{fieldsIn, keptIn};
+ghost use Rattle.report.specs.Categories.{layout, bodyFrom, sidesOf, pagedOf};
+ghost use Rattle.report.specs.Runs.Told.{toldOf};
 ghost use Rattle.rows.specs.Layout.{noCategory};
 ghost use Rattle.slots.specs.Slots.{slotsValues};
 use ash_fall::Eruption;
@@ -40,6 +41,12 @@ pub enum Body {
 pub enum Paged {
     NoPages,
     Numbers(PageNumbers),
+}
+
+// What is told of a body to whoever asks.
+pub struct Told {
+    pub found: Verdict,
+    pub fields: Fields,
 }
 
 // What stands from bit 43 up to bit 213.
@@ -125,36 +132,78 @@ fn fields_none(spare1: u64, spare2: u64) -> Fields
 }
 
 impl Body {
-    // All rules from bit 8 to bit 213, behind what has been found.
-    pub(crate) fn check(
+    // The body of a category's code that numbers say, of each as much as its field holds.
+    pub fn of_values(code: u8, front: [u64; 18], behind: [u64; 3]) -> Body
+        ensures { λ r. ⌜ r ≡ bodyFrom (keptIn front behind) code ⌝ }
+    {
+        match code {
+            2 => Body::Hypocenter(Quake::of_values(front)),
+            3 => Body::Intensity(Shaking::of_values(front)),
+            4 => Body::Nankai(PageNumbers::of_values(front, behind)),
+            9 => Body::AshFall(Eruption::of_values(front)),
+            _ => Body::NoCategory,
+        }
+    }
+
+    // Its category's code, 0 for none.
+    pub fn code(self) -> u8
+        ensures { λ r. ⌜ r ≡ layout self .code ⌝ }
+    {
+        match self {
+            Body::NoCategory => 0,
+            Body::Hypocenter(_) => 2,
+            Body::Intensity(_) => 3,
+            Body::Nankai(_) => 4,
+            Body::AshFall(_) => 9,
+        }
+    }
+
+    // How many slots it has.
+    pub fn count(self) -> usize
+        ensures { λ r. ⌜ r ≡ layout self .slots .count ⌝ }
+    {
+        match self {
+            Body::NoCategory => 0,
+            Body::Hypocenter(_) => 0,
+            Body::Intensity(_) => 16,
+            Body::Nankai(_) => 0,
+            Body::AshFall(_) => 4,
+        }
+    }
+
+    // What is found by all rules from bit 8 to bit 213, behind what has been found, and its table and its fields. One
+    // `match` for both: whoever writes a record asks for both.
+    pub(crate) fn told(
         self,
         found: Verdict,
         c: Common,
         slots: [Slot; 16],
         spare1: u64,
         spare2: u64,
-    ) -> Verdict
-        ensures { λ r. ⌜ r ≡ found then bodyVerdict (layout self) (headValues c (layout self .code)) (sidesOf self spare1 spare2) (slotsValues (layout self .slots) slots) ⌝ }
+    ) -> Told
+        ensures { λ r. ⌜ r ≡ toldOf self found c slots spare1 spare2 ⌝ }
     {
         match self {
-            Body::NoCategory => check_none(found, c, spare1, spare2),
-            Body::Hypocenter(q) => q.check(found, c, spare1, spare2),
-            Body::Intensity(s) => s.check(found, c, slots, spare1, spare2),
-            Body::Nankai(p) => p.check(found, c, spare1, spare2),
-            Body::AshFall(e) => e.check(found, c, slots, spare1, spare2),
-        }
-    }
-
-    // The page that it brings.
-    pub fn page(self) -> Paged
-        ensures { λ r. ⌜ r ≡ pagedOf self ⌝ }
-    {
-        match self {
-            Body::NoCategory => Paged::NoPages,
-            Body::Hypocenter(_) => Paged::NoPages,
-            Body::Intensity(_) => Paged::NoPages,
-            Body::Nankai(p) => Paged::Numbers(p),
-            Body::AshFall(_) => Paged::NoPages,
+            Body::NoCategory => Told {
+                found: check_none(found, c, spare1, spare2),
+                fields: fields_none(spare1, spare2),
+            },
+            Body::Hypocenter(q) => Told {
+                found: q.check(found, c, spare1, spare2),
+                fields: q.fields(spare1, spare2),
+            },
+            Body::Intensity(s) => Told {
+                found: s.check(found, c, slots, spare1, spare2),
+                fields: s.fields(spare1, spare2),
+            },
+            Body::Nankai(p) => Told {
+                found: p.check(found, c, spare1, spare2),
+                fields: p.fields(spare1, spare2),
+            },
+            Body::AshFall(e) => Told {
+                found: e.check(found, c, slots, spare1, spare2),
+                fields: e.fields(spare1, spare2),
+            },
         }
     }
 
@@ -162,12 +211,23 @@ impl Body {
     pub fn fields(self, spare1: u64, spare2: u64) -> Fields
         ensures { λ r. ⌜ r ≡ fieldsIn (layout self) (sidesOf self spare1 spare2) ⌝ }
     {
-        match self {
-            Body::NoCategory => fields_none(spare1, spare2),
-            Body::Hypocenter(q) => q.fields(spare1, spare2),
-            Body::Intensity(s) => s.fields(spare1, spare2),
-            Body::Nankai(p) => p.fields(spare1, spare2),
-            Body::AshFall(e) => e.fields(spare1, spare2),
-        }
+        let told = self.told(
+            Verdict::Fine,
+            Common::of_zeros(),
+            [Slot::none(); 16],
+            spare1,
+            spare2,
+        );
+        told.fields
+    }
+
+    // The page that it brings.
+    pub fn page(self) -> Paged
+        ensures { λ r. ⌜ r ≡ pagedOf self ⌝ }
+    {
+        let Body::Nankai(p) = self else {
+            return Paged::NoPages;
+        };
+        Paged::Numbers(p)
     }
 }

@@ -6,7 +6,8 @@ ghost use Rattle.bits.specs.Frame.{bytesOf, laid, laidIn};
 ghost use Rattle.rows.specs.Layout.{common, noCategory};
 ghost use mathlib.Core.Bool.{cond, true};
 ghost use Rattle.rows.specs.Values.{headValues, widths};
-ghost use Rattle.report.specs.Categories.{layout};
+ghost use Rattle.report.specs.Categories.{layout, sidesOf};
+ghost use Rattle.rows.specs.Runs.Fields.{fieldsIn};
 ghost use Rattle.nankai.specs.Nankai.{nankai};
 use crate::record::Record;
 use nankai::lay_text;
@@ -69,15 +70,13 @@ fn lay_body(f: [u8; 32], fields: Fields, slots: [Slot; 16], text: [u8; 18]) -> [
 }
 
 // Bits 0 to 225 of a record.
-fn lay_front(f: [u8; 32], r: Record) -> [u8; 32]
-    requires { ⌜ known (r .body) ≡ true ⌝ }
+fn lay_front(f: [u8; 32], r: Record, fields: Fields) -> [u8; 32]
+    requires { ⌜ (known (r .body) ≡ true) × (fields ≡ fieldsIn (layout (r .body)) (sidesOf (r .body) 0 0)) ⌝ }
     ensures { λ next. ⌜ next ≡ laid f 0 (frontWidths (layout (r .body))) (frontValues r) ⌝ }
 {
     let common = r.common;
-    let body = r.body;
     let slots = r.slots;
     let text = r.text;
-    let fields = body.fields(0, 0);
     let table = fields.table;
     let preamble = bits::put(f, 0, 8, r.preamble as u64);
     let head = lay_common(preamble, common, table.code);
@@ -86,13 +85,13 @@ fn lay_front(f: [u8; 32], r: Record) -> [u8; 32]
     bits::put(version, 220, 6, r.reserved as u64)
 }
 
-// The frame of a valid record: the parity is that of all bits before it.
-pub(crate) fn encode(r: Record) -> [u8; 32]
-    requires { ⌜ Valid r ⌝ }
+// The frame of a valid record, whose fields these are: the parity is that of all bits before it.
+pub(crate) fn encode(r: Record, fields: Fields) -> [u8; 32]
+    requires { ⌜ Valid r × (fields ≡ fieldsIn (layout (r .body)) (sidesOf (r .body) 0 0)) ⌝ }
     ensures { λ f. ⌜ f ≡ bytesOf (frame r) ⌝ }
 {
     let blank = bits::blank();
-    let front = lay_front(blank, r);
+    let front = lay_front(blank, r, fields);
     let parity = parity::parity(front);
     bits::put(front, 226, 24, parity as u64)
 }

@@ -1,11 +1,9 @@
 // Reading a lent frame: the bits first, then the rules.
 ghost use mathlib.Core.Path.{_≡_};
 ghost use Rattle.report.specs.Records.{recordOf};
-ghost use Rattle.report.specs.Runs.Reading.{outerOf, innerOf, reading, readOf};
+ghost use Rattle.report.specs.Runs.Reading.{outerOf, contentAnswer, reading, readOf};
 ghost use Rattle.rows.specs.declared.refusal.Verdict.{Verdict};
 use crate::body::Content;
-use crate::check::check;
-use crate::codes::is_category;
 use crate::codes::is_preamble;
 use crate::record::Record;
 use rows::common::Common;
@@ -18,7 +16,7 @@ pub struct Reading {
     pub record: Record,
 }
 
-// 2 to 7, which are asked before any range.
+// 2 to 6, which are asked before what stands in a category.
 fn outer(f: [u8; 32]) -> Verdict
     ensures { λ r. ⌜ r ≡ outerOf f ⌝ }
 {
@@ -28,7 +26,6 @@ fn outer(f: [u8; 32]) -> Verdict
         .unless(parity::parity_right(f), Refusal::Parity)
         .unless(bits::field8(f, 8, 6) == 43, Refusal::Message)
         .unless(bits::field8(f, 214, 6) == 1, Refusal::Version)
-        .unless(is_category(bits::field8(f, 17, 4)), Refusal::Category)
 }
 
 // No record leaves with a refusal.
@@ -50,10 +47,10 @@ fn conclude(found: Verdict, read: Record) -> Reading
     }
 }
 
-// 8, 9, 10, and the record.
+// 7 to 10, and the record. The category is looked up where its content is taken out of the frame.
 fn inner(f: [u8; 32]) -> Reading
     requires { ⌜ outerOf f ≡ Verdict.Fine ⌝ }
-    ensures { λ r. ⌜ r ≡ reading (innerOf f) (recordOf f) ⌝ }
+    ensures { λ r. ⌜ r ≡ reading (contentAnswer f) (recordOf f) ⌝ }
 {
     let content = Content::of(f);
     let body = content.body;
@@ -68,7 +65,11 @@ fn inner(f: [u8; 32]) -> Reading
         slots: slots,
         text: text,
     };
-    let found = check(record, spares.front, spares.behind);
+    let told = record.told(spares.front, spares.behind);
+    let rules = told.found;
+    let found = Verdict::Fine
+        .unless(body.code() != 0, Refusal::Category)
+        .then(rules);
     conclude(found, record)
 }
 

@@ -23,18 +23,10 @@ impl Record {
     pub fn of_zeros() -> Record
         ensures { λ r. ⌜ r ≡ zeros ⌝ }
     {
-        let common = Common {
-            rc: 0,
-            month: 0,
-            day: 0,
-            hour: 0,
-            minute: 0,
-            it: 0,
-        };
         Record {
             preamble: 0,
             reserved: 0,
-            common: common,
+            common: Common::of_zeros(),
             body: Body::NoCategory,
             slots: [Slot::none(); 16],
             text: [0u8; 18],

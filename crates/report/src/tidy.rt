@@ -1,8 +1,11 @@
 // 11: whether something stands in a record where its category has nothing.
 ghost use mathlib.Core.Path.{_≡_};
 ghost use Rattle.rows.specs.Runs.Verdict.{empty};
+ghost use Rattle.rows.specs.Runs.Fields.{tableIn};
+ghost use Rattle.report.specs.Categories.{layout};
 ghost use Rattle.report.specs.Runs.Writing.{tidy};
 use crate::record::Record;
+use rows::fields::Table;
 use slots::silence::are_tidy;
 
 fn is_blank(text: [u8; 18]) -> bool
@@ -19,15 +22,13 @@ fn is_blank(text: [u8; 18]) -> bool
 }
 
 impl Record {
-    // 11: nothing stands where the category has nothing.
-    pub(crate) fn is_tidy(self) -> bool
+    // 11: nothing stands where the category has nothing, which its table says.
+    pub(crate) fn is_tidy(self, table: Table) -> bool
+        requires { ⌜ table ≡ tableIn (layout (self .body)) ⌝ }
         ensures { λ b. ⌜ b ≡ tidy self ⌝ }
     {
-        let body = self.body;
         let slots = self.slots;
         let text = self.text;
-        let fields = body.fields(0, 0);
-        let table = fields.table;
         let widths = table.widths;
         if !are_tidy(table.count, widths, slots) {
             return false;

@@ -1,28 +1,40 @@
 // Writing a record to a lent frame: first whether, then what.
 ghost use mathlib.Core.Path.{_≡_};
 ghost use lib.ListN.{length};
-ghost use Rattle.report.specs.Runs.Writing.{writeAnswer, writeOf};
-use crate::check::check;
+ghost use Rattle.report.specs.Runs.Writing.{writeAnswer, writeOf, writingTold};
+use crate::body::Told;
 use crate::codes::is_preamble;
 use crate::encode::encode;
 use crate::record::Record;
 use rows::refusal::Refusal;
 use rows::refusal::Verdict;
 
-// What writing a record to a buffer of this size answers. The spares are not in a record: they are
-// zero.
+// What writing a record to a buffer of this size answers, and the fields that are written. The spares are not in a
+// record: they are zero.
+fn asked(r: Record, size: usize) -> Told
+    ensures { λ t. ⌜ t ≡ writingTold r size ⌝ }
+{
+    let told = r.told(0, 0);
+    let found = told.found;
+    let fields = told.fields;
+    let table = fields.table;
+    Told {
+        found: Verdict::Fine
+            .unless(size == 32, Refusal::Length)
+            .unless(is_preamble(r.preamble), Refusal::Preamble)
+            .unless(table.code != 0, Refusal::Category)
+            .unless(r.is_tidy(table), Refusal::Unused)
+            .then(found),
+        fields: fields,
+    }
+}
+
+// What writing a record to a buffer of this size answers.
 pub fn write_answer(r: Record, size: usize) -> Verdict
     ensures { λ v. ⌜ v ≡ writeAnswer r size ⌝ }
 {
-    let body = r.body;
-    let fields = body.fields(0, 0);
-    let table = fields.table;
-    Verdict::Fine
-        .unless(size == 32, Refusal::Length)
-        .unless(is_preamble(r.preamble), Refusal::Preamble)
-        .unless(table.code != 0, Refusal::Category)
-        .unless(r.is_tidy(), Refusal::Unused)
-        .then(check(r, 0, 0))
+    let told = asked(r, size);
+    told.found
 }
 
 // Writes a record, whatever it holds, to a lent frame of whatever length. Where that is refused the
@@ -30,10 +42,12 @@ pub fn write_answer(r: Record, size: usize) -> Verdict
 pub fn write(r: Record, frame: &mut [u8]) -> Verdict
     ensures { λ v. ⌜ (v ≡ writeAnswer r (length (now (frame .entry)))) × (now (frame .exit) ≡ writeOf r (now (frame .entry))) ⌝ }
 {
-    let found = write_answer(r, frame.len());
+    let told = asked(r, frame.len());
+    let found = told.found;
+    let fields = told.fields;
     match found {
         Verdict::Fine => {
-            bits::copy_to(encode(r), frame);
+            bits::copy_to(encode(r, fields), frame);
             found
         }
         Verdict::Refused(_) => found,

@@ -1,5 +1,7 @@
 pub mod Outcomes
 pub mod Spans
+pub mod Kinds
+pub mod Tests
 pub mod Judged
 pub mod JudgedRows
 pub mod JudgedSlots

@@ -41,3 +41,15 @@ Common-of-is-settled κs a x y = answer
 
 pub Verdict-common-is-settled : Settled rows.refusal.Verdict.common.ended rows.refusal.Verdict.common.Reads.Post
 Verdict-common-is-settled κs a x y = answer
+
+pub one-byte-is-settled : Settled rows.fields.one_byte.ended rows.fields.one_byte.Reads.Post
+one-byte-is-settled κs a x y = answer
+
+pub two-bytes-is-settled : Settled rows.fields.two_bytes.ended rows.fields.two_bytes.Reads.Post
+two-bytes-is-settled κs a x y = answer
+
+pub Time-of-values-is-settled : Settled rows.time.Time.of_values.ended rows.time.Time.of_values.Reads.Post
+Time-of-values-is-settled κs a x y = answer
+
+pub Common-of-zeros-is-settled : Settled rows.common.Common.of_zeros.ended rows.common.Common.of_zeros.Reads.Post
+Common-of-zeros-is-settled κs a x y = answer

@@ -7,14 +7,13 @@ use mathlib.Core.List.{List, _∷_, []}
 use Rattle.rows.specs.declared.refusal.Refusal.{Refusal}
 use Rattle.rows.specs.declared.refusal.Refusal.the-variants.{Range, Spare, Gap}
 use Rattle.rows.specs.Refusals.{says}
-use Rattle.rows.specs.Layout.{Rule, among, rising, spare, Row, Slots, Layout, common, ending, slotRows}
+use Rattle.rows.specs.Layout.{Rule, asks, spare, Row, Slots, Layout, common, ending, slotRows}
 use Rattle.rows.specs.Values.{Values}
 use Rattle.rows.specs.Kept.{Keeps, Empty}
 
 -- 9 for a spare that is not zero, 8 for any other field that does not keep its rule
 abbrev pub blame : Rule → ℕ → Refusal
-blame (among ss) at = Range at
-blame (rising hi) at = Range at
+blame (asks a) at = Range at
 blame spare at = Spare at
 
 abbrev pub RowFault : List ℕ → List Row → List ℕ → Refusal → Type 0

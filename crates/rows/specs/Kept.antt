@@ -3,7 +3,7 @@ use Prim.Native.Nat.{ℕ, _+_, _≤_}
 use mathlib.Core.Path.{_≡_}
 use mathlib.Core.Logic.{_⊎_}
 use mathlib.Core.List.{List, _∷_, []}
-use Rattle.rows.specs.Layout.{Span, _to_, Rule, among, rising, spare, Row, Slots, Layout, common, ending, slotRows}
+use Rattle.rows.specs.Layout.{Span, _to_, Ask, inSpans, fromLast, Rule, asks, spare, Row, Slots, Layout, common, ending, slotRows}
 use Rattle.rows.specs.Values.{Values}
 
 -- the value lies in one of the spans
@@ -16,10 +16,14 @@ abbrev pub latest : List ℕ → ℕ
 latest [] = 0
 latest (b ∷ past) = b
 
--- the value keeps the rule; `past` are the values before it, the latest first, and `next` those behind it
+-- the value is what is asked for; `past` are the values before it, the latest first, and `next` those behind it
+abbrev pub Asked : Ask → List ℕ → ℕ → List ℕ → Type 0
+Asked (inSpans ss) past v next = In ss v
+Asked (fromLast hi) past v next = (latest past ≤ v) × (v ≤ hi)
+
+-- the value keeps the rule
 abbrev pub Keeps : Rule → List ℕ → ℕ → List ℕ → Type 0
-Keeps (among ss) past v next = In ss v
-Keeps (rising hi) past v next = (latest past ≤ v) × (v ≤ hi)
+Keeps (asks a) past v next = Asked a past v next
 Keeps spare past v next = v ≡ 0
 
 -- each value keeps its row's rule

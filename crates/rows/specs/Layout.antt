@@ -10,11 +10,21 @@ infixl 70 _to_
 pub data Span : Type 0 where
   _to_ : ℕ → ℕ → Span
 
--- what a field may hold: a value in one of these spans; a value from that of the field before it up to this one; nothing
+-- what may be asked of a value: that it lies in one of these spans; that it lies between the value before it and this one
+pub data Ask : Type 0 where
+  inSpans : List Span → Ask
+  fromLast : ℕ → Ask
+
+-- what a field may hold: a value of which something is asked; nothing
 pub data Rule : Type 0 where
-  among : List Span → Rule
-  rising : ℕ → Rule
+  asks : Ask → Rule
   spare : Rule
+
+abbrev pub among : List Span → Rule
+among ss = asks (inSpans ss)
+
+abbrev pub rising : ℕ → Rule
+rising hi = asks (fromLast hi)
 
 pub record Row : Type 0 where
   pub first : ℕ
@@ -141,9 +151,12 @@ abbrev pub allBelow : ℕ → List Span → Bool
 allBelow n [] = true
 allBelow n ((lo to hi) ∷ ss) = ltb hi n && allBelow n ss
 
+abbrev pub bounded : Ask → ℕ → Bool
+bounded (inSpans ss) n = allBelow n ss
+bounded (fromLast hi) n = ltb hi n
+
 abbrev pub fitting : Rule → ℕ → Bool
-fitting (among ss) w = allBelow (2 ^ w) ss
-fitting (rising hi) w = ltb hi (2 ^ w)
+fitting (asks a) w = bounded a (2 ^ w)
 fitting spare w = true
 
 abbrev pub allFit : List Row → Bool

@@ -6,7 +6,8 @@ use Rattle.bits.specs.Frame.{fieldOf}
 use Rattle.rows.specs.declared.common.Common.{Common}
 use Rattle.rows.specs.declared.time.Time.{Time}
 use Rattle.rows.specs.Layout.{Row, Layout, common, ending, noCategory, slotRows, Parts, Slots}
-use mathlib.Core.Bool.{Bool, false, true}
+use mathlib.Core.Bool.{Bool, false, true, _&&_}
+use lib.Dec.{eqb}
 
 -- the values in the order of the frame, bits 8 to 225
 pub record Values : Type 0 where
@@ -82,6 +83,10 @@ commonFrom vs = record { rc = getD vs 1 0; month = getD vs 3 0; day = getD vs 4 
 abbrev pub commonOf : List ℕ → Common
 commonOf s = commonFrom (map (cut s) (common noCategory))
 
+-- nothing but zeros
+abbrev pub noCommon : Common
+noCommon = record { rc = 0; month = 0; day = 0; hour = 0; minute = 0; it = 0 }
+
 -- Vn, Reserved
 abbrev pub lastValues : ℕ → List ℕ
 lastValues reserved = 1 ∷ reserved ∷ []
@@ -102,3 +107,12 @@ joined (v ∷ vs) = v ++ joined vs
 -- the values one behind the other
 abbrev pub flat : Values → List ℕ
 flat v = v .head ++ (v .front ++ (joined (v .slots) ++ (v .text ++ (v .behind ++ v .last))))
+
+-- ---- compared
+
+-- two lists are the same bytes
+unfoldable pub sameBytes : List ℕ → List ℕ → Bool
+sameBytes [] [] = true
+sameBytes [] (b ∷ m) = false
+sameBytes (a ∷ l) [] = false
+sameBytes (a ∷ l) (b ∷ m) = eqb a b && sameBytes l m

@@ -2,7 +2,7 @@
 ghost use mathlib.Core.Path.{_≡_};
 ghost use Rattle.rows.specs.Runs.Questions.{_then_};
 ghost use Rattle.rows.specs.Runs.Verdict.{commonVerdict};
-ghost use Rattle.rows.specs.Values.{commonOf};
+ghost use Rattle.rows.specs.Values.{commonOf, noCommon};
 use crate::refusal::Verdict;
 
 // Classification (Rc), the time of issue, and information type (It).
@@ -16,6 +16,20 @@ pub struct Common {
 }
 
 impl Common {
+    // Nothing but zeros.
+    pub fn of_zeros() -> Common
+        ensures { λ r. ⌜ r ≡ noCommon ⌝ }
+    {
+        Common {
+            rc: 0,
+            month: 0,
+            day: 0,
+            hour: 0,
+            minute: 0,
+            it: 0,
+        }
+    }
+
     // The fields of a frame.
     pub fn of(f: [u8; 32]) -> Common
         ensures { λ r. ⌜ r ≡ commonOf f ⌝ }

@@ -1,4 +1,6 @@
 // What the table of a category says, and the fields of a record in its order, as numbers.
+ghost use mathlib.Core.Path.{_≡_};
+ghost use Prim.Native.Nat.{_%_, _^_};
 
 // The category's code, 0 for none; how many slots it has, the first bit of the first one, how many bits each
 // has, and how many of them its day, hour, minute, strength and place have; whether it has text; and the first
@@ -27,4 +29,17 @@ pub struct Fields {
 pub struct Spares {
     pub front: u64,
     pub behind: u64,
+}
+
+// What is left of a number in a field of one byte, and in one of two.
+pub fn one_byte(x: u64) -> u8
+    ensures { λ r. ⌜ r ≡ x % 2 ^ 8 ⌝ }
+{
+    (x % 256) as u8
+}
+
+pub fn two_bytes(x: u64) -> u16
+    ensures { λ r. ⌜ r ≡ x % 2 ^ 16 ⌝ }
+{
+    (x % 0x1_0000) as u16
 }

@@ -1,7 +1,11 @@
 // Day, hour and minute, wherever a category has them.
 ghost use mathlib.Core.Path.{_≡_};
+ghost use mathlib.Core.List.{[], _∷_};
+ghost use Prim.Native.Nat.{_%_, _^_};
+ghost use Rattle.rows.specs.Values.{timeFrom};
 ghost use Rattle.rows.specs.Runs.Questions.{_then_};
 ghost use Rattle.rows.specs.Runs.Times.{timeIn, timeVerdict};
+use crate::fields::one_byte;
 use crate::refusal::Verdict;
 
 // When an earthquake or an eruption was.
@@ -12,6 +16,17 @@ pub struct Time {
 }
 
 impl Time {
+    // The time that three numbers say, of each its last byte.
+    pub fn of_values(day: u64, hour: u64, minute: u64) -> Time
+        ensures { λ r. ⌜ r ≡ timeFrom (day % 2 ^ 8 ∷ hour % 2 ^ 8 ∷ minute % 2 ^ 8 ∷ []) 0 ⌝ }
+    {
+        Time {
+            day: one_byte(day),
+            hour: one_byte(hour),
+            minute: one_byte(minute),
+        }
+    }
+
     // The time whose first bit is `at`; what lies outside the frame is zero.
     pub fn at(f: [u8; 32], at: u8) -> Time
         ensures { λ r. ⌜ r ≡ timeIn f at ⌝ }

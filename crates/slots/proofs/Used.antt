@@ -1,16 +1,16 @@
 -- What the number of used slots says.
-use Rattle.rows.specs.Kept.{AllEmpty, Empty, In, Keeps, Kept, LaterKept, SlotsKept}
+use Rattle.rows.specs.Kept.{AllEmpty, Asked, Empty, Keeps, Kept, LaterKept, SlotsKept}
 use mathlib.Core.Bool.{Bool, _||_, false, not, true, cond}
 use mathlib.Core.List.{List, [], _∷_, _++_, map}
-use Rattle.rows.specs.Layout.{Row, Rule, Slots, among, rising, slotRows, spare, shifted}
+use Rattle.rows.specs.Layout.{Row, Rule, Slots, asks, slotRows, spare, shifted}
 use Rattle.rows.proofs.Layouts.Lengths.{SlotsFilled}
 use Prim.Native.Nat.{_+_, _<_, _≤_, suc, zero, ℕ, _*_, _-_}
 use mathlib.Core.Path.{_∙_, _≡_, ap, refl, subst, sym, ap₂}
-use Rattle.rows.specs.Runs.Verdict.{allowed, empty}
+use Rattle.rows.specs.Runs.Verdict.{empty}
 use Rattle.rows.proofs.Rules.JudgedSlots.{empty-is, is-empty}
 use Rattle.rows.proofs.Rules.Outcomes.{false-not-true}
 use lib.ListN.{getD, length, replicate}
-use Rattle.rows.proofs.Rules.Spans.{in-allowed}
+use Rattle.rows.proofs.Rules.Kinds.{mayBeZero, zero-asked}
 use native.Mathlib.Nat.{le-of-suc-le-suc, not-suc-le-zero, suc-inj, suc-ne-zero}
 use Rattle.slots.specs.Slots.{usedAmong, noSlot, slotOf, slotParts, slotsOf}
 use mathlib.Core.Logic.{⊎-elim}
@@ -59,8 +59,7 @@ later-empty k at (v ∷ vs) h (suc i) u l =
 
 -- the first slot is used, for one of its fields may not be zero: one test on the table
 abbrev pub allows : Rule → Bool
-allows (among ss) = allowed ss 0
-allows (rising hi) = true
+allows (asks a) = mayBeZero a
 allows spare = true
 
 abbrev pub names : List Row → Bool
@@ -77,8 +76,7 @@ not-silent past (r ∷ rs) (v ∷ vs) l n h e = by (r .rule) (λ m. not-silent (
     asked false rest f m = false-not-true f
 
     by : (x : Rule) → (names rs ≡ true → ⊥) → not (allows x) || names rs ≡ true → Keeps x past v vs → ⊥
-    by (among ss) rest m k = asked (allowed ss 0) rest (in-allowed ss 0 (subst (In ss) (e .0) k)) m
-    by (rising hi) rest m k = rest m
+    by (asks a) rest m k = asked (mayBeZero a) rest (zero-asked a past vs (subst (λ (x : ℕ). Asked a past x vs) (e .0) k)) m
     by spare rest m k = rest m
 
 pub behind-used : (k : Slots) (vs : List (List ℕ)) → SlotsFilled k (k .first) vs → names (k .rows) ≡ true → SlotsKept k vs

@@ -12,7 +12,7 @@ use borrow.Author.Tests.{eqb-true, eqb-false}
 use Rattle.pages.specs.declared.page.Page.{Page}
 use Rattle.pages.specs.Pages.{noPage, join, heldPage, disputedPage}
 use Rattle.pages.proofs.States.{Text, Mark, absent, held, disputed, toPage, joinM, join-to}
-use Rattle.pages.proofs.Texts.{same?, eq-same, ne-same}
+use Rattle.rows.proofs.Rules.Tests.{same?, eq-same, ne-same}
 use Rattle.bulletin.specs.declared.store.Store.{Store}
 use Rattle.bulletin.specs.declared.take.Admission.{Admission}
 use Rattle.bulletin.specs.declared.take.Admission.the-variants.{Number, Refused}

@@ -13,7 +13,7 @@ use borrow.Author.Tests.{eq-eqb, ne-eqb}
 use Rattle.pages.specs.declared.page.Page.{Page}
 use Rattle.pages.specs.Pages.{noPage}
 use Rattle.bulletin.specs.Text.{bytesInOrder, textLength}
-use Rattle.pages.proofs.Texts.{below?}
+use Rattle.rows.proofs.Rules.Tests.{below?}
 
 abbrev pub Eighteen : List Page → Type 0
 Eighteen l = (i : ℕ) → i < length l → length (getD l i noPage .text) ≡ 18

@@ -15,7 +15,7 @@ use Rattle.bulletin.specs.Stores.{pageBehind}
 use Rattle.bulletin.specs.Takings.{takingAnswer, putPage, takeOf}
 use Rattle.bulletin.proofs.Taking.TakenOrRefused.{taken-or-refused}
 use Rattle.pages.proofs.States.{Text, Mark, absent, held, disputed, toPage, joinM, join-to}
-use Rattle.pages.proofs.Texts.{eq-same, ne-same}
+use Rattle.rows.proofs.Rules.Tests.{eq-same, ne-same}
 use Rattle.histories.specs.Soundness.{InRange, Sound}
 use Rattle.histories.specs.Frames.{Frame, storeAfter, Brings, Came, Absent, Held}
 use Rattle.histories.proofs.Soundness.Tested.{sound-tested}

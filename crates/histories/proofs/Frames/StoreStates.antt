@@ -16,7 +16,7 @@ use Rattle.bulletin.specs.Stores.{noPages, pageBehind}
 use Rattle.bulletin.specs.Merges.{joinedStores}
 use Rattle.pages.proofs.States.{Mark, absent, held, disputed, toPage, joinM, join-to}
 use Rattle.bulletin.proofs.Merging.Joins.{length-joins, getD-joins}
-use Rattle.pages.proofs.Texts.{below?}
+use Rattle.rows.proofs.Rules.Tests.{below?}
 use Rattle.histories.specs.Soundness.{InRange, OneOfThree, Sound}
 
 pub record Stands (s : Store) (n : Name) (m : ℕ → Mark) : Type 0 where

@@ -15,7 +15,7 @@ use Rattle.bulletin.specs.declared.store.Store.{Store}
 use Rattle.pages.specs.Pages.{noPage, noText, Shaped}
 use Rattle.bulletin.specs.Stores.{pageBehind, ShapedStore}
 use Rattle.pages.proofs.States.{Text, Mark, absent, held, disputed, toPage, joinM, joinM-none, markOf, markOf-append}
-use Rattle.pages.proofs.Texts.{below?, ne-same}
+use Rattle.rows.proofs.Rules.Tests.{below?, ne-same}
 use Rattle.histories.specs.Soundness.{InRange, Sound}
 use Rattle.histories.specs.Frames.{Frame, storeAfter, Among, Brings, Came, AllTaken}
 use Rattle.histories.proofs.Frames.StoreStates.{Stands, markIn, marksOf, stands-same, sound-stands}

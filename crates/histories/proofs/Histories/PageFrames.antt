@@ -16,7 +16,7 @@ use Rattle.report.specs.Rules.{KeepsRules}
 use Rattle.report.proofs.Claims.{valid-keeps-rules, keeping-rules-is-valid}
 use Rattle.pages.specs.declared.name.Name.{Name}
 use Rattle.pages.proofs.States.{Text}
-use Rattle.pages.proofs.Texts.{below?}
+use Rattle.rows.proofs.Rules.Tests.{below?}
 use Rattle.histories.specs.Soundness.{InRange}
 use Rattle.histories.specs.Frames.{Frame, Brings}
 use Rattle.histories.proofs.Soundness.KeptRules.{Bytes18, pageRecord, page-holds}

@@ -13,7 +13,7 @@ use Rattle.pages.specs.declared.page.Page.{Page}
 use Rattle.pages.specs.Pages.{noPage}
 use Rattle.bulletin.specs.Counts.{countMarked, lowestNotHeld}
 use Rattle.bulletin.proofs.Stores.Counted.{lowest-past, lowest-more, lowest-here}
-use Rattle.pages.proofs.Texts.{below?}
+use Rattle.rows.proofs.Rules.Tests.{below?}
 use Rattle.histories.specs.Reports.{Counted, none, one-more, no-more, All, LowestWithout}
 
 -- ---- how many

@@ -12,7 +12,7 @@ use borrow.Author.Tests.{eqb-true, eqb-false}
 use Rattle.pages.specs.declared.page.Page.{Page}
 use Rattle.pages.specs.Pages.{noPage}
 use Rattle.bulletin.specs.Text.{bytesInOrder, textLength}
-use Rattle.pages.proofs.Texts.{below?}
+use Rattle.rows.proofs.Rules.Tests.{below?}
 use Rattle.histories.specs.Reports.{inOrder, Trimmed}
 
 -- ---- zero bytes at the end

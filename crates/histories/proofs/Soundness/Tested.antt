@@ -11,9 +11,10 @@ use borrow.Author.Tests.{eqb-true, eq-eqb, ne-eqb, ltb-true, ltb-false}
 use Rattle.rows.proofs.Rules.Outcomes.{false-not-true}
 use Rattle.pages.specs.declared.page.Page.{Page}
 use Rattle.bulletin.specs.declared.store.Store.{Store}
-use Rattle.pages.specs.Pages.{noPage, noText, sameBytes, soundPage, soundAt}
+use Rattle.pages.specs.Pages.{noPage, noText, soundPage, soundAt}
+use Rattle.rows.specs.Values.{sameBytes}
 use Rattle.bulletin.specs.Stores.{soundFrom, pageBehind, soundStore}
-use Rattle.pages.proofs.Texts.{same-eq, eq-same}
+use Rattle.rows.proofs.Rules.Tests.{same-eq, eq-same}
 use Rattle.bulletin.proofs.Stores.Sound.{sound-parts}
 use Rattle.histories.specs.Soundness.{OneOfThree, Sound}
 use Rattle.histories.proofs.Soundness.NameRanges.{fine-in-range, in-range-fine}

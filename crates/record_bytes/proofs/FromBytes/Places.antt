@@ -1,13 +1,13 @@
 -- A byte behind others is a byte of what stands behind them.
 use mathlib.Core.Path.{_≡_, refl, sym, ap, _∙_}
-use Prim.Native.Nat.{ℕ, zero, suc, _+_, _*_}
-use mathlib.Core.List.{List, _∷_, []}
-use lib.ListN.{getD, drop}
-use lib.Seq.{getD-drop}
-use Rattle.rows.specs.Values.{each}
+use Prim.Native.Nat.{ℕ, zero, suc, _+_, _<_}
 use native.Mathlib.Omega.{arith}
-use Rattle.record_bytes.specs.Unpacked.{eightAt, fourAt}
+use mathlib.Core.List.{List, _∷_}
+use lib.ListN.{length, getD, drop, take, length-drop}
+use lib.Seq.{getD-drop, getD-take, drop-drop, length-take-le}
+use Rattle.rows.specs.Values.{each}
 use Rattle.bits.specs.Frame.{number}
+use Rattle.record_bytes.specs.Unpacked.{numberAt}
 
 pub each-same : {A : Type 0} (n : ℕ) (f g : ℕ → A) → ((i : ℕ) → f i ≡ g i) → each n f ≡ each n g
 each-same zero f g h = refl
@@ -16,19 +16,13 @@ each-same (suc n) f g h = λ j. h 0 j ∷ each-same n (λ i. f (suc i)) (λ i. g
 pub byte-behind : (n : ℕ) (l : List ℕ) (j k : ℕ) → j ≡ n + k → getD l j 0 ≡ getD (drop n l) k 0
 byte-behind n l j k e = ap (λ (x : ℕ). getD l x 0) e ∙ sym (getD-drop n l k 0)
 
--- ---- a number of eight bytes
+pub number-behind : (n : ℕ) (l : List ℕ) (j k m : ℕ) → j ≡ n + k → numberAt l j m ≡ numberAt (drop n l) k m
+number-behind n l j k m e = ap (λ (x : ℕ). numberAt l x m) e ∙ ap (λ (s : List ℕ). number (take m s)) (sym (drop-drop k n l))
 
--- by its halves
-halves : (a b c d e f g h : ℕ) → number (a ∷ b ∷ c ∷ d ∷ []) * 0x1_0000_0000 + number (e ∷ f ∷ g ∷ h ∷ []) ≡ number (a ∷ b ∷ c ∷ d ∷ e ∷ f ∷ g ∷ h ∷ [])
-halves a b c d e f g h = omega arith
+-- ---- bytes 9 to 40
 
-pub eight-of-fours : (l : List ℕ) (k : ℕ) → fourAt l k * 0x1_0000_0000 + fourAt l (k + 4) ≡ eightAt l k
-eight-of-fours l k =
-    let at : (m n : ℕ) → m ≡ n → getD l m 0 ≡ getD l n 0 = λ m n e. ap (λ (x : ℕ). getD l x 0) e in
-    ap (λ (x : ℕ). fourAt l k * 0x1_0000_0000 + x) (λ i. number (
-    getD l (k + 4) 0
-    ∷ at (k + 4 + 1) (k + 5) (omega arith) i
-    ∷ at (k + 4 + 2) (k + 6) (omega arith) i
-    ∷ at (k + 4 + 3) (k + 7) (omega arith) i ∷ []
-    ))
-    ∙ halves _ _ _ _ _ _ _ _
+pub own-byte : (l : List ℕ) (k : ℕ) → k < 32 → getD (take 32 (drop 9 l)) k 0 ≡ getD l (9 + k) 0
+own-byte l k h = getD-take 32 (drop 9 l) k 0 h ∙ getD-drop 9 l k 0
+
+pub own-long : (l : List ℕ) → length l ≡ 251 → length (take 32 (drop 9 l)) ≡ 32
+own-long l n = length-take-le 32 (drop 9 l) (rw (length-drop 9 l) (omega (arith, n)))

@@ -1,4 +1,4 @@
--- Something behind what the category has is refused, in its turn.
+-- Bytes that are not those of the body that they give are refused, in their turn.
 use mathlib.Core.Path.{_≡_, refl, ap, _∙_}
 use mathlib.Core.Bool.{Bool, true, false, _&&_, not}
 use Prim.Native.Nat.{ℕ, zero, suc, _+_, _*_}
@@ -12,7 +12,7 @@ use Rattle.rows.specs.Runs.Verdict.{allowed, empty}
 use Rattle.rows.specs.Values.{each, partWidths}
 use Rattle.report.specs.Runs.Writing.{known, tidy, writeAnswer}
 use Rattle.slots.specs.Slots.{tidySlots, slotParts, vacant}
-use Rattle.record_bytes.specs.Unpacked.{slotAt, bodyFrom, stray, slotsFrom, misplaced, slotsOrMisplaced, textInBytes, unpackedAs, unpacked}
+use Rattle.record_bytes.specs.Unpacked.{slotAt, bodyInBytes, stray, slotsFrom, misplaced, slotsOrMisplaced, textInBytes, unpackedAs, unpacked}
 use Rattle.report.specs.declared.body.Body.{Body}
 use Rattle.rows.specs.Layout.{Layout, Slots}
 use Rattle.report.proofs.Categories.{all, layouts, listed}
@@ -50,11 +50,11 @@ unfolding unpackedAs
 untidy l b e =
     let k : Slots = layout b .slots in
     let blank : Bool = empty (drop (length (layout b .text)) (textInBytes l)) in
-    let ss : List Slot = each 15 (λ i. slotAt l (31 + 12 * i)) in
+    let ss : List Slot = each 15 (λ i. slotAt l (41 + 12 * i)) in
     let last : slotsOrMisplaced (stray b l) (slotsFrom l) ≡ ss ++ misplaced ∷ [] = ap (λ (x : Bool). slotsOrMisplaced x (slotsFrom l)) e in
     ap (λ (x : List Slot). tidySlots (partWidths k) (k .count) x && blank) last
     ∙ ap (λ (x : Bool). x && blank) (last-asked (partWidths k) (k .count) ss misplaced (not-true _ (listed refusesMisplaced all-refuse b)))
 
-pub stray-refused : (l : List ℕ) → stray (bodyFrom l) l ≡ true → allowed preambles (getD l 1 0) ≡ true → known (bodyFrom l) ≡ true → writeAnswer (unpacked l) 32 ≡ Refused Unused
+pub stray-refused : (l : List ℕ) → stray (bodyInBytes l) l ≡ true → allowed preambles (getD l 1 0) ≡ true → known (bodyInBytes l) ≡ true → writeAnswer (unpacked l) 32 ≡ Refused Unused
 unfolding writeAnswer unpackedAs unless _then_
-stray-refused l e p d = simp (p, d, untidy l (bodyFrom l) e)
+stray-refused l e p d = simp (p, d, untidy l (bodyInBytes l) e)

@@ -1,55 +1,102 @@
 -- The parts of a packed record, one behind the other.
 use mathlib.Core.Path.{_≡_, refl, sym, ap, _∙_}
-use Prim.Native.Nat.{ℕ, _+_}
+use Prim.Native.Nat.{ℕ, zero, suc, _+_, _-_, _≤_}
+use native.Mathlib.Omega.{arith}
 use mathlib.Core.List.{List, _++_}
-use lib.ListN.{length, length-append}
+use lib.ListN.{length, drop, length-append, length-map, length-replicate, replicate}
+use lib.Seq.{sets, sets-eq}
 use borrow.Author.Tests.{eq-eqb, ne-eqb}
+use Rattle.rows.specs.declared.fields.Fields.{Fields}
+use Rattle.rows.specs.Values.{widths}
+use Rattle.rows.specs.Runs.Fields.{fieldsIn}
 use Rattle.report.specs.declared.record.Record.{Record}
-use Rattle.record_bytes.specs.Packed.{zeroFilled, headBytes, bodyBytes, slotsBytes, packed, packedInto}
+use Rattle.report.specs.declared.body.Body.{Body}
+use Rattle.report.specs.Categories.{layout, sidesOf}
+use Rattle.report.proofs.Categories.{sides-filled}
+use Rattle.record_bytes.specs.Packed.{bodyBytes, cells, headBytes, packed, packedInto, sidesBytes, slotsBytes, zeroFilled}
+use Rattle.record_bytes.specs.Unpacked.{size}
 use Rattle.lent.specs.Writing.{Wrote}
 use Rattle.lent.proofs.Chains.{_then_, whole}
+use Rattle.record_bytes.proofs.Cells.{cells-padded, length-cells}
+use Rattle.record_bytes.proofs.FromBytes.Read.{fields-fit}
 use Rattle.record_bytes.proofs.ToBytes.Slots.{length-slots}
-use Rattle.report.specs.declared.body.Body.the-variants.{AshFall, Hypocenter, Intensity, Nankai, NoCategory}
-use Rattle.report.specs.declared.body.Body.{Body}
 
-length-body : (b : Body) → length (zeroFilled 22 (bodyBytes b)) ≡ 22
-unfolding bodyBytes
-length-body NoCategory = refl
-length-body (Hypocenter q) = refl
-length-body (Intensity t) = refl
-length-body (Nankai p) = refl
-length-body (AshFall e) = refl
+-- the bytes of a body: those of its fields, and zeros
+sides-long : (b : Body) → length (sidesBytes (layout b) (sidesOf b 0 0)) ≡ size (widths (layout b .front)) + size (widths (layout b .behind))
+sides-long b =
+    let l = layout b in
+    let v = sidesOf b 0 0 in
+    let filled = sides-filled b 0 0 in
+    length-append (cells (widths (l .front)) (v .front)) (cells (widths (l .behind)) (v .behind))
+    ∙ (λ i. length-cells (widths (l .front)) (v .front) (length-map (l .front) (λ r. r .width) ∙ sym (filled .0)) i
+    + length-cells (widths (l .behind)) (v .behind) (length-map (l .behind) (λ r. r .width) ∙ sym (filled .1)) i)
+
+pub sides-fit : (b : Body) → length (sidesBytes (layout b) (sidesOf b 0 0)) ≤ 32
+sides-fit b = rw (sides-long b) (fields-fit b)
+
+pub length-body : (b : Body) → length (bodyBytes b) ≡ 32
+length-body b =
+    let t : List ℕ = sidesBytes (layout b) (sidesOf b 0 0) in
+    length-append t (replicate (32 - length t) 0) ∙ ap (λ (n : ℕ). length t + n) (length-replicate (32 - length t) 0) ∙ whole-of (length t) (sides-fit b)
+  where
+    whole-of : (n : ℕ) → n ≤ 32 → n + (32 - n) ≡ 32
+    whole-of n h = omega arith
+
+-- what is put into 32 zeros
+zeros-left : (n k : ℕ) → _≡_ {A = List ℕ} (drop k (replicate n 0)) (replicate (n - k) 0)
+zeros-left n zero = let same : n ≡ n - 0 = omega arith in ap (λ (m : ℕ). replicate m 0) same
+zeros-left zero (suc k) = let same : 0 ≡ 0 - suc k = omega arith in ap (λ (m : ℕ). replicate m 0) same
+zeros-left (suc n) (suc k) = let same : n - k ≡ suc n - suc k = omega arith in zeros-left n k ∙ ap (λ (m : ℕ). replicate m 0) same
+
+pub put-into-zeros : (t : List ℕ) → length t ≤ 32 → sets (replicate 32 0) 0 t ≡ zeroFilled 32 t
+put-into-zeros t h =
+    let at : 0 + length t ≡ length t = omega arith in
+    sets-eq t (replicate 32 0) 0 (omega (arith, h)) ∙ ap (λ (n : ℕ). t ++ drop n (replicate 32 0)) at ∙ ap (λ (z : List ℕ). t ++ z) (zeros-left 32 (length t))
+
+-- the fields as code hands them on have zeros behind them, which leave no byte
+pub own-put : (b : Body) (v : Fields) (out : List ℕ) (middle end : ℕ) (mid : List ℕ) → v ≡ fieldsIn (layout b) (sidesOf b 0 0)
+    → Wrote (replicate 32 0) mid 0 middle (cells (v .ahead) (v .front)) → Wrote mid out middle end (cells (v .after) (v .behind)) → out ≡ bodyBytes b
+own-put b v out middle end mid e x y =
+    let l = layout b in
+    let s = sidesOf b 0 0 in
+    let filled = sides-filled b 0 0 in
+    let bytes : cells (v .ahead) (v .front) ++ cells (v .after) (v .behind) ≡ sidesBytes l s =
+    ap (λ (z : Fields). cells (z .ahead) (z .front) ++ cells (z .after) (z .behind)) e
+    ∙ (λ i. cells-padded (widths (l .front)) (s .front) (replicate (18 - length (s .front)) 0) (18 - length (widths (l .front))) (length-map (l .front) (λ r. r .width) ∙ sym (filled .0)) i
+    ++ cells-padded (widths (l .behind)) (s .behind) (replicate (3 - length (s .behind)) 0) (3 - length (widths (l .behind))) (length-map (l .behind) (λ r. r .width) ∙ sym (filled .1)) i)
+    in
+    (x then y) .bytes ∙ ap (sets (replicate 32 0) 0) bytes ∙ put-into-zeros (sidesBytes l s) (sides-fit b)
 
 module _ (r : Record) where
-  -- bytes 0 to 30, and 0 to 222
+  -- bytes 0 to 40, and 0 to 232
   abbrev pub front : List ℕ
-  front = headBytes r ++ zeroFilled 22 (bodyBytes (r .body))
+  front = headBytes r ++ bodyBytes (r .body)
 
   abbrev pub most : List ℕ
   most = front ++ slotsBytes (r .slots)
 
-  pub length-front : length front ≡ 31
-  length-front = length-append (headBytes r) (zeroFilled 22 (bodyBytes (r .body))) ∙ ap (λ (n : ℕ). 9 + n) (length-body (r .body))
+  pub length-front : length front ≡ 41
+  length-front = length-append (headBytes r) (bodyBytes (r .body)) ∙ ap (λ (n : ℕ). 9 + n) (length-body (r .body))
 
-  pub length-most : length (r .slots) ≡ 16 → length most ≡ 223
+  pub length-most : length (r .slots) ≡ 16 → length most ≡ 233
   length-most n = length-append front (slotsBytes (r .slots)) ∙ rw (length-front, length-slots (r .slots), n)
 
-  pub length-packed : length (r .slots) ≡ 16 → length (r .text) ≡ 18 → length (packed r) ≡ 241
+  pub length-packed : length (r .slots) ≡ 16 → length (r .text) ≡ 18 → length (packed r) ≡ 251
   unfolding packed
   length-packed n m = length-append most (r .text) ∙ rw (length-most n, m)
 
   -- each part written where the one before it ends
-  pub packed-in-parts : {l a b c d : List ℕ} {i j k n : ℕ} → length (r .slots) ≡ 16 → length (r .text) ≡ 18 → length l ≡ 241 → Wrote l a 0 i (headBytes r)
-      → Wrote a b i j (zeroFilled 22 (bodyBytes (r .body))) → Wrote b c j k (slotsBytes (r .slots)) → Wrote c d k n (r .text) → d ≡ packed r
+  pub packed-in-parts : {l a b c d : List ℕ} {i j k n : ℕ} → length (r .slots) ≡ 16 → length (r .text) ≡ 18 → length l ≡ 251 → Wrote l a 0 i (headBytes r)
+      → Wrote a b i j (bodyBytes (r .body)) → Wrote b c j k (slotsBytes (r .slots)) → Wrote c d k n (r .text) → d ≡ packed r
   unfolding packed
   packed-in-parts s t e x y z w = whole (length-packed s t ∙ sym e) (((x then y) then z) then w)
 
 -- ---- by the length of the buffer
 
-pub into-right : (r : Record) (l : List ℕ) → length l ≡ 241 → packedInto r l ≡ packed r
+pub into-right : (r : Record) (l : List ℕ) → length l ≡ 251 → packedInto r l ≡ packed r
 unfolding packedInto
-into-right r l e = rw (eq-eqb _ 241 e)
+into-right r l e = rw (eq-eqb _ 251 e)
 
-pub into-wrong : (r : Record) (l : List ℕ) → (length l ≡ 241 → ⊥) → packedInto r l ≡ l
+pub into-wrong : (r : Record) (l : List ℕ) → (length l ≡ 251 → ⊥) → packedInto r l ≡ l
 unfolding packedInto
-into-wrong r l n = rw (ne-eqb _ 241 n)
+into-wrong r l n = rw (ne-eqb _ 251 n)

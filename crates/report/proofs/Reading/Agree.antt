@@ -1,5 +1,8 @@
 -- The values of the record of a frame are the values of the frame.
-use mathlib.Core.Path.{_≡_, ap, ap₂, _∙_}
+use mathlib.Core.Path.{_≡_, ap, ap₂, refl, _∙_}
+use mathlib.Core.Bool.{Bool, false, true}
+use Rattle.rows.specs.declared.refusal.Refusal.the-variants.{Category}
+use Rattle.rows.specs.Runs.Questions.{_then_, unless}
 use Prim.Native.Nat.{ℕ}
 use mathlib.Core.List.{List, map}
 use borrow.Author.Tests.{eqb-true}
@@ -11,9 +14,9 @@ use Rattle.report.specs.declared.read.Reading.{Reading}
 use Rattle.rows.specs.Layout.{Layout, common, ending}
 use Rattle.rows.specs.Values.{Values, cut, valuesOf, lastValues, Sides, commonOf, headValues}
 use Rattle.rows.specs.Runs.Fields.{spareIn}
-use Rattle.rows.specs.Runs.Verdict.{verdict}
+use Rattle.rows.specs.Runs.Verdict.{allowed, verdict}
 use Rattle.report.specs.Records.{bodyOf, textOf, recordAs, recordOf, values}
-use Rattle.report.specs.Runs.Reading.{outerOf, innerOf, reading}
+use Rattle.report.specs.Runs.Reading.{outerOf, contentAnswer, innerOf, reading}
 use Rattle.rows.specs.Kept.{In}
 use Rattle.rows.proofs.Rules.Spans.{allowed-in}
 use Rattle.rows.proofs.Rules.Outcomes.{fine-both, unless-fine}
@@ -30,16 +33,11 @@ pub record Outer (s : List ℕ) : Type 0 where
   pub version : fieldOf s 214 6 ≡ 1
   pub category : In categories (fieldOf s 17 4)
 
-pub outer : (s : List ℕ) → outerOf s ≡ Fine → Outer s
+outer : (s : List ℕ) → outerOf s ≡ Fine → In categories (fieldOf s 17 4) → Outer s
 unfolding outerOf
-outer s e =
+outer s e c =
     let m = fine-both _ _ (fine-both _ _ (fine-both _ _ (fine-both _ _ e .1) .1) .1) in
-    let v = fine-both _ _ (m .1) in
-    record {
-      message = eqb-true _ 43 (unless-fine _ _ (m .0));
-      version = eqb-true _ 1 (unless-fine _ _ (v .0));
-      category = allowed-in categories _ (unless-fine _ _ (v .1));
-    }
+    record { message = eqb-true _ 43 (unless-fine _ _ (m .0)); version = eqb-true _ 1 (unless-fine _ _ (m .1)); category = c }
 
 -- ---- part by part
 
@@ -74,16 +72,22 @@ agree s o =
     same _ _ _ _ _ _ _ _ _ _ _ _ (head-agrees s l (o .message) (fits .code)) (ap (λ (v : Sides). v .front) (fits .sides)) (slots-agree (l .slots) (suited-slots (bodyOf s)) s)
     (text-agrees s l) (ap (λ (v : Sides). v .behind) (fits .sides)) (last-agrees s (o .version))
 
--- so a record that is checked beside its spares is judged as its frame is
-pub judged : (s : List ℕ) (r : Record) (x y : ℕ) (v : Verdict) (out : Reading) → Outer s → r ≡ recordOf s → x ≡ spareFront s → y ≡ spareBehind s
-    → v ≡ verdict (layout (r .body)) (values r x y)
-    → out ≡ reading v r → out ≡ reading (innerOf s) (recordOf s)
-unfolding recordAs
-judged s r x y v out o e f g h k =
-    k
-    ∙ ap₂ reading
-    (h
-    ∙ ap₂ (λ (x y : ℕ). verdict (layout (r .body)) (values r x y)) f g
-    ∙ ap (λ (q : Record). verdict (layout (q .body)) (values q (spareFront s) (spareBehind s))) e
-    ∙ ap (verdict (layout (bodyOf s))) (agree s o))
-    e
+-- so a record that is checked beside its spares is judged as its frame is: 7 first, then its rules
+pub judged : (s : List ℕ) (r : Record) (x y : ℕ) (known : Bool) (v : Verdict) (out : Reading) → outerOf s ≡ Fine → r ≡ recordOf s → x ≡ spareFront s → y ≡ spareBehind s
+    → known ≡ allowed categories (fieldOf s 17 4)
+    → v ≡ unless known Category then verdict (layout (r .body)) (values r x y)
+    → out ≡ reading v r → out ≡ reading (contentAnswer s) (recordOf s)
+unfolding recordAs unless _then_
+judged s r x y known v out o e f g c h k =
+    let inside : Verdict = verdict (layout (r .body)) (values r x y) in
+    k ∙ ap₂ reading (h ∙ ap (λ (b : Bool). unless b Category then inside) c ∙ by (allowed categories (fieldOf s 17 4)) refl) e
+  where
+    same : In categories (fieldOf s 17 4) → verdict (layout (r .body)) (values r x y) ≡ innerOf s
+    same i =
+        ap₂ (λ (x y : ℕ). verdict (layout (r .body)) (values r x y)) f g
+        ∙ ap (λ (q : Record). verdict (layout (q .body)) (values q (spareFront s) (spareBehind s))) e
+        ∙ ap (verdict (layout (bodyOf s))) (agree s (outer s o i))
+
+    by : (b : Bool) → allowed categories (fieldOf s 17 4) ≡ b → unless b Category then verdict (layout (r .body)) (values r x y) ≡ unless b Category then innerOf s
+    by true a = same (allowed-in categories _ a)
+    by false a = refl

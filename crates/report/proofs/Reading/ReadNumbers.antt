@@ -23,10 +23,10 @@ unfolding outerOf
 outer-ten s =
     then-ten _ _ (unless-ten _ Padding (lit≤ tt)) (then-ten _ _ (unless-ten _ Preamble (lit≤ tt))
     (then-ten _ _ (unless-ten _ Parity (lit≤ tt)) (then-ten _ _ (unless-ten _ Message (lit≤ tt))
-    (then-ten _ _ (unless-ten _ Version (lit≤ tt)) (unless-ten _ Category (lit≤ tt))))))
+    (unless-ten _ Version (lit≤ tt)))))
 
 pub read-ten : (s : List ℕ) → answers (readAnswer s) .number ≤ 10
-read-ten s = then-ten _ _ (unless-ten _ Length (lit≤ tt)) (then-ten _ _ (outer-ten s) (verdict-ten _ _))
+read-ten s = then-ten _ _ (unless-ten _ Length (lit≤ tt)) (then-ten _ _ (outer-ten s) (then-ten _ _ (unless-ten _ Category (lit≤ tt)) (verdict-ten _ _)))
 
 -- ---- the record of a refused reading
 

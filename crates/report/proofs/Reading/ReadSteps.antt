@@ -12,7 +12,7 @@ use Rattle.report.specs.declared.record.Record.{Record}
 use Rattle.report.specs.declared.read.Reading.{Reading}
 use Rattle.rows.specs.Runs.Questions.{_then_, unless}
 use Rattle.report.specs.Records.{recordOf}
-use Rattle.report.specs.Runs.Reading.{outerOf, innerOf, readAnswer, reading, readOf}
+use Rattle.report.specs.Runs.Reading.{outerOf, contentAnswer, readAnswer, reading, readOf}
 
 pub not-a-frame : (s : List ℕ) (r : Record) (out : Reading) → (length s ≡ 32 → ⊥) → out ≡ reading (Refused Length) r → out ≡ readOf s
 unfolding unless _then_
@@ -21,8 +21,8 @@ not-a-frame s r out n e = e ∙ sym (ap (λ (v : Verdict). reading v (recordOf s
     refused : readAnswer s ≡ Refused Length
     refused = simp (ne-eqb (length s) 32 n)
 
--- what is read of a frame, by the answer to 2 to 7
-asked : (s : List ℕ) (v : Verdict) → length s ≡ 32 → v ≡ outerOf s → readAnswer s ≡ v then innerOf s
+-- what is read of a frame, by the answer to 2 to 6
+asked : (s : List ℕ) (v : Verdict) → length s ≡ 32 → v ≡ outerOf s → readAnswer s ≡ v then contentAnswer s
 unfolding unless _then_
 asked s v l e = simp (eq-eqb (length s) 32 l, e)
 
@@ -32,14 +32,14 @@ unfolding _then_
 refused-early s f v x r out l p q e k =
     k
     ∙ ap (λ (w : Verdict). reading w r) e
-    ∙ sym (ap (λ (w : Verdict). reading w (recordOf s)) (asked s v l (q ∙ ap outerOf p) ∙ ap (λ (w : Verdict). w then innerOf s) e))
+    ∙ sym (ap (λ (w : Verdict). reading w (recordOf s)) (asked s v l (q ∙ ap outerOf p) ∙ ap (λ (w : Verdict). w then contentAnswer s) e))
 
 pub read-on : (s f : List ℕ) (v : Verdict) (out : Reading) → length s ≡ 32 → f ≡ s → v ≡ outerOf f → v ≡ Fine
-    → out ≡ reading (innerOf f) (recordOf f) → out ≡ readOf s
+    → out ≡ reading (contentAnswer f) (recordOf f) → out ≡ readOf s
 unfolding _then_
 read-on s f v out l p q e k =
     k
-    ∙ ap (λ (g : List ℕ). reading (innerOf g) (recordOf g)) p
-    ∙ sym (ap (λ (w : Verdict). reading w (recordOf s)) (asked s v l (q ∙ ap outerOf p) ∙ ap (λ (w : Verdict). w then innerOf s) e))
+    ∙ ap (λ (g : List ℕ). reading (contentAnswer g) (recordOf g)) p
+    ∙ sym (ap (λ (w : Verdict). reading w (recordOf s)) (asked s v l (q ∙ ap outerOf p) ∙ ap (λ (w : Verdict). w then contentAnswer s) e))
 
 -- ---- and the two of writing

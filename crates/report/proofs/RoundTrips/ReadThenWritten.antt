@@ -30,7 +30,7 @@ use Rattle.rows.proofs.Layouts.Rows.{values-flat}
 use Rattle.report.proofs.Writing.Unused.{is-tidy, frame-tidy}
 use Rattle.report.proofs.Writing.Validity.{is-known, keeps-valid, above}
 use Rattle.report.proofs.Writing.Ends.{ended-again}
-use Rattle.rows.specs.Layout.{Row, Rule, among, rising, spare}
+use Rattle.rows.specs.Layout.{Row, Rule, asks, spare}
 use Rattle.report.specs.Categories.{categories, layout}
 use Rattle.report.proofs.Shaped.{frame-shaped}
 use Rattle.report.proofs.Tables.{front-fields, front-total}
@@ -56,8 +56,7 @@ spare-zero s past [] k = refl
 spare-zero s past (r ∷ rs) k = by (r .rule) (k .0) (spare-zero s (cut s r ∷ past) rs (k .1))
   where
     by : (x : Rule) → Keeps x past (cut s r) (map (cut s) rs) → spareIn s rs ≡ 0 → cond (isSpare x) (fieldIn 57 s (r .first) (r .width)) (spareIn s rs) ≡ 0
-    by (among ss) h e = e
-    by (rising hi) h e = e
+    by (asks a) h e = e
     by spare h e = zero-in s r h
 
 pub same-values : (s : List ℕ) → Conforms s → values (recordOf s) 0 0 ≡ frameValues s

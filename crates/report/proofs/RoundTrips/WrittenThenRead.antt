@@ -26,7 +26,8 @@ use Rattle.rows.proofs.Rules.Outcomes.{and-both}
 use Rattle.report.proofs.Reading.Frames.{conforming-fine}
 use Rattle.rows.proofs.Layouts.Lengths.{frame-filled}
 use Rattle.rows.proofs.Layouts.Rows.{values-flat}
-use Rattle.rows.proofs.Layouts.Fits.{in-below, holds-fit}
+use Rattle.rows.proofs.Layouts.Fits.{holds-fit}
+use Rattle.rows.proofs.Rules.Spans.{in-below}
 use Rattle.rows.proofs.Layouts.Flattened.{flat-same}
 use Rattle.report.proofs.Writing.Unused.{tidy-is}
 use Rattle.report.proofs.Writing.Validity.{valid-keeps}

@@ -14,7 +14,7 @@ use Rattle.rows.specs.declared.refusal.Refusal.the-variants.{Length, Preamble, 
 use Rattle.report.specs.declared.record.Record.{Record}
 use Rattle.rows.specs.Refusals.{says, answers}
 use Rattle.rows.specs.Runs.Questions.{_then_, unless}
-use Rattle.rows.specs.Layout.{Slots, shifted, Rule, among, rising, spare, Row, common, ending, slotRows}
+use Rattle.rows.specs.Layout.{Slots, shifted, Rule, asks, spare, Row, common, ending, slotRows}
 use Rattle.rows.specs.Runs.Verdict.{judge, walk, empty, later, slotsVerdict, verdict}
 use Rattle.report.specs.Records.{values}
 use Rattle.report.specs.Runs.Writing.{writeAnswer}
@@ -53,8 +53,7 @@ cond-numbered false v w h k = k
 
 judge-numbered : (r : Rule) (at : ℕ) (past : List ℕ) (v : ℕ) (next : List ℕ) → Spared r v → Numbered (judge r at past v next)
 unfolding judge
-judge-numbered (among ss) at past v next h = unless-numbered _ (Range at) (inr (inr (inr (inr (inl refl)))))
-judge-numbered (rising hi) at past v next h = unless-numbered _ (Range at) (inr (inr (inr (inr (inl refl)))))
+judge-numbered (asks a) at past v next h = unless-numbered _ (Range at) (inr (inr (inr (inr (inl refl)))))
 judge-numbered spare at past v next h = rw (unless-true (eqb v 0) (Spare at) (eq-eqb v 0 h)) (inl refl)
 
 walk-numbered : (past : List ℕ) (rs : List Row) (vs : List ℕ) → AllSpared rs vs → Numbered (walk past rs vs)

@@ -20,7 +20,7 @@ use Rattle.report.specs.declared.body.Content.{Content}
 use Rattle.report.specs.Categories.{categories, layout, preambles}
 use Rattle.slots.specs.Slots.{slotsOf}
 
--- 2 to 7
+-- 2 to 6
 unfoldable pub outerOf : List ℕ → Verdict
 outerOf s =
     unless (eqb (fieldOf s 250 6) 0) Padding
@@ -28,14 +28,17 @@ outerOf s =
     then unless (parityRight s) Parity
     then unless (eqb (fieldOf s 8 6) 43) Message
     then unless (eqb (fieldOf s 214 6) 1) Version
-    then unless (allowed categories (fieldOf s 17 4)) Category
 
 -- 8, 9, 10
 abbrev pub innerOf : List ℕ → Verdict
 innerOf s = verdict (layout (bodyOf s)) (valuesOf s (layout (bodyOf s)))
 
+-- 7 to 10
+abbrev pub contentAnswer : List ℕ → Verdict
+contentAnswer s = unless (allowed categories (fieldOf s 17 4)) Category then innerOf s
+
 abbrev pub readAnswer : List ℕ → Verdict
-readAnswer s = unless (eqb (length s) 32) Length then outerOf s then innerOf s
+readAnswer s = unless (eqb (length s) 32) Length then outerOf s then contentAnswer s
 
 -- what stands from bit 43 up to bit 213, spares among it
 abbrev pub contentAs : List ℕ → Body → Content

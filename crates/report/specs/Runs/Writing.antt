@@ -25,6 +25,8 @@ use Rattle.slots.specs.declared.slot.Slot.{Slot}
 use Rattle.report.specs.Categories.{layout, preambles}
 use Rattle.nankai.specs.Nankai.{nankai}
 use Rattle.slots.specs.Runs.{slotsLaid}
+use Rattle.report.specs.declared.body.Told.{Told}
+use Rattle.report.specs.Runs.Told.{recordTold}
 
 -- ---- what is refused
 
@@ -46,6 +48,10 @@ writeAnswer r size =
     then unless (known (r .body)) Category
     then unless (tidy r) Unused
     then verdict (layout (r .body)) (values r 0 0)
+
+-- with the fields that are written
+unfoldable pub writingTold : Record → ℕ → Told
+writingTold r size = record { found = writeAnswer r size; fields = recordTold r 0 0 .fields }
 
 -- ---- the frame
 

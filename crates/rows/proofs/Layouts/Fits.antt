@@ -3,33 +3,25 @@ use mathlib.Core.Path.{_≡_, refl, sym, subst}
 use mathlib.Core.Bool.{true}
 use mathlib.Core.Logic.{⊎-elim}
 use Prim.Native.Nat.{ℕ, _+_, _^_, _<_}
-use native.Mathlib.Nat.{suc-ne-zero, suc-inj, lt-of-le-of-lt}
+use native.Mathlib.Nat.{suc-ne-zero, suc-inj}
 use mathlib.Core.List.{List, [], _∷_, _++_, map-append}
 use lib.ListN.{length}
-use lib.Dec.{ltb}
 use lib.Pow.{pow-pos}
-use borrow.Author.Tests.{ltb-true}
 use Rattle.bits.specs.Layout.{Fit}
-use Rattle.rows.specs.Layout.{Span, _to_, Rule, among, rising, spare, Row, Layout, common, ending, slotRows, slotsRows, allRows, allBelow, fitting, allFit, Slots}
+use Rattle.rows.specs.Layout.{Rule, asks, spare, Row, Layout, common, ending, slotRows, slotsRows, allRows, fitting, allFit, Slots}
 use Rattle.rows.specs.Values.{Values, joined, flat, widths}
-use Rattle.rows.specs.Kept.{In, Keeps, Kept, Empty, AllEmpty, LaterKept, SlotsKept, Holds}
+use Rattle.rows.specs.Kept.{Keeps, Kept, Empty, AllEmpty, LaterKept, SlotsKept, Holds}
 use Rattle.rows.proofs.Rules.Outcomes.{and-both, both-and}
+use Rattle.rows.proofs.Rules.Kinds.{asked-below}
 use Rattle.rows.proofs.Layouts.Lengths.{SlotsFilled, Filled}
 
 -- ---- one field
-
-pub in-below : (n : ℕ) (ss : List Span) (v : ℕ) → allBelow n ss ≡ true → In ss v → v < n
-in-below n [] v b h = absurd h
-in-below n ((lo to hi) ∷ ss) v b h =
-    let q = and-both (ltb hi n) (allBelow n ss) b in
-    ⊎-elim (λ k. lt-of-le-of-lt (k .1) (ltb-true hi n (q .0))) (λ k. in-below n ss v (q .1) k) h
 
 zero-below : (w v : ℕ) → v ≡ 0 → v < 2 ^ w
 zero-below w v e = subst (λ (x : ℕ). x < 2 ^ w) (sym e) (pow-pos w)
 
 keeps-below : (r : Rule) (w : ℕ) (past : List ℕ) (v : ℕ) (next : List ℕ) → fitting r w ≡ true → Keeps r past v next → v < 2 ^ w
-keeps-below (among ss) w past v next b h = in-below (2 ^ w) ss v b h
-keeps-below (rising hi) w past v next b h = lt-of-le-of-lt (h .1) (ltb-true hi (2 ^ w) b)
+keeps-below (asks a) w past v next b h = asked-below a (2 ^ w) past v next b h
 keeps-below spare w past v next b h = zero-below w v h
 
 -- ---- fields one behind the other

@@ -7,12 +7,12 @@ use mathlib.Core.List.{List, [], _∷_}
 use lib.Dec.{leb, eqb}
 use borrow.Author.Tests.{eqb-true, leb-true, eq-eqb}
 use Rattle.rows.specs.declared.refusal.Refusal.the-variants.{Range, Spare}
-use Rattle.rows.specs.Layout.{shifted, Rule, among, rising, spare, Row}
-use Rattle.rows.specs.Runs.Verdict.{allowed, judge, walk}
-use Rattle.rows.specs.Kept.{latest, In, Keeps, Kept}
+use Rattle.rows.specs.Layout.{shifted, Rule, asks, spare, Row}
+use Rattle.rows.specs.Runs.Verdict.{judge, meets, walk}
+use Rattle.rows.specs.Kept.{Asked, Keeps, Kept}
 use Rattle.rows.specs.Faults.{blame, RowFault}
 use Rattle.rows.proofs.Rules.Outcomes.{and-both}
-use Rattle.rows.proofs.Rules.Spans.{in-span, span-in, allowed-in, in-allowed}
+use Rattle.rows.proofs.Rules.Kinds.{meets-asked, asked-meets}
 use Rattle.rows.proofs.Rules.Judged.{Judges, unasked, asked, join}
 
 -- ---- one field
@@ -20,10 +20,8 @@ use Rattle.rows.proofs.Rules.Judged.{Judges, unasked, asked, join}
 pub field : (a e : ℕ) (r : Rule) (at : ℕ) (past : List ℕ) (v : ℕ) (next : List ℕ) → a ≤ at → at < e
     → Judges a e (judge r at past v next) (Keeps r past v next) (λ y. (Keeps r past v next → ⊥) × (y ≡ blame r at))
 unfolding judge
-field a e (among ss) at past v next h k =
-    asked a e (allowed ss v) (Range at) (In ss v) (allowed-in ss v) (in-allowed ss v) (omega arith) (omega arith)
-field a e (rising hi) at past v next h k =
-    asked a e (leb (latest past) v && leb v hi) (Range at) ((latest past ≤ v) × (v ≤ hi)) (in-span (latest past) hi v) (span-in (latest past) hi v) (omega arith) (omega arith)
+field a e (asks q) at past v next h k =
+    asked a e (meets q past v next) (Range at) (Asked q past v next) (meets-asked q past v next) (asked-meets q past v next) (omega arith) (omega arith)
 field a e spare at past v next h k = asked a e (eqb v 0) (Spare at) (v ≡ 0) (eqb-true v 0) (eq-eqb v 0) (omega arith) (omega arith)
 
 -- ---- fields one behind the other

@@ -12,7 +12,7 @@ use Rattle.rows.specs.declared.refusal.Refusal.the-variants.{Length, Pad
 use Rattle.rows.specs.declared.refusal.Said.{Said}
 use Rattle.rows.specs.Refusals.{says, answers}
 use Rattle.rows.specs.Runs.Questions.{_then_, unless}
-use Rattle.rows.specs.Layout.{Rule, among, rising, spare, Row, Layout, common, ending, slotRows, Slots}
+use Rattle.rows.specs.Layout.{Rule, asks, spare, Row, Layout, common, ending, slotRows, Slots}
 use Rattle.rows.specs.Values.{Values}
 use Rattle.rows.specs.Runs.Verdict.{judge, walk, empty, later, slotsVerdict, verdict}
 
@@ -80,8 +80,7 @@ cond-ten false v w h k = k
 
 judge-ten : (r : Rule) (at : ℕ) (past : List ℕ) (v : ℕ) (next : List ℕ) → UpToTen (judge r at past v next)
 unfolding judge
-judge-ten (among ss) at past v next = unless-ten _ (Range at) (lit≤ tt)
-judge-ten (rising hi) at past v next = unless-ten _ (Range at) (lit≤ tt)
+judge-ten (asks a) at past v next = unless-ten _ (Range at) (lit≤ tt)
 judge-ten spare at past v next = unless-ten _ (Spare at) (lit≤ tt)
 
 pub walk-ten : (past : List ℕ) (rs : List Row) (vs : List ℕ) → UpToTen (walk past rs vs)

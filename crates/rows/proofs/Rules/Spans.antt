@@ -1,14 +1,15 @@
 -- A value is let through exactly where it lies in one of the spans.
 use mathlib.Core.Path.{_≡_, refl}
 use mathlib.Core.Bool.{Bool, true, false, _&&_, _||_}
-use mathlib.Core.Logic.{inl, inr, ⊎-elim}
-use Prim.Native.Nat.{ℕ, _≤_}
+use mathlib.Core.Logic.{_⊎_, inl, inr, ⊎-elim}
+use Prim.Native.Nat.{ℕ, _≤_, _<_}
+use native.Mathlib.Nat.{lt-of-le-of-lt}
 use native.Mathlib.Omega.{arith}
 use mathlib.Core.List.{List, [], _∷_}
-use lib.Dec.{leb}
-use borrow.Author.Tests.{leb-true, le-leb}
+use lib.Dec.{leb, ltb}
+use borrow.Author.Tests.{leb-true, le-leb, ltb-true}
 use types.Run.{OneOf}
-use Rattle.rows.specs.Layout.{Span, _to_}
+use Rattle.rows.specs.Layout.{Span, _to_, allBelow}
 use Rattle.rows.specs.Runs.Verdict.{allowed}
 use Rattle.rows.specs.Kept.{In}
 use Rattle.rows.proofs.Rules.Outcomes.{false-not-true, and-both, both-and, or-either, left-or, right-or}
@@ -47,6 +48,12 @@ not-allowed ss v n = by (allowed ss v) refl
     by : (b : Bool) → allowed ss v ≡ b → allowed ss v ≡ false
     by true e = absurd (n (allowed-in ss v e))
     by false e = e
+
+pub in-below : (n : ℕ) (ss : List Span) (v : ℕ) → allBelow n ss ≡ true → In ss v → v < n
+in-below n [] v b h = absurd h
+in-below n ((lo to hi) ∷ ss) v b h =
+    let q = and-both (ltb hi n) (allBelow n ss) b in
+    ⊎-elim (λ k. lt-of-le-of-lt (k .1) (ltb-true hi n (q .0))) (λ k. in-below n ss v (q .1) k) h
 
 -- ---- single codes, as a `match` has them
 

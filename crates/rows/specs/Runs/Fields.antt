@@ -1,13 +1,15 @@
 -- A category's table and the values of its rows as code hands them on, and what stands in the spares of a frame.
 use mathlib.Core.Bool.{Bool, cond, false, true}
 use Rattle.rows.specs.declared.fields.Fields.{Fields}
-use Rattle.rows.specs.Layout.{Layout, Row, Rule, among, ending, rising, spare}
+use Rattle.rows.specs.Layout.{Layout, Row, Rule, asks, ending, spare}
 use mathlib.Core.List.{List, [], _++_, _∷_}
 use Rattle.rows.specs.Values.{Sides, filled, partWidths, widths}
 use Rattle.rows.specs.declared.fields.Spares.{Spares}
 use Rattle.rows.specs.declared.fields.Table.{Table}
 use Rattle.bits.specs.Frame.{fieldIn}
-use Prim.Native.Nat.{ℕ}
+use Prim.Native.Nat.{ℕ, suc, _*_, _%_, _^_}
+use lib.Dec.{eqb, leb}
+use lib.ListN.{getD}
 
 -- whether there is a row at all
 abbrev pub hasRows : List Row → Bool
@@ -21,8 +23,7 @@ firstBit (r ∷ rs) = r .first
 
 -- what stands in the first spare among rows, 0 where there is none
 abbrev pub isSpare : Rule → Bool
-isSpare (among ss) = false
-isSpare (rising hi) = false
+isSpare (asks a) = false
 isSpare spare = true
 
 abbrev pub spareIn : List ℕ → List Row → ℕ
@@ -53,3 +54,18 @@ fieldsIn l v = record {
   after = filled 3 (widths (l .behind));
   behind = filled 3 (v .behind);
 }
+
+-- ---- numbers of any size as fields of a record
+
+-- the bytes that a field of so many bits has in a record
+abbrev pub bytesFor : ℕ → ℕ
+bytesFor w = cond (eqb w 0) 0 (cond (leb w 8) 1 (cond (leb w 16) 2 (cond (leb w 32) 4 8)))
+
+-- what the fields keep of the numbers from the one at k on
+abbrev pub keptFrom : List Row → List ℕ → ℕ → List ℕ
+keptFrom [] vs k = []
+keptFrom (r ∷ rs) vs k = getD vs k 0 % 2 ^ (8 * bytesFor (r .width)) ∷ keptFrom rs vs (suc k)
+
+-- for the rows in front and behind
+abbrev pub keptIn : List ℕ → List ℕ → Layout → Sides
+keptIn front behind l = record { front = keptFrom (l .front) front 0; behind = keptFrom (l .behind) behind 0 }

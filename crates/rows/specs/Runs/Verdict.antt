@@ -8,7 +8,7 @@ use Rattle.rows.specs.declared.refusal.Verdict.{Verdict}
 use Rattle.rows.specs.declared.refusal.Verdict.the-variants.{Fine}
 use Rattle.rows.specs.declared.refusal.Refusal.the-variants.{Range, Spare, Gap}
 use Rattle.rows.specs.Runs.Questions.{_then_, unless}
-use Rattle.rows.specs.Layout.{Span, _to_, Rule, among, rising, spare, Row, Slots, Layout, common, ending, slotRows}
+use Rattle.rows.specs.Layout.{Span, _to_, Ask, inSpans, fromLast, Rule, asks, spare, Row, Slots, Layout, common, ending, slotRows}
 use Rattle.rows.specs.Kept.{latest}
 use Rattle.rows.specs.Values.{Values, Sides}
 use Rattle.rows.specs.declared.common.Common.{Common}
@@ -23,10 +23,14 @@ allowed ((lo to hi) ∷ ss) v = leb lo v && leb v hi || allowed ss v
 abbrev pub ranged : Bool → ℕ → Verdict
 ranged met at = unless met (Range at)
 
+-- the value v is what is asked for, behind the values `past`, the latest first, and before the values `next`
+abbrev pub meets : Ask → List ℕ → ℕ → List ℕ → Bool
+meets (inSpans ss) past v next = allowed ss v
+meets (fromLast hi) past v next = leb (latest past) v && leb v hi
+
 -- the value v at the bit `at`, behind the values `past`, the latest first, and before the values `next`
 unfoldable pub judge : Rule → ℕ → List ℕ → ℕ → List ℕ → Verdict
-judge (among ss) at past v next = ranged (allowed ss v) at
-judge (rising hi) at past v next = ranged (leb (latest past) v && leb v hi) at
+judge (asks a) at past v next = ranged (meets a past v next) at
 judge spare at past v next = unless (eqb v 0) (Spare at)
 
 -- fields one behind the other; each row has its value (`values-never-run-short`)

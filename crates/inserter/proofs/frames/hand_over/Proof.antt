@@ -8,7 +8,7 @@ use Rattle.inserter.proofs.frames.hand_over.Tie as tie
 
 returns : tie.Need-returns
 unfolding readingInto
-returns c = simp (ne-eqb _ 241 (c .if1 .taken))
+returns c = simp (ne-eqb _ 251 (c .if1 .taken))
 
 enum-told : tie.Need-enum-told
 enum-told c = search needs

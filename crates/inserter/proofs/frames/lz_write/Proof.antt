@@ -8,7 +8,7 @@ use Rattle.inserter.proofs.frames.lz_write.Tie as tie
 
 returns : tie.Need-returns
 unfolding writeInto
-returns c = simp (ne-eqb _ 241 (c .if1 .taken))
+returns c = simp (ne-eqb _ 251 (c .if1 .taken))
 
 returns-2 : tie.Need-returns-2
 returns-2 c =

@@ -12,7 +12,7 @@ returns c = simp (ne-eqb _ 1205 (c .if1 .taken))
 
 returns-2 : tie.Need-returns-2
 unfolding takeInto
-returns-2 c = simp (eq-eqb _ 1205 (c .before .if1 .left), ne-eqb _ 241 (c .if2 .taken))
+returns-2 c = simp (eq-eqb _ 1205 (c .before .if1 .left), ne-eqb _ 251 (c .if2 .taken))
 
 returns-3 : tie.Need-returns-3
 returns-3 c =

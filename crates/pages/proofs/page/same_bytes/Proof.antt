@@ -3,7 +3,7 @@ use mathlib.Core.Path.{_≡_, sym, ap, _∙_}
 use mathlib.Core.List.{List}
 use borrow.Author.Count.{below-more}
 use lib.Seq.{ext-getD}
-use Rattle.pages.proofs.Texts.{eq-same, ne-same}
+use Rattle.rows.proofs.Rules.Tests.{eq-same, ne-same}
 use Prim.Native.Nat.{ℕ, _≤_, _<_, _-_}
 use native.Mathlib.Omega.{arith}
 use borrow.Author.Needs.{needs}

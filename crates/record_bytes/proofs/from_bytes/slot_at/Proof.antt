@@ -4,7 +4,7 @@ use Rattle.record_bytes.proofs.from_bytes.slot_at.Statement.{statement}
 use Rattle.record_bytes.proofs.from_bytes.slot_at.Tie as tie
 
 returns : tie.Need-returns
-returns c = simp (c .eight-at .ensures)
+returns c = simp (c .number-at .ensures)
 
 pub slot-at-spec : {M : Type 1} → statement M
 slot-at-spec =

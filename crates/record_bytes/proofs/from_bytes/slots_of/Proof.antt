@@ -14,7 +14,7 @@ use borrow.Author.Needs.{needs}
 use Rattle.record_bytes.proofs.from_bytes.slots_of.Tie as tie
 
 abbrev nth : List ℕ → ℕ → Slot
-nth l i = slotAt l (31 + 12 * i)
+nth l i = slotAt l (41 + 12 * i)
 
 abbrev Inv-loop : tie.InvT-loop
 Inv-loop bytes slots₀ k₀ slots k = (k ≤ 16) × ((length slots ≡ 16) × (slots ≡ each k (nth bytes) ++ replicate (16 - k) noSlot))

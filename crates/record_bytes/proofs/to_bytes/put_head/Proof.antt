@@ -1,14 +1,10 @@
 -- `record_bytes::to_bytes::put_head` meets its contract.
 use borrow.Author.Needs.{needs}
 use Rattle.record_bytes.proofs.to_bytes.put_head.Statement.{statement}
-use Rattle.rows.specs.declared.fields.Fields.{Fields}
-use mathlib.Core.Path.{ap}
 use Rattle.record_bytes.proofs.to_bytes.put_head.Tie as tie
 
 returns : tie.Need-returns
-returns c =
-    let put = c .before .before in
-    rw (← ap (λ (f : Fields). f .table .code) (put .before .before .before .before .fields .ensures)) (put .put-bytes .ensures)
+returns c = rw (c .before .before .before .before .code .ensures) at (c .before .before .put-bytes .ensures)
 
 pub put-head-spec : {M : Type 1} → statement M
 put-head-spec =

@@ -20,7 +20,7 @@ shaped c =
     record { slots = unmapped _ (r .slots) 16 (good .1 .1 .1 .1 .1 .1 .0 .1 .0 .1); text = length-unmapped _ (r .text) 18 (good .1 .1 .1 .1 .1 .1 .1 .0 .1 .0 .1) }
 
 lay-front-requires : tie.Need-lay-front-requires
-lay-front-requires c κs = valid-known (c .before .args .r) (c .before .pre)
+lay-front-requires c κs = (valid-known (c .before .args .r) (c .before .pre .0), c .before .pre .1)
 
 returns : tie.Need-returns
 returns c =
@@ -28,7 +28,7 @@ returns c =
     let s = f .before .before in
     let r = s .args .r in
     let front = f .lay-front .ensures ∙ ap (λ (z : List ℕ). laid z 0 (frontWidths (layout (r .body))) (frontValues r)) (f .before .blank .ensures) in
-    c .put .ensures ∙ encoded r (shaped s) (s .pre) (f .lay-front .result) (c .before .parity .result) front (c .before .parity .ensures)
+    c .put .ensures ∙ encoded r (shaped s) (s .pre .0) (f .lay-front .result) (c .before .parity .result) front (c .before .parity .ensures)
 
 pub encode-spec : {M : Type 1} → statement M
 encode-spec =

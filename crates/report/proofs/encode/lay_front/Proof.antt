@@ -27,12 +27,10 @@ returns c =
     let i = w .before in
     let h = i .before in
     let p = h .before in
-    let t = p .before in
-    let f = t .before .before in
-    let s = f .before .before .before .before in
+    let s = p .before .before .before .before .before .before in
     let r = s .args .r in
-    let v = f .fields .ensures in
-    all-laid r (shaped s) (s .pre) (s .args .f) (p .put .result) (h .lay-common .result) (i .lay-body .result) (c .put3 .result)
+    let v = s .pre .1 in
+    all-laid r (shaped s) (s .pre .0) (s .args .f) (p .put .result) (h .lay-common .result) (i .lay-body .result) (c .put3 .result)
     (p .put .ensures)
     (h .lay-common .ensures ∙ ap (λ (x : Fields). laid (p .put .result) 8 (widths (common noCategory)) (headValues (r .common) (x .table .code))) v)
     (i .lay-body .ensures ∙ ap (λ (x : Fields). bodyLaid (h .lay-common .result) x (r .slots) (r .text)) v)
@@ -40,4 +38,4 @@ returns c =
 
 pub lay-front-spec : {M : Type 1} → statement M
 lay-front-spec =
-    tie.close (tie.spec (λ c κs. search needs) (λ c. search needs) (λ c κs. search needs) (λ c κs. search needs) (λ c κs. search needs) (λ c κs. search needs) (λ c. search needs) (λ c κs. search needs) returns)
+    tie.close (tie.spec (λ c. search needs) (λ c κs. search needs) (λ c κs. search needs) (λ c κs. search needs) (λ c κs. search needs) (λ c. search needs) (λ c κs. search needs) returns)

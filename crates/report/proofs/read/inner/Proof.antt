@@ -3,15 +3,28 @@ use borrow.Author.Needs.{needs}
 use Rattle.report.proofs.read.inner.Statement.{statement}
 use Rattle.report.specs.declared.body.Content.{Content}
 use Rattle.report.specs.declared.record.Record.{Record}
-use mathlib.Core.Path.{_≡_, ap}
-use Rattle.report.proofs.Reading.Agree.{judged, outer}
+use Rattle.report.specs.declared.body.Told.{Told}
+use Rattle.report.specs.Runs.Told.{recordTold}
+use mathlib.Core.Path.{_≡_, _∙_, ap}
+use mathlib.Core.Bool.{not}
+use Prim.Native.Nat.{ℕ}
+use lib.Dec.{eqb}
+use Rattle.bits.specs.Frame.{fieldOf}
+use Rattle.rows.specs.Runs.Questions.{_then_}
+use Rattle.rows.proofs.Rules.Outcomes.{fine-then}
+use Rattle.report.specs.Categories.{layout}
+use Rattle.report.proofs.Categories.{known-code}
+use Rattle.report.proofs.Reading.Agree.{judged}
 use Rattle.report.specs.Records.{recordOf, recordAs}
 use Rattle.report.proofs.read.inner.Tie as tie
 
 returns : tie.Need-returns
-unfolding recordAs
+unfolding recordAs recordTold
 returns c =
-    let k = c .before in
+    let t = c .before in
+    let u = t .before in
+    let n = u .before in
+    let k = n .before in
     let o = k .before in
     let b = o .before in
     let a = b .before in
@@ -22,9 +35,11 @@ returns c =
     let same : _≡_ {A = Record} (record { preamble = a .field8 .result; reserved = b .field82 .result; common = o .of2 .result; body = d .of .result .body; slots = d .of .result .slots; text = d .of .result .text }) (recordOf f) =
     λ i. record { preamble = a .field8 .ensures .0 i; reserved = b .field82 .ensures .0 i; common = o .of2 .ensures i; body = e i .body; slots = e i .slots; text = e i .text }
     in
-    judged f _ (d .of .result .spares .front) (d .of .result .spares .behind) (k .check .result) (c .conclude .result)
-    (outer f (s .pre)) same (ap (λ (x : Content). x .spares .front) e) (ap (λ (x : Content). x .spares .behind) e) (k .check .ensures) (c .conclude .ensures)
+    judged f _ (d .of .result .spares .front) (d .of .result .spares .behind) (not (eqb (n .code .result) 0)) (t .then .result) (c .conclude .result)
+    (s .pre) same (ap (λ (x : Content). x .spares .front) e) (ap (λ (x : Content). x .spares .behind) e)
+    (ap (λ (m : ℕ). not (eqb m 0)) (n .code .ensures) ∙ ap (λ (x : Content). not (eqb (layout (x .body) .code) 0)) e ∙ known-code _ (fieldOf f 17 4))
+    (t .then .ensures ∙ (λ i. (u .unless .ensures ∙ fine-then _) i then k .told .ensures i .found)) (c .conclude .ensures)
 
 pub inner-spec : {M : Type 1} → statement M
 inner-spec =
-    tie.close (tie.spec (λ c κs. search needs) (λ c κs. search needs) (λ c κs. search needs) (λ c κs. search needs) (λ c κs. search needs) (λ c κs. search needs) returns)
+    tie.close (tie.spec (λ c κs. search needs) (λ c κs. search needs) (λ c κs. search needs) (λ c κs. search needs) (λ c κs. search needs) (λ c κs. search needs) (λ c κs. search needs) (λ c κs. search needs) (λ c κs. search needs) returns)

@@ -8,26 +8,23 @@ use Rattle.rows.proofs.Rules.Outcomes.{fine-then}
 use Rattle.rows.proofs.Rules.Walks.{asked, link}
 use borrow.Author.Needs.{needs}
 use Rattle.report.proofs.read.outer.Statement.{statement}
-use Rattle.report.specs.Categories.{categories, preambles}
+use Rattle.report.specs.Categories.{preambles}
 use Rattle.report.proofs.read.outer.Tie as tie
 
 returns : tie.Need-returns
 unfolding outerOf
 returns c =
-    link _ _ _ _ _ (asked _ _ _ _ _ (c .before .before .before .before .before .before .before .before .before .before .before .before .unless .ensures)
-    (ap (λ (x : ℕ). eqb x 0) (c .before .before .before .before .before .before .before .before .before .before .before .before .before .field8 .ensures .0)))
-    (link _ _ _ _ _ (asked _ _ _ _ _ (c .before .before .before .before .before .before .before .before .before .unless2 .ensures)
-    (c .before .before .before .before .before .before .before .before .before .before .is-preamble .ensures ∙ ap (allowed preambles) (c .before .before .before .before .before .before .before .before .before .before .before .field82 .ensures .0)))
-    (link _ _ _ _ _ (asked _ _ _ _ _ (c .before .before .before .before .before .before .before .unless3 .ensures)
-    (c .before .before .before .before .before .before .before .before .parity-right .ensures))
-    (link _ _ _ _ _ (asked _ _ _ _ _ (c .before .before .before .before .before .unless4 .ensures)
-    (ap (λ (x : ℕ). eqb x 43) (c .before .before .before .before .before .before .field83 .ensures .0)))
-    (link _ _ _ _ _ (asked _ _ _ _ _ (c .before .before .before .unless5 .ensures)
-    (ap (λ (x : ℕ). eqb x 1) (c .before .before .before .before .field84 .ensures .0)))
-    (asked _ _ _ _ _ (c .unless6 .ensures)
-    (c .before .is-category .ensures ∙ ap (allowed categories) (c .before .before .field85 .ensures .0)))))))
+    let four = c .before .before in
+    let three = four .before .before in
+    let two = three .before .before in
+    let one = two .before .before .before in
+    link _ _ _ _ _ (asked _ _ _ _ _ (one .unless .ensures) (ap (λ (x : ℕ). eqb x 0) (one .before .field8 .ensures .0)))
+    (link _ _ _ _ _ (asked _ _ _ _ _ (two .unless2 .ensures) (two .before .is-preamble .ensures ∙ ap (allowed preambles) (two .before .before .field82 .ensures .0)))
+    (link _ _ _ _ _ (asked _ _ _ _ _ (three .unless3 .ensures) (three .before .parity-right .ensures))
+    (link _ _ _ _ _ (asked _ _ _ _ _ (four .unless4 .ensures) (ap (λ (x : ℕ). eqb x 43) (four .before .field83 .ensures .0)))
+    (asked _ _ _ _ _ (c .unless5 .ensures) (ap (λ (x : ℕ). eqb x 1) (c .before .field84 .ensures .0))))))
     ∙ fine-then _
 
 pub outer-spec : {M : Type 1} → statement M
 outer-spec =
-    tie.close (tie.spec (λ c κs. search needs) (λ c κs. search needs) (λ c κs. search needs) (λ c κs. search needs) (λ c κs. search needs) (λ c κs. search needs) (λ c κs. search needs) (λ c κs. search needs) (λ c κs. search needs) (λ c κs. search needs) (λ c κs. search needs) (λ c κs. search needs) (λ c κs. search needs) (λ c κs. search needs) returns)
+    tie.close (tie.spec (λ c κs. search needs) (λ c κs. search needs) (λ c κs. search needs) (λ c κs. search needs) (λ c κs. search needs) (λ c κs. search needs) (λ c κs. search needs) (λ c κs. search needs) (λ c κs. search needs) (λ c κs. search needs) (λ c κs. search needs) returns)

@@ -9,7 +9,7 @@ use Rattle.report.specs.Categories.{layout}
 use borrow.Author.Tests.{not-false, not-true}
 use Rattle.report.proofs.Categories.{text-apart}
 use Rattle.report.proofs.Texts.{text-held, text-none}
-use Rattle.rows.specs.declared.fields.Fields.{Fields}
+use Rattle.rows.specs.declared.fields.Table.{Table}
 use Rattle.report.specs.declared.record.Record.{Record}
 use Rattle.rows.specs.Values.{partWidths}
 use Rattle.rows.specs.Runs.Fields.{hasRows}
@@ -17,20 +17,20 @@ use Rattle.slots.specs.Slots.{tidySlots}
 use Rattle.report.proofs.record.Record.is_tidy.Tie as tie
 
 abbrev record-of : tie.After-are-tidy → Record
-record-of c = c .before .before .before .before .before .before .args .self
+record-of c = c .before .before .before .before .args .self
 
 -- what the slots were found to be
 found : (c : tie.After-are-tidy) → let r = record-of c in let k = layout (r .body) .slots in (c .are-tidy .result ≡ tidySlots (partWidths k) (k .count) (r .slots))
 found c =
     let r = record-of c in
-    c .are-tidy .ensures ∙ ap (λ (v : Fields). tidySlots (v .table .widths) (v .table .count) (r .slots)) (c .before .before .before .fields .ensures)
+    c .are-tidy .ensures ∙ ap (λ (t : Table). tidySlots (t .widths) (t .count) (r .slots)) (c .before .before .before .before .pre)
 
 -- whether the category has text
-has-text : (c : tie.After-are-tidy) → hasRows (layout (record-of c .body) .text) ≡ c .before .before .before .fields .result .table .text
-has-text c = sym (ap (λ (v : Fields). v .table .text) (c .before .before .before .fields .ensures))
+has-text : (c : tie.After-are-tidy) → hasRows (layout (record-of c .body) .text) ≡ c .before .before .before .before .args .table .text
+has-text c = sym (ap (λ (t : Table). t .text) (c .before .before .before .before .pre))
 
 eighteen : (c : tie.After-are-tidy) → length (record-of c .text) ≡ 18
-eighteen c = length-unmapped _ (record-of c .text) 18 (c .before .before .before .before .before .before .good .0 .1 .1 .1 .1 .1 .1 .1 .0 .1 .0 .1)
+eighteen c = length-unmapped _ (record-of c .text) 18 (c .before .before .before .before .good .0 .1 .1 .1 .1 .1 .1 .1 .0 .1 .0 .1)
 
 returns : tie.Need-returns
 returns c =
@@ -54,4 +54,4 @@ returns-3 c =
 
 pub is-tidy-spec : {M : Type 1} → statement M
 is-tidy-spec =
-    tie.close (tie.spec (λ c κs. search needs) (λ c κs. search needs) returns returns-2 (λ c κs. search needs) returns-3)
+    tie.close (tie.spec (λ c κs. search needs) returns returns-2 (λ c κs. search needs) returns-3)

@@ -1,0 +1,225 @@
+-- Fields one behind the other, each in the bytes that its width asks for: put, and read back.
+use mathlib.Core.Path.{_≡_, refl, sym, ap, _∙_}
+use Prim.Native.Nat.{ℕ, zero, suc, _+_, _*_, _/_, _%_, _^_, _≤_, _<_}
+use native.Mathlib.Nat.{mod-eq-of-lt}
+use native.Mathlib.Numerals.{add-one}
+use native.Mathlib.Omega.{arith}
+use mathlib.Core.List.{List, [], _∷_, _++_, append-assoc, append-nil, map}
+use lib.ListN.{length, getD, take, drop, replicate, length-append, length-drop}
+use lib.Seq.{drop-at, drop-drop, getD-drop, getD-take, length-take-le, take-at}
+use Rattle.bits.specs.Frame.{Bytes, eights, number}
+use Rattle.bits.specs.Layout.{Fit, decode, encode, total}
+use Rattle.bits.proofs.Bytes.{number-lt, number-more}
+use Rattle.bits.proofs.Windows.{narrower}
+use Rattle.bits.proofs.Claims.{decoded-then-encoded}
+use Rattle.lent.specs.Numbers.{wide}
+use Rattle.lent.specs.Writing.{Wrote}
+use Rattle.lent.proofs.Chains.{_then_}
+use Rattle.rows.specs.Values.{each}
+use Rattle.rows.specs.Runs.Fields.{bytesFor}
+use Rattle.record_bytes.specs.Packed.{cells}
+use Rattle.record_bytes.specs.Unpacked.{cellsAt, numberAt, size}
+use Rattle.record_bytes.proofs.FromBytes.Places.{each-same}
+
+-- ---- a number in its bytes
+
+length-wide : (n v : ℕ) → length (wide n v) ≡ n
+length-wide zero v = refl
+length-wide (suc n) v = ap suc (length-wide n v)
+
+total-bytes : (n : ℕ) → total (replicate n 8) ≡ 8 * n
+total-bytes zero = refl
+total-bytes (suc n) = omega (arith, total-bytes n)
+
+wide-decoded : (n v : ℕ) → wide n v ≡ decode (replicate n 8) v
+wide-decoded zero v = refl
+wide-decoded (suc n) v = λ i. v / 2 ^ (sym (total-bytes n) i) % 256 ∷ wide-decoded n v i
+
+eights-wide : (n v : ℕ) → eights (wide n v) ≡ replicate n 8
+eights-wide zero v = refl
+eights-wide (suc n) v = ap (λ (l : List ℕ). 8 ∷ l) (eights-wide n v)
+
+pub number-wide : (n v : ℕ) → number (wide n v) ≡ v % 2 ^ (8 * n)
+number-wide n v =
+    (λ i. encode (eights-wide n v i) (wide-decoded n v i))
+    ∙ decoded-then-encoded (replicate n 8) v
+    ∙ ap (λ (m : ℕ). v % 2 ^ m) (total-bytes n)
+
+-- ---- put
+
+pub length-cells : (ws vs : List ℕ) → length ws ≡ length vs → length (cells ws vs) ≡ size ws
+unfolding cells
+length-cells [] [] e = refl
+length-cells [] (v ∷ vs) e = absurd (omega arith)
+length-cells (w ∷ ws) [] e = absurd (omega arith)
+length-cells (w ∷ ws) (v ∷ vs) e =
+    length-append (wide (bytesFor w) v) (cells ws vs) ∙ (λ i. length-wide (bytesFor w) v i + length-cells ws vs (omega arith) i)
+
+cells-suc : (ws vs : List ℕ) (k : ℕ) → k < length ws → k < length vs
+    → cells (take (suc k) ws) (take (suc k) vs) ≡ cells (take k ws) (take k vs) ++ wide (bytesFor (getD ws k 0)) (getD vs k 0)
+unfolding cells
+cells-suc [] vs k h g = absurd (omega arith)
+cells-suc (w ∷ ws) [] k h g = absurd (omega arith)
+cells-suc (w ∷ ws) (v ∷ vs) zero h g = append-nil (wide (bytesFor w) v)
+cells-suc (w ∷ ws) (v ∷ vs) (suc k) h g =
+    ap (λ (t : List ℕ). wide (bytesFor w) v ++ t) (cells-suc ws vs k (omega arith) (omega arith))
+    ∙ sym (append-assoc (wide (bytesFor w) v) (cells (take k ws) (take k vs)) (wide (bytesFor (getD ws k 0)) (getD vs k 0)))
+
+pub cell-more : {l m r : List ℕ} {i j n : ℕ} (ws vs : List ℕ) (k : ℕ) → k < length ws → k < length vs → Wrote l m i j (cells (take k ws) (take k vs))
+    → Wrote m r j n (wide (bytesFor (getD ws k 0)) (getD vs k 0)) → Wrote l r i n (cells (take (k + 1) ws) (take (k + 1) vs))
+cell-more ws vs k h g x y = rw (add-one k, cells-suc ws vs k h g) (x then y)
+
+-- nothing is left where one of the lists ends
+pub cells-end : (ws vs : List ℕ) (k : ℕ) → (k < length ws → k < length vs → ⊥) → cells (take k ws) (take k vs) ≡ cells ws vs
+unfolding cells
+cells-end [] vs zero h = refl
+cells-end [] vs (suc k) h = refl
+cells-end (w ∷ ws) [] zero h = refl
+cells-end (w ∷ ws) [] (suc k) h = refl
+cells-end (w ∷ ws) (v ∷ vs) zero h = absurd (h (omega arith) (omega arith))
+cells-end (w ∷ ws) (v ∷ vs) (suc k) h =
+    ap (λ (t : List ℕ). wide (bytesFor w) v ++ t) (cells-end ws vs k (λ a b. h (omega arith) (omega arith)))
+
+-- what has no bits has no bytes
+no-cells : (n : ℕ) (us : List ℕ) → cells (replicate n 0) us ≡ []
+unfolding cells
+no-cells zero us = refl
+no-cells (suc n) [] = refl
+no-cells (suc n) (u ∷ us) = no-cells n us
+
+pub cells-padded : (ws vs us : List ℕ) (n : ℕ) → length ws ≡ length vs → cells (ws ++ replicate n 0) (vs ++ us) ≡ cells ws vs
+unfolding cells
+cells-padded [] [] us n e = no-cells n us
+cells-padded [] (v ∷ vs) us n e = absurd (omega arith)
+cells-padded (w ∷ ws) [] us n e = absurd (omega arith)
+cells-padded (w ∷ ws) (v ∷ vs) us n e = ap (λ (t : List ℕ). wide (bytesFor w) v ++ t) (cells-padded ws vs us n (omega arith))
+
+-- ---- read
+
+-- a value for each width, and each fits its bytes
+abbrev pub FitBytes : List ℕ → List ℕ → Type 0
+FitBytes ws vs = Fit (map (λ w. 8 * bytesFor w) ws) vs
+
+pub cells-back : (l : List ℕ) (k : ℕ) (ws vs rest : List ℕ) → drop k l ≡ cells ws vs ++ rest → FitBytes ws vs → cellsAt l k ws ≡ vs
+unfolding cells cellsAt
+cells-back l k [] [] rest e h = refl
+cells-back l k [] (v ∷ vs) rest e h = absurd h
+cells-back l k (w ∷ ws) [] rest e h = absurd h
+cells-back l k (w ∷ ws) (v ∷ vs) rest e h =
+    let own : List ℕ = wide (bytesFor w) v in
+    let n : length own ≡ bytesFor w = length-wide (bytesFor w) v in
+    let d : drop k l ≡ own ++ (cells ws vs ++ rest) = e ∙ append-assoc own (cells ws vs) rest in
+    let first : numberAt l k (bytesFor w) ≡ v =
+    ap (λ (s : List ℕ). number (take (bytesFor w) s)) d
+    ∙ ap number (take-at own (cells ws vs ++ rest) (bytesFor w) n)
+    ∙ number-wide (bytesFor w) v
+    ∙ mod-eq-of-lt (h .0)
+    in
+    let more : drop (k + bytesFor w) l ≡ cells ws vs ++ rest =
+    sym (drop-drop (bytesFor w) k l) ∙ ap (drop (bytesFor w)) d ∙ drop-at own (cells ws vs ++ rest) (bytesFor w) n
+    in
+    λ i. first i ∷ cells-back l (k + bytesFor w) ws vs rest more (h .1) i
+
+-- one behind the other
+pub cells-append : (l : List ℕ) (k : ℕ) (ws us : List ℕ) → cellsAt l k (ws ++ us) ≡ cellsAt l k ws ++ cellsAt l (k + size ws) us
+unfolding cellsAt
+cells-append l k [] us = ap (λ (j : ℕ). cellsAt l j us) (omega arith)
+cells-append l k (w ∷ ws) us =
+    ap (λ (t : List ℕ). numberAt l k (bytesFor w) ∷ t)
+    (cells-append l (k + bytesFor w) ws us ∙ ap (λ (j : ℕ). cellsAt l (k + bytesFor w) ws ++ cellsAt l j us) (sum k (bytesFor w) (size ws)))
+  where
+    sum : (a b c : ℕ) → a + b + c ≡ a + (b + c)
+    sum a b c = omega arith
+
+-- by their index, as a loop reads them
+abbrev pub cell : List ℕ → ℕ → List ℕ → ℕ → ℕ
+cell l k ws i = numberAt l (k + size (take i ws)) (bytesFor (getD ws i 0))
+
+pub cells-each : (l : List ℕ) (k : ℕ) (ws : List ℕ) → cellsAt l k ws ≡ each (length ws) (cell l k ws)
+unfolding cellsAt
+cells-each l k [] = refl
+cells-each l k (w ∷ ws) =
+    let n : ℕ = bytesFor w in
+    let others : cellsAt l (k + n) ws ≡ each (length ws) (λ i. numberAt l (k + (n + size (take i ws))) (bytesFor (getD ws i 0))) =
+    cells-each l (k + n) ws
+    ∙ each-same (length ws) (λ i. numberAt l (k + n + size (take i ws)) (bytesFor (getD ws i 0))) (λ i. numberAt l (k + (n + size (take i ws))) (bytesFor (getD ws i 0)))
+    (λ i. ap (λ (j : ℕ). numberAt l j (bytesFor (getD ws i 0))) (sum k n (size (take i ws))))
+    in
+    λ i. numberAt l (zeros k i) n ∷ others i
+  where
+    sum : (a b c : ℕ) → a + b + c ≡ a + (b + c)
+    sum a b c = omega arith
+
+    zeros : (a : ℕ) → a ≡ a + 0
+    zeros a = omega arith
+
+pub size-at : (ws : List ℕ) (k : ℕ) → k < length ws → size ws ≡ size (take k ws) + (bytesFor (getD ws k 0) + size (drop (suc k) ws))
+size-at [] k h = absurd (omega arith)
+size-at (w ∷ ws) zero h = zeros (bytesFor w + size ws)
+  where
+    zeros : (a : ℕ) → a ≡ 0 + a
+    zeros a = omega arith
+size-at (w ∷ ws) (suc k) h = shuffle (bytesFor w) _ _ _ (size-at ws k (omega arith))
+  where
+    shuffle : (n a b c : ℕ) → a ≡ b + c → n + a ≡ n + b + c
+    shuffle n a b c e = omega arith
+
+size-suc : (ws : List ℕ) (k : ℕ) → k < length ws → size (take (suc k) ws) ≡ size (take k ws) + bytesFor (getD ws k 0)
+size-suc [] k h = absurd (omega arith)
+size-suc (w ∷ ws) zero h = zeros (bytesFor w)
+  where
+    zeros : (a : ℕ) → a + 0 ≡ 0 + a
+    zeros a = omega arith
+size-suc (w ∷ ws) (suc k) h = shuffle (bytesFor w) _ _ _ (size-suc ws k (omega arith))
+  where
+    shuffle : (n a b c : ℕ) → a ≡ b + c → n + a ≡ n + b + c
+    shuffle n a b c e = omega arith
+
+pub next-place : (at : ℕ) (ws : List ℕ) (k : ℕ) → k < length ws → at + size (take k ws) + bytesFor (getD ws k 0) ≡ at + size (take (k + 1) ws)
+next-place at ws k h = sum at (size (take k ws)) (bytesFor (getD ws k 0)) ∙ ap (λ (n : ℕ). at + n) (sym (size-suc ws k h) ∙ ap (λ (n : ℕ). size (take n ws)) (sym (add-one k)))
+  where
+    sum : (a b c : ℕ) → a + b + c ≡ a + (b + c)
+    sum a b c = omega arith
+
+pub size-padded : (ws : List ℕ) (n : ℕ) → size (ws ++ replicate n 0) ≡ size ws
+size-padded [] zero = refl
+size-padded [] (suc n) = zeros (size (replicate n 0)) ∙ size-padded [] n
+  where
+    zeros : (a : ℕ) → 0 + a ≡ a
+    zeros a = omega arith
+size-padded (w ∷ ws) n = ap (λ (m : ℕ). bytesFor w + m) (size-padded ws n)
+
+-- ---- what is read fits its bytes
+
+bytes-taken : (n : ℕ) (l : List ℕ) → Bytes l → Bytes (take n l)
+bytes-taken zero l b i = omega arith
+bytes-taken (suc n) [] b i = omega arith
+bytes-taken (suc n) (x ∷ l) b zero = b 0
+bytes-taken (suc n) (x ∷ l) b (suc i) = bytes-taken n l (λ j. b (suc j)) i
+
+pub number-fits : (l : List ℕ) (k n : ℕ) → Bytes l → k + n ≤ length l → numberAt l k n < 2 ^ (8 * n)
+number-fits l k n b h =
+    let long : length (take n (drop k l)) ≡ n = length-take-le n (drop k l) (rw (length-drop k l) (omega arith)) in
+    rw long at (number-lt (take n (drop k l)) (bytes-taken n (drop k l) (λ i. rw (getD-drop k l i 0) (b (k + i)))))
+
+pub cells-fit : (l : List ℕ) (k : ℕ) (ws : List ℕ) → Bytes l → k + size ws ≤ length l → FitBytes ws (cellsAt l k ws)
+unfolding cellsAt
+cells-fit l k [] b h = tt
+cells-fit l k (w ∷ ws) b h =
+    (number-fits l k (bytesFor w) b (here k (bytesFor w) (size ws) (length l) h), cells-fit l (k + bytesFor w) ws b (behind k (bytesFor w) (size ws) (length l) h))
+  where
+    here : (a b c d : ℕ) → a + (b + c) ≤ d → a + b ≤ d
+    here a b c d h = omega arith
+
+    behind : (a b c d : ℕ) → a + (b + c) ≤ d → a + b + c ≤ d
+    behind a b c d h = omega arith
+
+-- ---- one byte more
+
+pub number-next : (l : List ℕ) (at k : ℕ) → at + k < length l → numberAt l at k * 256 + getD l (at + k) 0 ≡ numberAt l at (k + 1)
+number-next l at k h =
+    ap (λ (x : ℕ). numberAt l at k * 256 + x) (sym (getD-drop at l k 0)) ∙ sym (number-more (drop at l) k (rw (length-drop at l) (omega arith)))
+
+-- seven bytes at most are read where there is one to come
+pub seven-bytes : (l : List ℕ) (at k : ℕ) → Bytes l → at + k ≤ length l → k ≤ 7 → numberAt l at k < 2 ^ 56
+seven-bytes l at k b h s = narrower (numberAt l at k) (8 * k) 56 (number-fits l at k b h) (omega arith)

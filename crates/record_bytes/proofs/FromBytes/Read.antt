@@ -1,0 +1,87 @@
+-- What a body is read from: the numbers in its bytes, each as its field keeps it.
+use mathlib.Core.Path.{_≡_, refl, sym, ap, _∙_}
+use Prim.Native.Nat.{ℕ, suc, _+_, _-_, _*_, _%_, _^_, _≤_}
+use native.Mathlib.Nat.{mod-eq-of-lt}
+use native.Mathlib.Numerals.{add-one}
+use native.Mathlib.Omega.{arith}
+use mathlib.Core.Bool.{Bool, true}
+use mathlib.Core.List.{List, [], _∷_, _++_}
+use lib.Dec.{leb}
+use lib.ListN.{length, getD, drop, replicate}
+use lib.Seq.{drop-drop, getD-drop}
+use borrow.Author.Tests.{leb-true}
+use Rattle.bits.specs.Frame.{Bytes}
+use Rattle.rows.specs.Layout.{Layout, Row}
+use Rattle.rows.specs.Values.{Sides, filled, widths}
+use Rattle.rows.specs.Runs.Fields.{bytesFor, fieldsIn, keptFrom, keptIn}
+use Rattle.rows.specs.declared.fields.Fields.{Fields}
+use Rattle.report.specs.declared.body.Body.{Body}
+use Rattle.report.specs.Categories.{bodyFrom, layout, sidesOf}
+use Rattle.report.proofs.Categories.{all, layouts, listed, made-alike, same-body}
+use Rattle.record_bytes.specs.Unpacked.{bodyInBytes, cellsAt, sidesInBytes, size}
+use Rattle.record_bytes.proofs.Cells.{FitBytes, cells-append, cells-fit, size-padded}
+
+-- computed of all tables: the fields have room in bytes 9 to 40
+abbrev fieldsFit : Layout → Bool
+fieldsFit l = leb (size (widths (l .front)) + size (widths (l .behind))) 32
+
+all-fit : all fieldsFit layouts ≡ true
+all-fit = refl
+
+pub fields-fit : (b : Body) → size (widths (layout b .front)) + size (widths (layout b .behind)) ≤ 32
+fields-fit b = leb-true _ 32 (listed fieldsFit all-fit b)
+
+-- a number that fits its bytes is kept
+kept-same : (rs : List Row) (vs us more : List ℕ) (k : ℕ) → drop k vs ≡ us ++ more → FitBytes (widths rs) us → keptFrom rs vs k ≡ us
+kept-same [] vs [] more k e h = refl
+kept-same [] vs (u ∷ us) more k e h = absurd h
+kept-same (r ∷ rs) vs [] more k e h = absurd h
+kept-same (r ∷ rs) vs (u ∷ us) more k e h =
+    let here : getD vs k 0 ≡ u = ap (λ (j : ℕ). getD vs j 0) (zeros k) ∙ sym (getD-drop k vs 0 0) ∙ ap (λ (l : List ℕ). getD l 0 0) e in
+    let rest : drop (suc k) vs ≡ us ++ more = ap (λ (j : ℕ). drop j vs) (sym (add-one k)) ∙ sym (drop-drop 1 k vs) ∙ ap (drop 1) e in
+    let kept : getD vs k 0 % 2 ^ (8 * bytesFor (r .width)) ≡ u = ap (λ (x : ℕ). x % 2 ^ (8 * bytesFor (r .width))) here ∙ mod-eq-of-lt (h .0) in
+    λ i. kept i ∷ kept-same rs vs us more (suc k) rest (h .1) i
+  where
+    zeros : (a : ℕ) → a ≡ a + 0
+    zeros a = omega arith
+
+module _ (l : List ℕ) (bytes : Bytes l) where
+  kept-cells : (rs : List Row) (k n : ℕ) → k + size (widths rs) ≤ length l → keptFrom rs (cellsAt l k (widths rs ++ replicate n 0)) 0 ≡ cellsAt l k (widths rs)
+  kept-cells rs k n h = kept-same rs _ (cellsAt l k (widths rs)) _ 0 (cells-append l k (widths rs) (replicate n 0)) (cells-fit l k (widths rs) bytes h)
+
+  kept-sides : (t : Layout) (front behind : List ℕ) (at : ℕ) → 9 + (size (widths (t .front)) + size (widths (t .behind))) ≤ length l
+      → front ≡ cellsAt l 9 (filled 18 (widths (t .front))) → at ≡ 9 + size (filled 18 (widths (t .front))) → behind ≡ cellsAt l at (filled 3 (widths (t .behind)))
+      → keptIn front behind t ≡ sidesInBytes l t
+  kept-sides t front behind at h f p b =
+      let here : at ≡ 9 + size (widths (t .front)) = p ∙ ap (λ (n : ℕ). 9 + n) (size-padded (widths (t .front)) (18 - length (widths (t .front)))) in
+      let first : keptFrom (t .front) front 0 ≡ cellsAt l 9 (widths (t .front)) =
+      ap (λ (vs : List ℕ). keptFrom (t .front) vs 0) f ∙ kept-cells (t .front) 9 (18 - length (widths (t .front))) (omega arith)
+      in
+      let last : keptFrom (t .behind) behind 0 ≡ cellsAt l (9 + size (widths (t .front))) (widths (t .behind)) =
+      ap (λ (vs : List ℕ). keptFrom (t .behind) vs 0) (b ∙ ap (λ (k : ℕ). cellsAt l k (filled 3 (widths (t .behind)))) here)
+      ∙ kept-cells (t .behind) (9 + size (widths (t .front))) (3 - length (widths (t .behind))) (omega arith)
+      in
+      λ i. record { front = first i; behind = last i }
+
+  -- the body that is made from what is read where the table of a blank body of its code says so
+  pub body-read : (dc : ℕ) (none : Layout → Sides) (blank : Body) (v : Fields) (front behind : List ℕ) (at : ℕ) → length l ≡ 251 → dc ≡ getD l 0 0
+      → blank ≡ bodyFrom none dc → v ≡ fieldsIn (layout blank) (sidesOf blank 0 0)
+      → front ≡ cellsAt l 9 (v .ahead) → at ≡ 9 + size (v .ahead) → behind ≡ cellsAt l at (v .after)
+      → bodyFrom (keptIn front behind) dc ≡ bodyInBytes l
+  body-read dc none blank v front behind at long e q w f p b =
+      let kept : Layout → Sides = keptIn front behind in
+      let t : Layout = layout blank in
+      let alike : t ≡ layout (bodyFrom kept dc) = ap layout q ∙ made-alike none kept dc in
+      let same : kept t ≡ sidesInBytes l t =
+      kept-sides t front behind at (omega (arith, fields-fit blank)) (f ∙ ap (λ (z : Fields). cellsAt l 9 (z .ahead)) w) (p ∙ ap (λ (z : Fields). 9 + size (z .ahead)) w)
+      (b ∙ ap (λ (z : Fields). cellsAt l at (z .after)) w)
+      in
+      same-body kept (sidesInBytes l) dc (ap kept (sym alike) ∙ same ∙ ap (sidesInBytes l) alike) ∙ ap (bodyFrom (sidesInBytes l)) e
+
+-- there is room for what is read
+pub room : (b : Body) (v : Fields) → v ≡ fieldsIn (layout b) (sidesOf b 0 0) → size (v .ahead) + size (v .after) ≤ 32
+room b v e =
+    let same : size (v .ahead) + size (v .after) ≡ size (widths (layout b .front)) + size (widths (layout b .behind)) =
+    ap (λ (z : Fields). size (z .ahead) + size (z .after)) e ∙ (λ i. size-padded (widths (layout b .front)) (18 - length (widths (layout b .front))) i + size-padded (widths (layout b .behind)) (3 - length (widths (layout b .behind))) i)
+    in
+    rw same (fields-fit b)
