@@ -7,4 +7,4 @@ use Rattle.ash_fall.specs.declared.meaning.Prefecture.the-variants.{Numb
 
 -- "A place divided by 100000, remainder dropped, is its prefecture, 1 to 47"
 unfoldable pub prefectureOf : ℕ → Prefecture
-prefectureOf place = cond (leb 110000 place && leb place 4799999) (Number (place / 100000)) Nowhere
+prefectureOf place = cond (leb 100000 place && leb place 4799999) (Number (place / 100000)) Nowhere

@@ -14,7 +14,7 @@ impl Prefecture {
         ensures { λ r. ⌜ r ≡ prefectureOf place ⌝ }
     {
         match place {
-            110000..=4799999 => Prefecture::Number((place / 100000) as u8),
+            100000..=4799999 => Prefecture::Number((place / 100000) as u8),
             _ => Prefecture::Nowhere,
         }
     }

@@ -24,6 +24,9 @@ use Rattle.pages.specs.Names.{nameVerdict, sameName, nameValues}
 use Rattle.bulletin.specs.Stores.{noPages, zeroStore, opening, openOf, soundStore, pageBehind}
 use Rattle.bulletin.specs.Takings.{takingAnswer, bulletinOf, pageNumberIn, writable, admission, putPage, taking, takeOf}
 use Rattle.bulletin.specs.Merges.{mergeVerdict, merging, mergeOf}
+use Rattle.bulletin.specs.Counts.{countMarked, countOf, lowestNotHeld}
+use Rattle.bulletin.specs.declared.count.Count.{Count}
+use Rattle.rows.proofs.Rules.Outcomes.{not-both}
 use Rattle.bulletin.proofs.Taking.TakingOutcomes.{of-bulletin, writable-record}
 use Rattle.pages.proofs.Ranges.{first-bad-value}
 use Rattle.bulletin.proofs.Taking.HeldTexts.{taking-keeps}
@@ -91,3 +94,19 @@ preamble-and-reserved-play-no-part s r q v w c b t =
     ap (λ (a : Admission). taking a s (r .text)) (asked s r v)
     ∙ (λ j. taking (cond (soundStore s) (pageNumberIn (s .name) (c j) (b j)) (NotAdmitted Unsound)) s (t j))
     ∙ sym (ap (λ (a : Admission). taking a s (q .text)) (asked s q w))
+
+-- "The reports of a store: 14"; "A refused report gives zeros": where the store is not sound, and there alone
+pub a-refused-report-gives-zeros : (s : Store) (x : Refusal) → countOf s .answer ≡ Refused x
+    → (soundStore s ≡ false) × (countOf s ≡ record { answer = Refused Unsound; held = 0; disputed = 0; lowest = 0 })
+unfolding countOf
+a-refused-report-gives-zeros s x = by (soundStore s) refl
+  where
+    told : Count
+    told = record { answer = Fine; held = countMarked 1 (s .pages); disputed = countMarked 2 (s .pages); lowest = lowestNotHeld (s .name .total) 0 (s .pages) }
+
+    none : Count
+    none = record { answer = Refused Unsound; held = 0; disputed = 0; lowest = 0 }
+
+    by : (b : Bool) → soundStore s ≡ b → cond (soundStore s) told none .answer ≡ Refused x → (soundStore s ≡ false) × (cond (soundStore s) told none ≡ none)
+    by true e h = absurd (not-both Fine x refl (ap (λ (b : Bool). cond b told none .answer) (sym e) ∙ h))
+    by false e h = (e, ap (λ (b : Bool). cond b told none) e)

@@ -5,8 +5,8 @@ use mathlib.Core.Bool.{true}
 use mathlib.Core.List.{List, _++_}
 use mathlib.Core.Logic.{_↔_, _⊎_}
 use Prim.Native.Nat.{ℕ, _≤_, _<_}
-use lib.ListN.{length}
-use Rattle.rows.specs.declared.refusal.Verdict.the-variants.{Fine}
+use lib.ListN.{length, replicate}
+use Rattle.rows.specs.declared.refusal.Verdict.the-variants.{Fine, Refused as Rejected}
 use Rattle.rows.specs.declared.refusal.Refusal.{Refusal}
 use Rattle.rows.specs.declared.refusal.Refusal.the-variants.{NotHeld}
 use Rattle.report.specs.declared.record.Record.{Record}
@@ -22,21 +22,22 @@ use Rattle.bulletin.specs.Counts.{countOf}
 use Rattle.bulletin.specs.Merges.{joinedStores, mergeOf}
 use Rattle.pages.proofs.States.{absent, held, disputed}
 use Rattle.histories.specs.Soundness.{InRange, Sound}
-use Rattle.histories.specs.Frames.{Frame, storeAfter, pageNumbered, SameFrames, Brings, Came, Absent, Held, Disputed, AllTaken}
-use Rattle.histories.specs.Merging.{Tree, treeStore, allFrames}
-use Rattle.histories.specs.Histories.{History, historyStore, framesOf}
+use Rattle.histories.specs.Frames.{Frame, storeAfter, pageNumbered, SameFrames, SamePages, Brings, Came, Absent, Held, Disputed, AllTaken}
+use Rattle.histories.specs.Merging.{Tree, treeStore, allFrames, WhyNotMerged}
+use Rattle.histories.specs.Histories.{History, historyStore, framesOf, GoesOn}
 use Rattle.histories.specs.Reports.{LowestWithout, IsHeld, Reports, inOrder, Trimmed, Tells, TellsNothing, NotHeldBecause}
-use Rattle.histories.specs.Examples.{ofTwoPages, cameTwice}
+use Rattle.histories.specs.Examples.{ofTwoPages, cameTwice, cameBoth}
 use Rattle.histories.proofs.Soundness.NameRanges.{fine-in-range, in-range-fine}
 use Rattle.histories.proofs.Soundness.Tested.{tested-sound, sound-tested}
-use Rattle.histories.proofs.Frames.PageStates.{told-page, page-told, same-frames}
-use Rattle.histories.proofs.Frames.Answers.{taken-brings, brings-not-refused, answers-new, answers-same, answers-disputed}
-use Rattle.histories.proofs.Histories.Merges.{merge-joins, joined-sound, commutes, associates, repeats, held-kept, after-sound, merge-after, tree-after, same-trees}
+use Rattle.histories.proofs.Frames.PageStates.{told-page, page-told, same-pages, frames-bring}
+use Rattle.histories.proofs.Frames.Answers.{taken-brings, brings-not-refused, answers-new, answers-same, answers-disputed, answers-still-disputed}
+use Rattle.histories.proofs.Histories.Merges.{merge-joins, joined-sound, commutes, associates, repeats, held-kept, after-sound, merge-after, merge-reason, tree-after, same-trees}
 use Rattle.histories.proofs.Histories.FramesForAStore.{sound-given, after-shaped}
-use Rattle.histories.proofs.Histories.StoresOfHistories.{joined-shaped, history-after, history-sound, history-shaped, any-store}
+use Rattle.histories.proofs.Histories.StoresOfHistories.{joined-shaped, history-after, history-sound, history-shaped, held-from-then-on, any-store}
 use Rattle.histories.proofs.Reports.Reported.{reported, reported-once}
 use Rattle.histories.proofs.Reports.Trimming.{trimmed-once}
 use Rattle.histories.proofs.Reports.TextFromFrames.{whole-text, at-most, no-text, missed}
+use Rattle.histories.proofs.Reports.Complete.{complete-reported, complete-told}
 use Rattle.histories.proofs.Reports.OnePageTwice.{all-taken, twice-reported, twice-told}
 
 -- ---- sound
@@ -88,9 +89,19 @@ pub disputed-where-another-came : (n : Name) (frames : List Frame) (f : Frame) (
     → Came n frames p u → (u ≡ t → ⊥) → takeOf (storeAfter n frames) (f .came) .answer ≡ AnswersDisputed
 disputed-where-another-came n frames f p t u r b c d = answers-disputed n r frames f p t b u c d
 
--- In whatever order frames come, and however often ("one may have come twice"), the same frames give the same store.
-pub order-and-repeats-do-not-matter : (n : Name) (a b : List Frame) → InRange n → SameFrames a b → storeAfter n a ≡ storeAfter n b
-order-and-repeats-do-not-matter n a b r same = same-frames n a b r same
+-- .. and so it is where the page was disputed already
+pub disputed-where-it-was-disputed : (n : Name) (frames : List Frame) (f : Frame) (p : ℕ) (t : List ℕ) → InRange n → Brings n (f .came) p t
+    → Disputed n frames p → takeOf (storeAfter n frames) (f .came) .answer ≡ AnswersDisputed
+disputed-where-it-was-disputed n frames f p t r b h = answers-still-disputed n r frames f p t b h
+
+-- In whatever order frames come, and however often ("one may have come twice"): where the same texts came for the same pages,
+-- the store is the same, whatever preambles, Reserved or refused frames there were ..
+pub order-and-repeats-do-not-matter : (n : Name) (a b : List Frame) → InRange n → SamePages n a b → storeAfter n a ≡ storeAfter n b
+order-and-repeats-do-not-matter n a b r same = same-pages n a b r same
+
+-- .. and the same frames bring the same
+pub the-same-frames-bring-the-same : (n : Name) (a b : List Frame) → SameFrames a b → SamePages n a b
+the-same-frames-bring-the-same n a b same = frames-bring n a b same
 
 -- ---- merged
 
@@ -103,13 +114,17 @@ merging-takes-the-frames-of-both n a b r = merge-after n r a b
 pub a-tree-of-merges-takes-all-frames : (n : Name) (t : Tree) → InRange n → treeStore n t ≡ storeAfter n (allFrames t)
 a-tree-of-merges-takes-all-frames n t r = tree-after n r t
 
--- .. so two ways of merging the same frames give the same store
-pub ways-of-merging-agree : (n : Name) (a b : Tree) → InRange n → SameFrames (allFrames a) (allFrames b) → treeStore n a ≡ treeStore n b
+-- .. so two ways of merging what brings the same give the same store
+pub ways-of-merging-agree : (n : Name) (a b : Tree) → InRange n → SamePages n (allFrames a) (allFrames b) → treeStore n a ≡ treeStore n b
 ways-of-merging-agree n a b r same = same-trees n r a b same
 
 -- "Merging: 14, 13": two sound stores of one bulletin are merged, page by page, and what they give is sound
 pub sound-stores-are-merged : (a b : Store) → Sound a → Sound b → a .name ≡ b .name → mergeOf a b ≡ record { answer = Fine; store = joinedStores a b }
 sound-stores-are-merged a b p q e = merge-joins a b p q e
+
+-- .. and no others: a merge is refused with 14 where one of the two is not sound, and with 13 only where both are
+pub merging-refused-for-a-reason : (a b : Store) (x : Refusal) → mergeOf a b .answer ≡ Rejected x → WhyNotMerged a b x
+merging-refused-for-a-reason a b x e = merge-reason a b x e
 
 pub merging-keeps-soundness : (a b : Store) → Sound a → Sound b → ShapedStore a → ShapedStore b → a .name ≡ b .name → Sound (joinedStores a b) × ShapedStore (joinedStores a b)
 merging-keeps-soundness a b p q x y e = (joined-sound a b p q (x .long) (y .long) e, joined-shaped a b p q x y e)
@@ -157,6 +172,12 @@ pub any-store-may-be-merged : (n : Name) (h : History n) (s : Store) → InRange
     → (k : History n) × (historyStore k ≡ mergeOf (historyStore h) s .store)
 any-store-may-be-merged n h s r x = any-store n r h s x
 
+-- "all else is disputed", also later: over any takings and merges that follow, the text of a held page is never replaced by another
+pub a-held-text-is-never-replaced : (n : Name) (h k : History n) (p : ℕ) (t : List ℕ) → InRange n → GoesOn h k → 1 ≤ p → p ≤ n .total
+    → pageNumbered (historyStore h) p ≡ heldPage t
+    → (pageNumbered (historyStore k) p ≡ heldPage t) ⊎ (pageNumbered (historyStore k) p ≡ disputedPage)
+a-held-text-is-never-replaced n h k p t r g low high e = held-from-then-on n r h k g p t low high e
+
 -- ---- reported and told
 
 -- "A store reports how many pages are held, how many are disputed, and the lowest page that is not held (0 if none)": each of
@@ -203,3 +224,8 @@ pub one-page-twice-is-not-complete : AllTaken ofTwoPages cameTwice × (length ca
     × (countOf (storeAfter ofTwoPages cameTwice) ≡ record { answer = Fine; held = 1; disputed = 0; lowest = 2 })
     × TellsNothing (storeAfter ofTwoPages cameTwice) (NotHeld 2 1)
 one-page-twice-is-not-complete = (all-taken, refl, twice-reported, twice-told)
+
+-- .. but where each came, it is complete: there is a bulletin that comes to be so, and tells its text
+pub a-bulletin-comes-to-be-complete : (countOf (storeAfter ofTwoPages cameBoth) ≡ record { answer = Fine; held = 2; disputed = 0; lowest = 0 })
+    × Tells (storeAfter ofTwoPages cameBoth) (replicate 36 65)
+a-bulletin-comes-to-be-complete = (complete-reported, complete-told)

@@ -3,3 +3,4 @@ pub mod Reported
 pub mod Trimming
 pub mod TextFromFrames
 pub mod OnePageTwice
+pub mod Complete

@@ -1,6 +1,7 @@
 -- "A bulletin called complete because as many frames came as it has pages: one may have come twice" (document 01, "Readings
 -- that look right").
 use mathlib.Core.Path.{refl}
+use Prim.Native.Nat.{ℕ}
 use mathlib.Core.List.{List, [], _∷_}
 use lib.ListN.{replicate}
 use Rattle.slots.specs.Slots.{noSlot}
@@ -12,14 +13,14 @@ use Rattle.report.specs.declared.body.Body.the-variants.{Nankai}
 abbrev pub ofTwoPages : Name
 ofTwoPages = record { common = record { rc = 7; month = 3; day = 11; hour = 14; minute = 46; it = 0 }; serial = 1; total = 2 }
 
--- the frame of its first page
-abbrev pub exampleFrame : Frame
-exampleFrame = record {
+-- the frame of a page of it
+abbrev pub framePaged : ℕ → Frame
+framePaged p = record {
   came = record {
     preamble = 0x53;
     reserved = 0;
     common = ofTwoPages .common;
-    body = Nankai (record { serial = 1; number = 1; total = 2 });
+    body = Nankai (record { serial = 1; number = p; total = 2 });
     slots = replicate 16 noSlot;
     text = replicate 18 65;
   };
@@ -27,6 +28,10 @@ exampleFrame = record {
   text = refl;
 }
 
--- it came twice
+-- the first page came twice
 abbrev pub cameTwice : List Frame
-cameTwice = exampleFrame ∷ exampleFrame ∷ []
+cameTwice = framePaged 1 ∷ framePaged 1 ∷ []
+
+-- each page came once
+abbrev pub cameBoth : List Frame
+cameBoth = framePaged 1 ∷ framePaged 2 ∷ []

@@ -53,6 +53,11 @@ pub record Brings (n : Name) (r : Record) (p : ℕ) (t : List ℕ) : Type 0 wher
 abbrev pub Came : Name → List Frame → ℕ → List ℕ → Type 0
 Came n frames p t = (r : Record) × Among r frames × Brings n r p t
 
+-- the same texts came for the same pages, in whatever frames: preambles, Reserved and frames that are refused may differ
+pub record SamePages (n : Name) (a b : List Frame) : Type 0 where
+  pub there : (p : ℕ) (t : List ℕ) → Came n a p t → Came n b p t
+  pub back : (p : ℕ) (t : List ℕ) → Came n b p t → Came n a p t
+
 -- ---- "Each page from 1 to the total is absent, held with its 18 bytes, or disputed"
 
 -- no frame brought the page

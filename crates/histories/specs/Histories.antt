@@ -34,3 +34,11 @@ framesOf (took h f) = framesOf h ++ (f ∷ [])
 framesOf (merged h k) = framesOf h ++ framesOf k
 framesOf (met h s frames e) = framesOf h ++ frames
 framesOf (refused h s no-sound-store) = framesOf h
+
+-- a history goes on from another: by takings and merges behind it, of whatever frames and stores
+pub data GoesOn {n : Name} (h : History n) : History n → Type 0 where
+  there : GoesOn h h
+  taking : {k : History n} (f : Frame) → GoesOn h k → GoesOn h (took k f)
+  merging : {k : History n} (m : History n) → GoesOn h k → GoesOn h (merged k m)
+  meeting : {k : History n} (s : Store) (frames : List Frame) (e : s ≡ storeAfter n frames) → GoesOn h k → GoesOn h (met k s frames e)
+  refusing : {k : History n} (s : Store) (e : Sound s → s .name ≡ n → ⊥) → GoesOn h k → GoesOn h (refused k s e)

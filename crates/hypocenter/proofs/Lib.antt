@@ -1,3 +1,4 @@
+pub mod Claims
 pub mod Walks
 pub mod KnownCodes
 pub mod Settled

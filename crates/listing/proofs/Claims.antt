@@ -1,4 +1,14 @@
 -- What is claimed of the listing (document 01, "The listing").
+use Rattle.report.specs.declared.record.Record.{Record}
+use Rattle.report.specs.declared.body.Body.{Body}
+use Rattle.report.specs.declared.body.Body.the-variants.{AshFall, Hypocenter, Intensity, Nankai}
+use Rattle.intensity.specs.declared.Shaking.{Shaking}
+use Rattle.ash_fall.specs.declared.Eruption.{Eruption}
+use Rattle.hypocenter.specs.declared.Quake.{Quake}
+use Rattle.nankai.specs.declared.PageNumbers.{PageNumbers}
+use Rattle.report.specs.Meaning.{usedOf}
+use Rattle.report.specs.Categories.{layout}
+use Rattle.rows.specs.declared.refusal.Verdict.the-variants.{Fine}
 use mathlib.Core.Path.{_≡_, refl, sym, ap, _∙_}
 use mathlib.Core.Bool.{false, cond}
 use mathlib.Core.List.{List, [], _∷_, _++_, append-assoc, append-nil}
@@ -12,9 +22,9 @@ use lib.Seq.{take-all, take-append-seam}
 use Rattle.report.specs.declared.read.Reading.{Reading}
 use Rattle.rows.specs.Runs.Verdict.{allowed}
 use Rattle.line.specs.Lines.{digits, lineReading}
-use Rattle.listing.specs.declared.row.Entry.the-variants.{Dash}
+use Rattle.listing.specs.declared.row.Entry.the-variants.{Dash, Number}
 use Rattle.listing.specs.declared.progress.Progress.{Progress}
-use Rattle.listing.specs.Rows.{Filled, rowOf, refusedRow, rowText, headingText, cutText, longest, filledBy}
+use Rattle.listing.specs.Rows.{Filled, rowFor, rowOf, slotsEntry, refusedRow, rowText, headingText, cutText, longest, filledBy}
 use Rattle.listing.specs.Listing.{onto, linesOf, lineRow, limit, rowsFrom, listing}
 use Rattle.listing.specs.Scanning.{Reach, say, reach, lastRow, progressOf, begunIn, bytesTaken, AfterScan, afterReach, scanned, finished}
 use Rattle.listing.proofs.Texts.KeptBytes.{begun-back}
@@ -133,3 +143,16 @@ carriage-return-makes-17 n a b = other-byte-makes-17 n a b 13 refl
 
 pub empty-line-makes-17 : (n : ℕ) → lineRow n [] ≡ row17 n
 empty-line-makes-17 n = other-length-makes-17 n [] (λ e. omega arith)
+
+-- "slots used in categories 3 and 9": the number of used slots there, and nothing in the others
+pub slots-are-shown-in-category-3 : (r : Record) (t : Shaking) → r .body ≡ Intensity t → rowFor Fine r .slots ≡ Number (usedOf r)
+slots-are-shown-in-category-3 r t e = ap (λ (b : Body). slotsEntry (layout b .slots .count) (usedOf r)) e
+
+pub slots-are-shown-in-category-9 : (r : Record) (u : Eruption) → r .body ≡ AshFall u → rowFor Fine r .slots ≡ Number (usedOf r)
+slots-are-shown-in-category-9 r u e = ap (λ (b : Body). slotsEntry (layout b .slots .count) (usedOf r)) e
+
+pub no-slots-are-shown-in-category-2 : (r : Record) (q : Quake) → r .body ≡ Hypocenter q → rowFor Fine r .slots ≡ Dash
+no-slots-are-shown-in-category-2 r q e = ap (λ (b : Body). slotsEntry (layout b .slots .count) (usedOf r)) e
+
+pub no-slots-are-shown-in-category-4 : (r : Record) (p : PageNumbers) → r .body ≡ Nankai p → rowFor Fine r .slots ≡ Dash
+no-slots-are-shown-in-category-4 r p e = ap (λ (b : Body). slotsEntry (layout b .slots .count) (usedOf r)) e

@@ -9,17 +9,22 @@ use Rattle.rows.specs.Runs.Verdict.{allowed}
 use Rattle.rows.proofs.Rules.Spans.{allowed-in, in-allowed, not-allowed}
 use Rattle.rows.specs.Kept.{In}
 use Rattle.rows.specs.Layout.{Layout, Row, Rule, asks, noCategory, spare}
-use mathlib.Core.List.{List, [], _∷_}
+use mathlib.Core.List.{List, [], _∷_, _++_}
 use Rattle.rows.specs.Values.{Sides, sidesAt}
 use Rattle.rows.specs.Runs.Fields.{spareIn, isSpare}
 use mathlib.Core.Path.{_∙_, _≡_, ap, refl, subst, sym}
-use Prim.Native.Nat.{_≤_, suc, zero, ℕ}
+use Prim.Native.Nat.{_≤_, _-_, suc, zero, ℕ}
 use mathlib.Core.Logic.{_⊎_, inl, inr, ⊎-elim}
 use Rattle.rows.proofs.Rules.Outcomes.{and-both, false-not-true}
 use native.Mathlib.Omega.{arith}
 use Rattle.ash_fall.specs.AshFall.{ashFall, eruptionFrom}
+use Rattle.report.specs.declared.record.Record.{Record}
+use Rattle.rows.specs.declared.time.Time.{Time}
+use Rattle.hypocenter.specs.declared.angle.Angle.{Angle}
+use Rattle.slots.specs.declared.slot.Slot.{Slot}
+use Rattle.slots.specs.Slots.{noSlot}
 use Rattle.report.specs.Records.{bodyBy}
-use lib.ListN.{getD, length, drop}
+use lib.ListN.{getD, length, drop, replicate}
 use Rattle.hypocenter.specs.Hypocenter.{hypocenter, quakeFrom, quakeValues}
 use Rattle.intensity.specs.Intensity.{intensity, shakingFrom}
 use Rattle.nankai.specs.Nankai.{nankai, numbersFrom}
@@ -212,3 +217,38 @@ sides-spared (Hypocenter q) = ((refl, all-spared (drop 1 (hypocenter .front)) (d
 sides-spared (Intensity t) = search
 sides-spared (Nankai p) = search
 sides-spared (AshFall e) = search
+
+-- ---- a record of each category, so that there is one
+
+abbrev sample : Body → List Slot → List ℕ → Record
+sample b ss t = record {
+  preamble = 0x53;
+  reserved = 0;
+  common = record { rc = 2; month = 1; day = 1; hour = 0; minute = 0; it = 0 };
+  body = b;
+  slots = ss ++ replicate (16 - length ss) noSlot;
+  text = t;
+}
+
+abbrev midnight : Time
+midnight = record { day = 1; hour = 0; minute = 0 }
+
+abbrev somewhere : Angle
+somewhere = record { side = 0; degrees = 35; minutes = 0; seconds = 0 }
+
+abbrev pub samples : List Record
+samples =
+    sample (Hypocenter (record {
+      notification1 = 101;
+      notification2 = 0;
+      notification3 = 0;
+      time = midnight;
+      depth = 10;
+      magnitude = 50;
+      epicenter = 100;
+      latitude = somewhere;
+      longitude = somewhere;
+    })) [] (replicate 18 0)
+    ∷ sample (Intensity (record { time = midnight })) (record { day = 0; hour = 0; minute = 0; strength = 4; place = 44 } ∷ []) (replicate 18 0)
+    ∷ sample (Nankai (record { serial = 1; number = 1; total = 1 })) [] (replicate 18 65)
+    ∷ sample (AshFall (record { time = midnight; warning = 1; volcano = 101 })) (record { day = 0; hour = 1; minute = 0; strength = 1; place = 110000 } ∷ []) (replicate 18 0) ∷ []

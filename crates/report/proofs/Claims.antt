@@ -12,7 +12,7 @@ use Rattle.rows.specs.declared.refusal.Refusal.{Refusal}
 use Rattle.rows.specs.declared.refusal.Refusal.the-variants.{Range, Gap}
 use Rattle.report.specs.declared.record.Record.{Record}
 use Rattle.rows.specs.Refusals.{says, answers}
-use Rattle.rows.specs.Layout.{allRows, tiles, allFit}
+use Rattle.rows.specs.Layout.{allRows, tiles, allFit, lowest}
 use Rattle.report.specs.Records.{bodyOf, recordOf, zeros, values}
 use Rattle.rows.specs.Values.{valuesOf}
 use Rattle.rows.specs.Runs.Verdict.{empty}
@@ -37,8 +37,9 @@ use Rattle.report.proofs.RoundTrips.WrittenThenRead.{returns, read-agai
 use Rattle.report.proofs.RoundTrips.OneToOne.{WrittenBy, frame-of-record, same-frame, same-record, conforming-written, written-bytes}
 use Rattle.report.specs.declared.body.Body.{Body}
 use Rattle.report.proofs.Shaped.{Shaped, frame-shaped, record-filled}
-use Rattle.report.proofs.Categories.{all, layouts}
-use Rattle.report.specs.Categories.{layout}
+use Rattle.report.proofs.Categories.{all, layouts, samples}
+use Rattle.report.proofs.RoundTrips.Witnesses.{Each, WrittenAndRead, samples-written-and-read}
+use Rattle.report.specs.Categories.{categories, layout}
 use Rattle.slots.specs.Slots.{slotParts, slotsValues, slotValues}
 use Rattle.slots.specs.declared.slot.Slot.{Slot}
 use Rattle.ash_fall.specs.AshFall.{ashFall}
@@ -213,3 +214,11 @@ written-frames-conform r s v = returns r s v .conforms
 
 pub written-frames-are-bytes : (r : Record) → Bytes (bytesOf (frame r))
 written-frames-are-bytes r = written-bytes r
+
+-- There are such records and frames: one of each category ..
+pub each-category-has-a-sample : map (λ r. layout (r .body) .code) samples ≡ map lowest categories
+each-category-has-a-sample = refl
+
+-- .. is valid, its frame conforms, and is read as that record.
+pub each-sample-is-written-and-read : Each WrittenAndRead samples
+each-sample-is-written-and-read = samples-written-and-read

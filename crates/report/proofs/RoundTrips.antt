@@ -1,3 +1,4 @@
 pub mod OneToOne
 pub mod ReadThenWritten
 pub mod WrittenThenRead
+pub mod Witnesses

@@ -3,7 +3,7 @@
 use Prim.Native.Nat.{ℕ, zero, suc, _+_, _^_}
 use mathlib.Core.Bool.{Bool, true, false, _&&_}
 use mathlib.Core.List.{List, _∷_, _++_, []}
-use lib.Dec.{eqb, ltb}
+use lib.Dec.{leb, eqb, ltb}
 
 -- from one number to another, both included
 infixl 70 _to_
@@ -146,10 +146,14 @@ abbrev pub tiles : ℕ → ℕ → List Row → Bool
 tiles a e [] = eqb a e
 tiles a e (r ∷ rs) = eqb (r .first) a && tiles (a + r .width) e rs
 
--- the greatest value of a rule fits the width
+-- the lowest value of a span
+abbrev pub lowest : Span → ℕ
+lowest (lo to hi) = lo
+
+-- the greatest value of a rule fits the width, and no span ends before it starts
 abbrev pub allBelow : ℕ → List Span → Bool
 allBelow n [] = true
-allBelow n ((lo to hi) ∷ ss) = ltb hi n && allBelow n ss
+allBelow n ((lo to hi) ∷ ss) = leb lo hi && (ltb hi n && allBelow n ss)
 
 abbrev pub bounded : Ask → ℕ → Bool
 bounded (inSpans ss) n = allBelow n ss

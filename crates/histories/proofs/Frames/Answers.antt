@@ -17,7 +17,7 @@ use Rattle.bulletin.proofs.Taking.TakenOrRefused.{taken-or-refused}
 use Rattle.pages.proofs.States.{Text, Mark, absent, held, disputed, toPage, joinM, join-to}
 use Rattle.rows.proofs.Rules.Tests.{eq-same, ne-same}
 use Rattle.histories.specs.Soundness.{InRange, Sound}
-use Rattle.histories.specs.Frames.{Frame, storeAfter, Brings, Came, Absent, Held}
+use Rattle.histories.specs.Frames.{Frame, storeAfter, Brings, Came, Absent, Held, Disputed}
 use Rattle.histories.proofs.Soundness.Tested.{sound-tested}
 use Rattle.histories.proofs.Frames.TextsBrought.{put-answer, admits-brings, brings-taken, brings-page}
 use Rattle.histories.proofs.Histories.Merges.{after-sound, after-name}
@@ -73,6 +73,9 @@ module _ (n : Name) (range : InRange n) (fs : List Frame) (f : Frame) (p : ℕ) 
 
   pub answers-same : Held n fs p t → takeOf (storeAfter n fs) (f .came) .answer ≡ Same
   answers-same h = answer (held t) h ∙ told-same t
+
+  pub answers-still-disputed : Disputed n fs p → takeOf (storeAfter n fs) (f .came) .answer ≡ AnswersDisputed
+  answers-still-disputed h = answer disputed h ∙ told-disputed t
 
   pub answers-disputed : (u : Text) → Came n fs p u → (u ≡ t → ⊥) → takeOf (storeAfter n fs) (f .came) .answer ≡ AnswersDisputed
   answers-disputed u c differ = by (markFor n range fs p) (tells n range fs p)

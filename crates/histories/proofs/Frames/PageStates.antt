@@ -1,12 +1,14 @@
 -- The state of each page, from the frames.
 use mathlib.Core.Path.{_≡_, ap, sym, _∙_, subst}
 use mathlib.Core.List.{List}
+use mathlib.Core.Logic.{_⊎_, inl, inr}
+use Rattle.pages.specs.Pages.{heldPage, disputedPage}
 use Prim.Native.Nat.{ℕ, suc, _-_, _≤_}
 use native.Mathlib.Omega.{arith}
 use Rattle.pages.specs.declared.name.Name.{Name}
 use Rattle.pages.proofs.States.{Text, Mark, absent, held, disputed, toPage, toPage-inj, markOf, markOf-same, Says, says, says-unique}
 use Rattle.histories.specs.Soundness.{InRange}
-use Rattle.histories.specs.Frames.{Frame, storeAfter, pageNumbered, SameFrames, Came, Absent, Held, Disputed}
+use Rattle.histories.specs.Frames.{Frame, storeAfter, pageNumbered, SameFrames, SamePages, Came, Absent, Held, Disputed}
 use Rattle.histories.proofs.Frames.StoreStates.{stands-same}
 use Rattle.histories.proofs.Frames.TextsBrought.{texts, in-came, came-in}
 use Rattle.histories.proofs.Frames.Takings.{after-stands}
@@ -62,12 +64,27 @@ module _ (n : Name) (range : InRange n) (fs : List Frame) where
 
 -- ---- order and repeats
 
-same-came : (n : Name) (a b : List Frame) → SameFrames a b → (p : ℕ) (t : Text) → Came n a p t → Came n b p t
-same-came n a b same p t c = (c .0, same .there (c .0) (c .1), c .2)
-
-pub same-frames : (n : Name) (a b : List Frame) → InRange n → SameFrames a b → storeAfter n a ≡ storeAfter n b
-same-frames n a b range same =
+-- a store goes by what its frames bring
+pub same-pages : (n : Name) (a b : List Frame) → InRange n → SamePages n a b → storeAfter n a ≡ storeAfter n b
+same-pages n a b range same =
     stands-same (storeAfter n a) (storeAfter n b) n _ _ (after-stands n range a) (after-stands n range b)
     (λ i h. markOf-same (texts n range (suc i) a) (texts n range (suc i) b)
-    (λ t k. came-in n range (suc i) b t (same-came n a b same (suc i) t (in-came n range (suc i) a t k)))
-    (λ t k. came-in n range (suc i) a t (same-came n b a (record { there = same .back; back = same .there }) (suc i) t (in-came n range (suc i) b t k))))
+    (λ t k. came-in n range (suc i) b t (same .there (suc i) t (in-came n range (suc i) a t k)))
+    (λ t k. came-in n range (suc i) a t (same .back (suc i) t (in-came n range (suc i) b t k))))
+
+pub frames-bring : (n : Name) (a b : List Frame) → SameFrames a b → SamePages n a b
+frames-bring n a b same = record { there = λ p t c. (c .0, same .there (c .0) (c .1), c .2); back = λ p t c. (c .0, same .back (c .0) (c .1), c .2) }
+
+-- ---- a held text
+
+-- where more frames come, a page that was held with a text is held with it, or disputed
+pub held-on : (n : Name) (a b : List Frame) (p : ℕ) (t : Text) → InRange n → ((u : Text) → Came n a p u → Came n b p u) → 1 ≤ p → p ≤ n .total
+    → pageNumbered (storeAfter n a) p ≡ heldPage t → (pageNumbered (storeAfter n b) p ≡ heldPage t) ⊎ (pageNumbered (storeAfter n b) p ≡ disputedPage)
+held-on n a b p t range more low high e =
+    let came : Came n b p t = more t (told-page n range a p (held t) low high e .came) in
+    by came (markFor n range b p) (tells n range b p)
+  where
+    by : Came n b p t → (m : Mark) → Tells n range b p m → (pageNumbered (storeAfter n b) p ≡ heldPage t) ⊎ (pageNumbered (storeAfter n b) p ≡ disputedPage)
+    by c absent h = absurd (h t c)
+    by c (held u) h = inl (page-told n range b p (held u) low high h ∙ ap heldPage (sym (h .alone t c)))
+    by c disputed h = inr (page-told n range b p disputed low high h)

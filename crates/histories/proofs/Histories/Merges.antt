@@ -6,7 +6,11 @@ use Prim.Native.Nat.{ℕ, suc, _<_}
 use lib.ListN.{length}
 use Rattle.rows.specs.declared.refusal.Verdict.{Verdict}
 use Rattle.rows.specs.declared.refusal.Verdict.the-variants.{Fine, Refused}
-use Rattle.rows.proofs.Rules.Outcomes.{both-fine, fine-both, unless-true, unless-fine}
+use Rattle.rows.proofs.Rules.Outcomes.{both-fine, fine-both, not-both, then-fine, unless-true, unless-fine}
+use Rattle.rows.proofs.Rules.Ordered.{question, unquestioned}
+use Rattle.rows.specs.declared.refusal.Refusal.{Refusal}
+use Rattle.rows.specs.declared.refusal.Refusal.the-variants.{OtherBulletin, Unsound}
+use Rattle.rows.specs.Runs.Questions.{_then_, unless}
 use Rattle.pages.specs.declared.name.Name.{Name}
 use Rattle.bulletin.specs.declared.store.Store.{Store}
 use Rattle.bulletin.specs.declared.merge.Merging.{Merging}
@@ -17,13 +21,13 @@ use Rattle.bulletin.specs.Merges.{mergeVerdict, joinedStores, merging, mergeOf}
 use Rattle.pages.proofs.States.{Mark, toPage, joinM, joinM-comm, joinM-assoc, joinM-idem, markOf, markOf-append}
 use Rattle.bulletin.proofs.Taking.HeldTexts.{joined-held}
 use Rattle.histories.specs.Soundness.{InRange, Sound}
-use Rattle.histories.specs.Frames.{Frame, storeAfter, SameFrames}
-use Rattle.histories.specs.Merging.{Tree, receiver, merge, treeStore, allFrames}
+use Rattle.histories.specs.Frames.{Frame, storeAfter, SamePages}
+use Rattle.histories.specs.Merging.{Tree, receiver, merge, treeStore, allFrames, WhyNotMerged}
 use Rattle.histories.proofs.Soundness.Tested.{tested-sound, sound-tested}
 use Rattle.histories.proofs.Frames.StoreStates.{Stands, markIn, marksOf, held-mark, stands-same, stands-sound, sound-stands, joined-stands}
 use Rattle.histories.proofs.Frames.TextsBrought.{same-name, name-same, texts, texts-append}
 use Rattle.histories.proofs.Frames.Takings.{after-stands}
-use Rattle.histories.proofs.Frames.PageStates.{same-frames}
+use Rattle.histories.proofs.Frames.PageStates.{same-pages}
 
 -- a merge that is not refused
 abbrev pub fineMerge : Store → Merging
@@ -106,6 +110,24 @@ held-kept a b la lb i t h e = by (mergeVerdict a b) refl
         (merged-stands a b (parts .0) (parts .1) la lb (parts .2) .page i h
         ∙ ap (λ (m : Mark). toPage (joinM m (marksOf b i))) (ap markIn e ∙ held-mark t))
 
+-- ---- why a merge is refused
+
+told-verdict : (v : Verdict) (a b : Store) → merging v a b .answer ≡ v
+told-verdict Fine a b = refl
+told-verdict (Refused x) a b = refl
+
+pub merge-reason : (a b : Store) (x : Refusal) → mergeOf a b .answer ≡ Refused x → WhyNotMerged a b x
+unfolding mergeVerdict
+merge-reason a b x e =
+    let last : Verdict = unless (sameName (a .name) (b .name)) OtherBulletin in
+    let asked = question (soundStore a) (Sound a) Unsound (tested-sound a) (sound-tested a)
+    (question (soundStore b) (Sound b) Unsound (tested-sound b) (sound-tested b)
+    (question (sameName (a .name) (b .name)) (a .name ≡ b .name) OtherBulletin (same-name (a .name) (b .name))
+    (λ n. ap (λ (m : Name). sameName (a .name) m) (sym n) ∙ name-same (a .name)) (unquestioned Fine)))
+    in
+    let whole = ap (λ (v : Verdict). unless (soundStore a) Unsound then unless (soundStore b) Unsound then v) (then-fine last) in
+    asked .refused x ⊥ (whole ∙ sym (told-verdict (mergeVerdict a b) a b) ∙ e) (λ z. not-both Fine x refl z)
+
 -- ---- over frames
 
 module _ (n : Name) (range : InRange n) where
@@ -131,5 +153,5 @@ module _ (n : Name) (range : InRange n) where
   tree-after (merge a b) =
       (λ j. mergeOf (tree-after a j) (tree-after b j) .store) ∙ ap (λ (m : Merging). m .store) (merge-after (allFrames a) (allFrames b))
 
-  pub same-trees : (a b : Tree) → SameFrames (allFrames a) (allFrames b) → treeStore n a ≡ treeStore n b
-  same-trees a b same = tree-after a ∙ same-frames n (allFrames a) (allFrames b) range same ∙ sym (tree-after b)
+  pub same-trees : (a b : Tree) → SamePages n (allFrames a) (allFrames b) → treeStore n a ≡ treeStore n b
+  same-trees a b same = tree-after a ∙ same-pages n (allFrames a) (allFrames b) range same ∙ sym (tree-after b)

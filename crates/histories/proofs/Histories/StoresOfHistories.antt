@@ -13,8 +13,13 @@ use Rattle.bulletin.specs.Stores.{soundStore, ShapedStore}
 use Rattle.bulletin.specs.Takings.{takeOf}
 use Rattle.bulletin.specs.Merges.{mergeVerdict, joinedStores, merging, mergeOf}
 use Rattle.histories.specs.Soundness.{InRange, Sound}
-use Rattle.histories.specs.Frames.{Frame, takes, storeAfter}
-use Rattle.histories.specs.Histories.{History, opened, took, merged, met, refused, historyStore, framesOf}
+use mathlib.Core.Logic.{_⊎_, inl, inr, ⊎-elim}
+use Prim.Native.Nat.{ℕ, _≤_}
+use Rattle.report.specs.declared.record.Record.{Record}
+use Rattle.pages.specs.Pages.{heldPage, disputedPage}
+use Rattle.histories.specs.Frames.{Frame, takes, storeAfter, pageNumbered, Among, Came}
+use Rattle.histories.proofs.Frames.PageStates.{held-on}
+use Rattle.histories.specs.Histories.{History, opened, took, merged, met, refused, historyStore, framesOf, GoesOn, there, taking, merging as merging-on, meeting, refusing}
 use Rattle.histories.proofs.Soundness.Tested.{tested-sound, sound-tested}
 use Rattle.histories.proofs.Frames.TextsBrought.{same-name, name-same}
 use Rattle.histories.proofs.Histories.Merges.{fine-merged, after-sound, after-name, joined-after, merge-after}
@@ -68,3 +73,22 @@ module _ (n : Name) (range : InRange n) where
       by true e true f =
           let g = sound-given s (tested-sound s e) shape in
           (met h s (g .0) (g .2 ∙ ap (λ (x : Name). storeAfter x (g .0)) (same-name (s .name) n f)), refl)
+
+  -- ---- a history that goes on has the frames of the first among its own
+
+  among-first : (r : Record) (a b : List Frame) → Among r a → Among r (a ++ b)
+  among-first r [] b h = absurd h
+  among-first r (f ∷ a) b h = ⊎-elim (λ e. inl e) (λ k. inr (among-first r a b k)) h
+
+  came-on : (h : History n) {k : History n} → GoesOn h k → (p : ℕ) (t : List ℕ) → Came n (framesOf h) p t → Came n (framesOf k) p t
+  came-on h there p t c = c
+  came-on h (taking {k} f g) p t c = let d = came-on h g p t c in (d .0, among-first (d .0) (framesOf k) (f ∷ []) (d .1), d .2)
+  came-on h (merging-on {k} m g) p t c = let d = came-on h g p t c in (d .0, among-first (d .0) (framesOf k) (framesOf m) (d .1), d .2)
+  came-on h (meeting {k} s frames e g) p t c = let d = came-on h g p t c in (d .0, among-first (d .0) (framesOf k) frames (d .1), d .2)
+  came-on h (refusing s e g) p t c = came-on h g p t c
+
+  pub held-from-then-on : (h k : History n) → GoesOn h k → (p : ℕ) (t : List ℕ) → 1 ≤ p → p ≤ n .total → pageNumbered (historyStore h) p ≡ heldPage t
+      → (pageNumbered (historyStore k) p ≡ heldPage t) ⊎ (pageNumbered (historyStore k) p ≡ disputedPage)
+  held-from-then-on h k g p t low high e =
+      subst (λ (s : Store). (pageNumbered s p ≡ heldPage t) ⊎ (pageNumbered s p ≡ disputedPage)) (sym (history-after k))
+      (held-on n (framesOf h) (framesOf k) p t range (came-on h g p) low high (ap (λ (s : Store). pageNumbered s p) (sym (history-after h)) ∙ e))

@@ -1,7 +1,7 @@
 -- A page that came twice does not stand for another.
 use mathlib.Core.Path.{_≡_, refl, sym, _∙_, subst}
 use mathlib.Core.Logic.{inl, inr, ⊎-elim}
-use Prim.Native.Nat.{ℕ}
+use Prim.Native.Nat.{ℕ, _≤_}
 use native.Mathlib.Omega.{arith}
 use lib.ListN.{replicate}
 use Rattle.report.specs.declared.record.Record.{Record}
@@ -13,14 +13,14 @@ use Rattle.pages.proofs.States.{Text}
 use Rattle.histories.specs.Soundness.{InRange}
 use Rattle.histories.specs.Frames.{storeAfter, Among, Brings, Came, Held, Disputed, AllTaken}
 use Rattle.histories.specs.Reports.{none, one-more, no-more, LowestWithout, IsHeld, TellsNothing}
-use Rattle.histories.specs.Examples.{ofTwoPages, exampleFrame, cameTwice}
+use Rattle.histories.specs.Examples.{ofTwoPages, framePaged, cameTwice}
 use Rattle.histories.proofs.Frames.TextsBrought.{same-page}
 use Rattle.histories.proofs.Histories.PageFrames.{frame-brings}
 use Rattle.histories.proofs.Soundness.KeptRules.{all-alike}
 use Rattle.histories.proofs.Reports.Reported.{reported, reported-once}
 use Rattle.histories.proofs.Reports.TextFromFrames.{no-text}
 
-in-range : InRange ofTwoPages
+pub in-range : InRange ofTwoPages
 in-range = record {
   rc = inr refl;
   month = (omega arith, omega arith);
@@ -32,13 +32,16 @@ in-range = record {
   total = (omega arith, omega arith);
 }
 
-abbrev letters : Text
+abbrev pub letters : Text
 letters = replicate 18 65
 
-first-brings : Brings ofTwoPages (exampleFrame .came) 1 letters
-first-brings = frame-brings ofTwoPages in-range 1 letters (omega arith) (omega arith) (all-alike 65 (omega arith))
+pub page-brings : (p : ℕ) → 1 ≤ p → p ≤ 2 → Brings ofTwoPages (framePaged p .came) p letters
+page-brings p low high = frame-brings ofTwoPages in-range p letters low high (all-alike 65 (omega arith))
 
-only-first : (r : Record) → Among r cameTwice → r ≡ exampleFrame .came
+first-brings : Brings ofTwoPages (framePaged 1 .came) 1 letters
+first-brings = page-brings 1 (omega arith) (omega arith)
+
+only-first : (r : Record) → Among r cameTwice → r ≡ framePaged 1 .came
 only-first r h = ⊎-elim (λ e. e) (λ k. ⊎-elim (λ e. e) (λ z. absurd z) k) h
 
 pub all-taken : AllTaken ofTwoPages cameTwice
@@ -46,11 +49,11 @@ all-taken r h = (1, subst (λ (x : Record). Brings ofTwoPages x 1 (x .text)) (sy
 
 only-page-one : (p : ℕ) (t : Text) → Came ofTwoPages cameTwice p t → (p ≡ 1) × (t ≡ letters)
 only-page-one p t c =
-    let b : Brings ofTwoPages (exampleFrame .came) p t = subst (λ (x : Record). Brings ofTwoPages x p t) (only-first (c .0) (c .1)) (c .2) in
-    (same-page ofTwoPages (exampleFrame .came) p 1 t letters b first-brings, sym (b .text))
+    let b : Brings ofTwoPages (framePaged 1 .came) p t = subst (λ (x : Record). Brings ofTwoPages x p t) (only-first (c .0) (c .1)) (c .2) in
+    (same-page ofTwoPages (framePaged 1 .came) p 1 t letters b first-brings, sym (b .text))
 
 first-held : Held ofTwoPages cameTwice 1 letters
-first-held = record { came = (exampleFrame .came, inl refl, first-brings); alone = λ u c. only-page-one 1 u c .1 }
+first-held = record { came = (framePaged 1 .came, inl refl, first-brings); alone = λ u c. only-page-one 1 u c .1 }
 
 second-not-held : IsHeld ofTwoPages cameTwice 2 → ⊥
 second-not-held h = omega (arith, only-page-one 2 (h .0) (h .1 .came) .0)

@@ -52,7 +52,7 @@ not-allowed ss v n = by (allowed ss v) refl
 pub in-below : (n : ℕ) (ss : List Span) (v : ℕ) → allBelow n ss ≡ true → In ss v → v < n
 in-below n [] v b h = absurd h
 in-below n ((lo to hi) ∷ ss) v b h =
-    let q = and-both (ltb hi n) (allBelow n ss) b in
+    let q = and-both (ltb hi n) (allBelow n ss) (and-both (leb lo hi) (ltb hi n && allBelow n ss) b .1) in
     ⊎-elim (λ k. lt-of-le-of-lt (k .1) (ltb-true hi n (q .0))) (λ k. in-below n ss v (q .1) k) h
 
 -- ---- single codes, as a `match` has them
