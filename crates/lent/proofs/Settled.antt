@@ -24,9 +24,6 @@ put-byte-is-settled κs a x y = place-and-buffer of-three
 pub put-bytes-is-settled : Settled lent.put_bytes.ended lent.put_bytes.Reads.Post
 put-bytes-is-settled κs a x y = place-and-buffer of-three
 
-pub put-zeros-is-settled : Settled lent.put_zeros.ended lent.put_zeros.Reads.Post
-put-zeros-is-settled κs a x y = place-and-buffer of-three
-
 pub put-wide-is-settled : Settled lent.put_wide.ended lent.put_wide.Reads.Post
 put-wide-is-settled κs a x y = place-and-buffer of-four
 

@@ -1,10 +1,9 @@
 -- A number in n bytes.
 use mathlib.Core.Path.{_≡_, refl, sym, ap, _∙_}
 use Prim.Native.Nat.{ℕ, zero, suc, _-_, _*_, _/_, _%_, _^_, _≤_, _<_}
-use mathlib.Core.List.{_∷_}
-use native.Mathlib.Nat.{pow-le-pow-right, div-eq-of-lt, zero-div}
+use native.Mathlib.Nat.{pow-le-pow-right, div-eq-of-lt}
 use native.Mathlib.Omega.{arith}
-use lib.ListN.{length, getD, replicate}
+use lib.ListN.{length, getD}
 use Rattle.lent.specs.Numbers.{wide}
 
 pub length-wide : (n v : ℕ) → length (wide n v) ≡ n
@@ -15,11 +14,6 @@ length-wide (suc n) v = ap suc (length-wide n v)
 pub byte-of-wide : (n v k : ℕ) → k < n → getD (wide n v) k 0 ≡ v / 2 ^ (8 * (n - 1 - k)) % 256
 byte-of-wide (suc n) v zero h = ap (λ (e : ℕ). v / 2 ^ (8 * e) % 256) (omega arith)
 byte-of-wide (suc n) v (suc k) h = byte-of-wide n v k (omega arith) ∙ ap (λ (e : ℕ). v / 2 ^ (8 * e) % 256) (omega arith)
-
--- the number 0 is zeros
-pub wide-zero : (n : ℕ) → wide n 0 ≡ replicate n 0
-wide-zero zero = refl
-wide-zero (suc n) = λ i. zero-div (2 ^ (8 * n)) i % 256 ∷ wide-zero n i
 
 -- a number of 64 bits has no byte with eight or more behind it
 pub no-byte : (v n : ℕ) → v < 2 ^ 64 → 8 ≤ n → 0 ≡ v / 2 ^ (8 * n) % 256

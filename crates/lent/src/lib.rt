@@ -7,4 +7,3 @@ pub use put::put_byte;
 pub use put::put_bytes;
 pub use put::put_decimal;
 pub use put::put_wide;
-pub use put::put_zeros;

@@ -1,6 +1,5 @@
 // What is put into a lent buffer, from the byte `at` on.
 ghost use mathlib.Core.List.{[], _∷_};
-ghost use lib.ListN.{replicate};
 ghost use Rattle.lent.specs.Numbers.{decimal, wide};
 ghost use Rattle.lent.specs.Writing.{Wrote};
 use crate::number::byte_of;
@@ -46,13 +45,6 @@ pub fn put_wide(out: &mut [u8], at: usize, count: usize, value: u64) -> usize
         k += 1;
     }
     next
-}
-
-// So many zeros: the number 0 in as many bytes.
-pub fn put_zeros(out: &mut [u8], at: usize, count: usize) -> usize
-    ensures { λ r. ⌜ Wrote (now (out .entry)) (now (out .exit)) at r (replicate count 0) ⌝ }
-{
-    put_wide(out, at, count, 0)
 }
 
 // The number in decimal digits.

@@ -1,6 +1,9 @@
 -- Fields one behind the other, each in the bytes that its width asks for: put, and read back.
 use mathlib.Core.Path.{_≡_, refl, sym, ap, _∙_}
 use Prim.Native.Nat.{ℕ, zero, suc, _+_, _*_, _/_, _%_, _^_, _≤_, _<_}
+use mathlib.Core.Bool.{Bool, cond, false, true}
+use lib.Dec.{eqb, leb}
+use borrow.Author.Tests.{eqb-true, leb-true}
 use native.Mathlib.Nat.{mod-eq-of-lt}
 use native.Mathlib.Numerals.{add-one}
 use native.Mathlib.Omega.{arith}
@@ -14,6 +17,7 @@ use Rattle.bits.proofs.Windows.{narrower}
 use Rattle.bits.proofs.Claims.{decoded-then-encoded}
 use Rattle.lent.specs.Numbers.{wide}
 use Rattle.lent.specs.Writing.{Wrote}
+use Rattle.lent.proofs.Wide.{length-wide}
 use Rattle.lent.proofs.Chains.{_then_}
 use Rattle.rows.specs.Values.{each}
 use Rattle.rows.specs.Runs.Fields.{bytesFor}
@@ -22,10 +26,6 @@ use Rattle.record_bytes.specs.Unpacked.{cellsAt, numberAt, size}
 use Rattle.record_bytes.proofs.FromBytes.Places.{each-same}
 
 -- ---- a number in its bytes
-
-length-wide : (n v : ℕ) → length (wide n v) ≡ n
-length-wide zero v = refl
-length-wide (suc n) v = ap suc (length-wide n v)
 
 total-bytes : (n : ℕ) → total (replicate n 8) ≡ 8 * n
 total-bytes zero = refl
@@ -197,7 +197,7 @@ bytes-taken (suc n) [] b i = omega arith
 bytes-taken (suc n) (x ∷ l) b zero = b 0
 bytes-taken (suc n) (x ∷ l) b (suc i) = bytes-taken n l (λ j. b (suc j)) i
 
-pub number-fits : (l : List ℕ) (k n : ℕ) → Bytes l → k + n ≤ length l → numberAt l k n < 2 ^ (8 * n)
+number-fits : (l : List ℕ) (k n : ℕ) → Bytes l → k + n ≤ length l → numberAt l k n < 2 ^ (8 * n)
 number-fits l k n b h =
     let long : length (take n (drop k l)) ≡ n = length-take-le n (drop k l) (rw (length-drop k l) (omega arith)) in
     rw long at (number-lt (take n (drop k l)) (bytes-taken n (drop k l) (λ i. rw (getD-drop k l i 0) (b (k + i)))))
@@ -223,3 +223,15 @@ number-next l at k h =
 -- seven bytes at most are read where there is one to come
 pub seven-bytes : (l : List ℕ) (at k : ℕ) → Bytes l → at + k ≤ length l → k ≤ 7 → numberAt l at k < 2 ^ 56
 seven-bytes l at k b h s = narrower (numberAt l at k) (8 * k) 56 (number-fits l at k b h) (omega arith)
+
+-- ---- a field has room in its bytes
+
+pub has-room : (w : ℕ) → w ≤ 64 → w ≤ 8 * bytesFor w
+has-room w h = by (eqb w 0) (leb w 8) (leb w 16) (leb w 32) refl refl refl refl
+  where
+    by : (a b c d : Bool) → eqb w 0 ≡ a → leb w 8 ≡ b → leb w 16 ≡ c → leb w 32 ≡ d → w ≤ 8 * cond a 0 (cond b 1 (cond c 2 (cond d 4 8)))
+    by true b c d p q r s = omega (arith, eqb-true w 0 p)
+    by false true c d p q r s = omega (arith, leb-true w 8 q)
+    by false false true d p q r s = omega (arith, leb-true w 16 r)
+    by false false false true p q r s = omega (arith, leb-true w 32 s)
+    by false false false false p q r s = omega (arith, h)

@@ -1,7 +1,7 @@
 -- What this crate claims of its definitions. Each is proved in the file that its last line names.
 use mathlib.Core.Path.{_≡_}
 use mathlib.Core.Bool.{true}
-use Prim.Native.Nat.{ℕ}
+use Prim.Native.Nat.{ℕ, _*_, _≤_}
 use mathlib.Core.List.{List}
 use lib.ListN.{length, getD}
 use Rattle.rows.specs.declared.refusal.Verdict.the-variants.{Refused}
@@ -12,6 +12,8 @@ use Rattle.report.specs.Runs.Writing.{known, writeAnswer}
 use Rattle.record_bytes.specs.Packed.{packed}
 use Rattle.record_bytes.specs.Unpacked.{bodyInBytes, stray, unpacked}
 use Rattle.report.specs.Categories.{preambles}
+use Rattle.rows.specs.Runs.Fields.{bytesFor}
+use Rattle.record_bytes.proofs.Cells as Cells
 use Rattle.record_bytes.proofs.ToBytes.Whole as Whole
 use Rattle.record_bytes.proofs.RoundTrip as RoundTrip
 use Rattle.record_bytes.proofs.FromBytes.Refused as Refusing
@@ -32,3 +34,7 @@ packed-then-unpacked = RoundTrip.back
 pub stray-bytes-are-refused : (l : List ℕ) → stray (bodyInBytes l) l ≡ true → allowed preambles (getD l 1 0) ≡ true → known (bodyInBytes l) ≡ true
     → writeAnswer (unpacked l) 32 ≡ Refused Unused
 stray-bytes-are-refused = Refusing.stray-refused
+
+-- What a field's bits can hold, its bytes can hold, whatever category has it.
+pub each-field-has-room-in-its-bytes : (w : ℕ) → w ≤ 64 → w ≤ 8 * bytesFor w
+each-field-has-room-in-its-bytes = Cells.has-room

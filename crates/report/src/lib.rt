@@ -3,7 +3,7 @@
 // pages of a bulletin and listing files is for the crates above.
 pub mod body; // what each category has
 pub mod record; // what a frame says
-mod codes; // which preambles and categories there are
+mod codes; // which preambles there are
 pub mod check; // the rules, on values
 mod tidy; // nothing stands where the category has nothing
 mod encode; // a record as bits

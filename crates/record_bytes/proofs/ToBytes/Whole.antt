@@ -31,7 +31,7 @@ sides-long b =
     ∙ (λ i. length-cells (widths (l .front)) (v .front) (length-map (l .front) (λ r. r .width) ∙ sym (filled .0)) i
     + length-cells (widths (l .behind)) (v .behind) (length-map (l .behind) (λ r. r .width) ∙ sym (filled .1)) i)
 
-pub sides-fit : (b : Body) → length (sidesBytes (layout b) (sidesOf b 0 0)) ≤ 32
+sides-fit : (b : Body) → length (sidesBytes (layout b) (sidesOf b 0 0)) ≤ 32
 sides-fit b = rw (sides-long b) (fields-fit b)
 
 pub length-body : (b : Body) → length (bodyBytes b) ≡ 32
@@ -48,7 +48,7 @@ zeros-left n zero = let same : n ≡ n - 0 = omega arith in ap (λ (m : ℕ). re
 zeros-left zero (suc k) = let same : 0 ≡ 0 - suc k = omega arith in ap (λ (m : ℕ). replicate m 0) same
 zeros-left (suc n) (suc k) = let same : n - k ≡ suc n - suc k = omega arith in zeros-left n k ∙ ap (λ (m : ℕ). replicate m 0) same
 
-pub put-into-zeros : (t : List ℕ) → length t ≤ 32 → sets (replicate 32 0) 0 t ≡ zeroFilled 32 t
+put-into-zeros : (t : List ℕ) → length t ≤ 32 → sets (replicate 32 0) 0 t ≡ zeroFilled 32 t
 put-into-zeros t h =
     let at : 0 + length t ≡ length t = omega arith in
     sets-eq t (replicate 32 0) 0 (omega (arith, h)) ∙ ap (λ (n : ℕ). t ++ drop n (replicate 32 0)) at ∙ ap (λ (z : List ℕ). t ++ z) (zeros-left 32 (length t))
