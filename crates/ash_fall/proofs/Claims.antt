@@ -1,12 +1,10 @@
 -- What is claimed of what a place says.
 use mathlib.Core.Path.{_≡_, refl}
 use mathlib.Core.Bool.{Bool, true, false, _&&_, cond}
-use Prim.Native.Nat.{ℕ, _/_, _≤_, _<_}
+use Prim.Native.Nat.{ℕ, _/_, _≤_}
 use native.Mathlib.Omega.{arith}
 use lib.Dec.{leb}
-use Rattle.rows.proofs.Rules.Spans.{in-span, span-in}
-use Rattle.rows.proofs.Rules.Outcomes.{false-not-true}
-use Rattle.ash_fall.specs.declared.meaning.Prefecture.{Prefecture}
+use Rattle.rows.proofs.Rules.Spans.{in-span, span-in, span-out}
 use Rattle.ash_fall.specs.declared.meaning.Prefecture.the-variants.{Number, Nowhere}
 use Rattle.ash_fall.specs.Meaning.{prefectureOf}
 
@@ -28,6 +26,10 @@ unfolding prefectureOf
 each-place-has-a-prefecture place low high = simp (span-in 100000 4799999 place (low, high))
 
 -- .. and none that lies elsewhere has: not "an empty slot named by the first row of a table"
+pub no-other-place-has-a-prefecture : (place : ℕ) → ((100000 ≤ place) × (place ≤ 4799999) → ⊥) → prefectureOf place ≡ Nowhere
+unfolding prefectureOf
+no-other-place-has-a-prefecture place out = simp (span-out 100000 4799999 place out)
+
 pub an-empty-slot-names-none : prefectureOf 0 ≡ Nowhere
 unfolding prefectureOf
 an-empty-slot-names-none = refl

@@ -1,9 +1,8 @@
 -- What is proved of the page store, by sentence of document 01.
 use mathlib.Core.Path.{_≡_, refl, ap, sym, _∙_}
-use mathlib.Core.Logic.{_⊎_}
+use mathlib.Core.Logic.{_⊎_, inl, inr}
 use mathlib.Core.Bool.{Bool, true, false, cond}
 use native.Mathlib.Omega.{arith}
-use lib.Dec.{eqb}
 use mathlib.Core.List.{List}
 use Prim.Native.Nat.{ℕ, _-_, _<_}
 use lib.ListN.{length}
@@ -17,22 +16,25 @@ use Rattle.rows.specs.declared.refusal.Verdict.the-variants.{Fine, Refused}
 use Rattle.pages.specs.declared.name.Name.{Name}
 use Rattle.bulletin.specs.declared.store.Store.{Store}
 use Rattle.bulletin.specs.declared.take.Admission.{Admission}
-use Rattle.pages.specs.Pages.{join, heldPage, disputedPage}
+use Rattle.pages.specs.Pages.{heldPage, disputedPage}
 use Rattle.nankai.specs.Nankai.{nankai}
 use Rattle.rows.specs.Faults.{Lowest}
 use Rattle.pages.specs.Names.{nameVerdict, sameName, nameValues}
 use Rattle.bulletin.specs.Stores.{noPages, zeroStore, opening, openOf, soundStore, pageBehind}
-use Rattle.bulletin.specs.Takings.{takingAnswer, bulletinOf, pageNumberIn, writable, admission, putPage, taking, takeOf}
+use Rattle.bulletin.specs.Takings.{bulletinOf, pageNumberIn, writable, admission, putPage, taking, takeOf, takenSays}
 use Rattle.bulletin.specs.Merges.{mergeVerdict, merging, mergeOf}
 use Rattle.bulletin.specs.Counts.{countMarked, countOf, lowestNotHeld}
 use Rattle.bulletin.specs.declared.count.Count.{Count}
 use Rattle.rows.proofs.Rules.Outcomes.{not-both}
+use Rattle.report.proofs.Claims.{refusals-are-1-to-17}
 use Rattle.bulletin.proofs.Taking.TakingOutcomes.{of-bulletin, writable-record}
 use Rattle.pages.proofs.Ranges.{first-bad-value}
+use Rattle.bulletin.proofs.Taking.TakenOrRefused.{put-answer}
 use Rattle.bulletin.proofs.Taking.HeldTexts.{taking-keeps}
 use Rattle.report.specs.declared.body.Body.the-variants.{Nankai}
 use Rattle.report.specs.Categories.{pagedOf}
 use Rattle.bulletin.specs.declared.take.Admission.the-variants.{Number, Refused as NotAdmitted}
+use Rattle.bulletin.specs.declared.take.Taken.{Taken}
 use Rattle.bulletin.specs.declared.take.Taken.the-variants.{New, Same, Disputed, Refused as RefusedTaking}
 
 -- "So every name in range is opened": without a page
@@ -53,18 +55,20 @@ unfolding taking
 a-refused-taking-leaves-the-store s r x e = ap (λ (a : Admission). taking a s (r .text) .store) e
 
 -- the same, told by the answer
-not-a-refusal : (b c : Bool) (x : Refusal) → cond b New (cond c Same Disputed) ≡ RefusedTaking x → ⊥
-not-a-refusal true c x e = let z : _≡_ {A = ℕ} 0 1 = cc in omega (arith, z)
-not-a-refusal false true x e = let z : _≡_ {A = ℕ} 0 1 = cc in omega (arith, z)
-not-a-refusal false false x e = let z : _≡_ {A = ℕ} 0 1 = cc in omega (arith, z)
-
 pub an-answered-refusal-leaves-the-store : (s : Store) (r : Record) (x : Refusal) → takeOf s r .answer ≡ RefusedTaking x → takeOf s r .store ≡ s
-unfolding taking putPage takingAnswer
+unfolding taking
 an-answered-refusal-leaves-the-store s r x = by (admission s r)
   where
     by : (a : Admission) → taking a s (r .text) .answer ≡ RefusedTaking x → taking a s (r .text) .store ≡ s
-    by (Number k) e = absurd (not-a-refusal (eqb (pageBehind s (k - 1) .mark) 0) (eqb (join (pageBehind s (k - 1)) (heldPage (r .text)) .mark) 1) x e)
+    by (Number k) e = absurd (put-answer s (k - 1) (r .text) x e)
     by (NotAdmitted y) e = refl
+
+-- .. "and answers none of new, same, disputed": what says 0 is one of them, and no refusal says 0
+pub zero-says-that-a-page-was-taken : (t : Taken) → takenSays t .number ≡ 0 → (t ≡ New) ⊎ (t ≡ Same) ⊎ (t ≡ Disputed)
+zero-says-that-a-page-was-taken New e = inl refl
+zero-says-that-a-page-was-taken Same e = inr (inl refl)
+zero-says-that-a-page-was-taken Disputed e = inr (inr refl)
+zero-says-that-a-page-was-taken (RefusedTaking x) e = absurd (omega (arith, refusals-are-1-to-17 x .0, e))
 
 -- "a refused merge [gives] the first store as given"
 pub a-refused-merge-gives-the-first : (s o : Store) (x : Refusal) → mergeVerdict s o ≡ Refused x → mergeOf s o .store ≡ s

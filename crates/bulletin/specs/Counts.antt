@@ -5,6 +5,9 @@ use Prim.Native.Nat.{ℕ, suc}
 use lib.Dec.{eqb, ltb}
 use Rattle.rows.specs.declared.refusal.Verdict.the-variants.{Fine, Refused}
 use Rattle.rows.specs.declared.refusal.Refusal.the-variants.{Unsound}
+use Rattle.rows.specs.declared.refusal.Said.{Said}
+use Rattle.rows.specs.Refusals.{answers}
+use Rattle.rows.specs.Runs.Questions.{unless}
 use Rattle.pages.specs.declared.page.Page.{Page}
 use Rattle.bulletin.specs.declared.store.Store.{Store}
 use Rattle.bulletin.specs.declared.count.Count.{Count}
@@ -26,3 +29,7 @@ countOf s =
     cond (soundStore s)
     (record { answer = Fine; held = countMarked 1 (s .pages); disputed = countMarked 2 (s .pages); lowest = lowestNotHeld (s .name .total) 0 (s .pages) })
     (record { answer = Refused Unsound; held = 0; disputed = 0; lowest = 0 })
+
+-- what the report says, in the paper's numbers
+abbrev pub countSays : Store → Said
+countSays s = answers (unless (soundStore s) Unsound)

@@ -3,6 +3,8 @@ use mathlib.Core.List.{List, [], _∷_}
 use Rattle.rows.specs.declared.refusal.Verdict.{Verdict}
 use Rattle.rows.specs.declared.refusal.Verdict.the-variants.{Fine, Refused}
 use Rattle.rows.specs.declared.refusal.Refusal.the-variants.{OtherBulletin, Unsound}
+use Rattle.rows.specs.declared.refusal.Said.{Said}
+use Rattle.rows.specs.Refusals.{answers}
 use Rattle.rows.specs.Runs.Questions.{_then_, unless}
 use Rattle.pages.specs.declared.page.Page.{Page}
 use Rattle.bulletin.specs.declared.store.Store.{Store}
@@ -14,6 +16,10 @@ use Rattle.bulletin.specs.Stores.{soundStore}
 unfoldable pub mergeVerdict : Store → Store → Verdict
 mergeVerdict s o =
     unless (soundStore s) Unsound then unless (soundStore o) Unsound then unless (sameName (s .name) (o .name)) OtherBulletin
+
+-- what merging says, in the paper's numbers
+abbrev pub mergeSays : Store → Store → Said
+mergeSays s o = answers (mergeVerdict s o)
 
 unfoldable pub joins : List Page → List Page → List Page
 joins [] qs = []

@@ -6,18 +6,11 @@ use Rattle.rows.specs.Runs.Questions.{unless}
 use Rattle.bulletin.specs.declared.store.Store.{Store}
 use Rattle.bulletin.specs.declared.take.Taken.the-variants.{Same, Refused}
 use Rattle.bulletin.specs.declared.take.Taking.{Taking}
-use Rattle.bulletin.specs.declared.take.Admission.{Admission}
-use Rattle.bulletin.specs.declared.take.Admission.the-variants.{Number, Refused as NotAdmitted}
 use Rattle.bulletin.specs.Stores.{soundStore}
 
 -- 14
 unfoldable pub soundness : Store → Verdict
 soundness s = unless (soundStore s) Unsound
-
--- 12, 13
-abbrev pub admissionVerdict : Admission → Verdict
-admissionVerdict (Number k) = Fine
-admissionVerdict (NotAdmitted x) = Refuses x
 
 -- what a step's refusal comes to. No step hands on `Fine`, which is none; a function by value needs an answer there too
 abbrev pub refusedTaking : Verdict → Store → Taking

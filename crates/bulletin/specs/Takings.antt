@@ -8,6 +8,9 @@ use Rattle.report.specs.declared.record.Record.{Record}
 use Rattle.nankai.specs.declared.PageNumbers.{PageNumbers}
 use Rattle.rows.specs.declared.refusal.Verdict.{Verdict}
 use Rattle.rows.specs.declared.refusal.Refusal.the-variants.{NoPage, OtherBulletin, Unsound}
+use Rattle.rows.specs.declared.refusal.Said.{Said}
+use Rattle.rows.specs.Refusals.{plain, says, answers}
+use Rattle.rows.specs.Runs.Questions.{_then_, unless}
 use Rattle.report.specs.Runs.Writing.{writeAnswer}
 use Rattle.pages.specs.declared.page.Page.{Page}
 use Rattle.pages.specs.declared.name.Name.{Name}
@@ -67,3 +70,20 @@ taking (NotAdmitted x) s t = record { answer = Refused x; store = s }
 
 abbrev pub takeOf : Store → Record → Taking
 takeOf s r = taking (admission s r) s (r .text)
+
+-- ---- what taking says, in the paper's numbers
+
+-- a taken record says 0, be it new, the same or disputed: "A refused taking .. answers none of new, same, disputed"
+abbrev pub takenSays : Taken → Said
+takenSays New = plain 0
+takenSays Same = plain 0
+takenSays Disputed = plain 0
+takenSays (Refused x) = says x
+
+abbrev pub admissionVerdict : Admission → Verdict
+admissionVerdict (Number k) = Fine
+admissionVerdict (NotAdmitted x) = Refuses x
+
+-- "14, then what writing that record to 32 bytes would refuse, 12, 13"
+abbrev pub takeSays : Store → Record → Said
+takeSays s r = answers (unless (soundStore s) Unsound then writeAnswer r 32 then admissionVerdict (pageNumberIn (s .name) (r .common) (r .body)))

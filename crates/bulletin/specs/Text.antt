@@ -7,6 +7,8 @@ use lib.Dec.{eqb, ltb}
 use Rattle.rows.specs.declared.refusal.Verdict.{Verdict}
 use Rattle.rows.specs.declared.refusal.Verdict.the-variants.{Fine, Refused}
 use Rattle.rows.specs.declared.refusal.Refusal.the-variants.{Unsound, NotHeld, Short}
+use Rattle.rows.specs.declared.refusal.Said.{Said}
+use Rattle.rows.specs.Refusals.{answers}
 use Rattle.pages.specs.declared.page.Page.{Page}
 use Rattle.bulletin.specs.declared.store.Store.{Store}
 use Rattle.bulletin.specs.declared.text.Telling.{Telling}
@@ -39,6 +41,10 @@ textVerdict s =
 abbrev pub withRoom : Verdict → ℕ → ℕ → Verdict
 withRoom Fine n size = cond (ltb size n) (Refused Short) Fine
 withRoom (Refused x) n size = Refused x
+
+-- what telling the text says, in the paper's numbers
+abbrev pub textSays : Store → ℕ → Said
+textSays s size = answers (withRoom (textVerdict s) (textLengthOf s) size)
 
 abbrev pub textAnswerBy : Verdict → ℕ → Telling
 textAnswerBy Fine n = record { answer = Fine; length = n }

@@ -1,6 +1,7 @@
 // What a store has: how many pages are held, how many are disputed, and the lowest that is not held.
 ghost use mathlib.Core.Path.{_≡_};
-ghost use Rattle.bulletin.specs.Counts.{countMarked, lowestNotHeld, countOf};
+ghost use Rattle.rows.specs.Refusals.{answers};
+ghost use Rattle.bulletin.specs.Counts.{countMarked, lowestNotHeld, countOf, countSays};
 use crate::store::Store;
 use rows::refusal::Refusal;
 use rows::refusal::Verdict;
@@ -51,6 +52,7 @@ impl Store {
 
     pub fn count(self) -> Count
         ensures { λ r. ⌜ r ≡ countOf self ⌝ }
+        ensures { λ r. ⌜ answers (r .answer) ≡ countSays self ⌝ }
     {
         if self.is_sound() {
             return Count {

@@ -1,6 +1,7 @@
 // Two receivers' stores of one bulletin made one.
 ghost use mathlib.Core.Path.{_≡_};
-ghost use Rattle.bulletin.specs.Merges.{joinedStores, mergeVerdict, mergeOf};
+ghost use Rattle.rows.specs.Refusals.{answers};
+ghost use Rattle.bulletin.specs.Merges.{joinedStores, mergeVerdict, mergeOf, mergeSays};
 use crate::store::Store;
 use rows::refusal::Refusal;
 use rows::refusal::Verdict;
@@ -39,6 +40,7 @@ impl Store {
 
     pub fn merge(self, other: Store) -> Merging
         ensures { λ r. ⌜ r ≡ mergeOf self other ⌝ }
+        ensures { λ r. ⌜ answers (r .answer) ≡ mergeSays self other ⌝ }
     {
         let answer = self.merge_verdict(other);
         match answer {

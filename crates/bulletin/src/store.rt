@@ -1,5 +1,7 @@
 // A store of pages, by value: opened for one bulletin, without a page.
 ghost use mathlib.Core.Path.{_≡_};
+ghost use Rattle.rows.specs.Refusals.{answers};
+ghost use Rattle.pages.specs.Names.{nameSays};
 ghost use Rattle.bulletin.specs.Stores.{noPages, zeroStore, openOf, soundStore};
 use pages::name::Name;
 use pages::page::Page;
@@ -42,6 +44,7 @@ impl Store {
 
     pub fn open(name: Name) -> Opening
         ensures { λ r. ⌜ r ≡ openOf name ⌝ }
+        ensures { λ r. ⌜ answers (r .answer) ≡ nameSays name ⌝ }
     {
         let answer = name.verdict();
         match answer {

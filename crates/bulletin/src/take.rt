@@ -1,8 +1,8 @@
 // Taking a record into a store.
 ghost use mathlib.Core.Path.{_≡_};
 ghost use Prim.Native.Nat.{_-_, _≤_};
-ghost use Rattle.bulletin.specs.Takings.{takingAnswer, pageNumberIn, putPage, takeOf};
-ghost use Rattle.bulletin.specs.Steps.{soundness, admissionVerdict, refusedTaking};
+ghost use Rattle.bulletin.specs.Takings.{takingAnswer, pageNumberIn, admissionVerdict, putPage, takeOf, takenSays, takeSays};
+ghost use Rattle.bulletin.specs.Steps.{soundness, refusedTaking};
 use crate::store::Store;
 use pages::name::Name;
 use pages::page::Page;
@@ -119,6 +119,7 @@ impl Store {
     // 14, then what writing to 32 bytes refuses, then 12 and 13: a refusal goes out at once.
     pub fn take(self, came: Record) -> Taking
         ensures { λ r. ⌜ r ≡ takeOf self came ⌝ }
+        ensures { λ r. ⌜ takenSays (r .answer) ≡ takeSays self came ⌝ }
     {
         let name = self.name;
         let text = came.text;

@@ -3,7 +3,8 @@ ghost use mathlib.Core.Path.{_≡_};
 ghost use mathlib.Core.List.{_++_};
 ghost use Prim.Native.Nat.{_<_, _≤_};
 ghost use lib.ListN.{length, getD, take, drop};
-ghost use Rattle.bulletin.specs.Text.{bytesInOrder, textLengthOf, whyNotHeld, textVerdict, textAnswer, textBuffer};
+ghost use Rattle.rows.specs.Refusals.{answers};
+ghost use Rattle.bulletin.specs.Text.{bytesInOrder, textLengthOf, whyNotHeld, textVerdict, textAnswer, textBuffer, textSays};
 use crate::store::Store;
 use pages::page::Page;
 use rows::refusal::Refusal;
@@ -85,6 +86,7 @@ impl Store {
 
     pub fn text(self, out: &mut [u8]) -> Telling
         ensures { λ r. ⌜ (r ≡ textAnswer self (length (now (out .entry)))) × (now (out .exit) ≡ textBuffer self (now (out .entry))) ⌝ }
+        ensures { λ r. ⌜ answers (r .answer) ≡ textSays self (length (now (out .entry))) ⌝ }
     {
         let answer = self.text_verdict();
         match answer {

@@ -8,43 +8,58 @@ use Prim.Native.Nat.{ℕ, _≤_, _<_}
 use lib.ListN.{length, replicate}
 use Rattle.rows.specs.declared.refusal.Verdict.the-variants.{Fine, Refused as Rejected}
 use Rattle.rows.specs.declared.refusal.Refusal.{Refusal}
-use Rattle.rows.specs.declared.refusal.Refusal.the-variants.{NotHeld}
+use Rattle.rows.specs.declared.refusal.Refusal.the-variants.{Unsound, NotHeld}
+use Rattle.rows.specs.Faults.{Met}
 use Rattle.report.specs.declared.record.Record.{Record}
+use Rattle.report.specs.Runs.Writing.{Valid}
 use Rattle.pages.specs.declared.name.Name.{Name}
 use Rattle.bulletin.specs.declared.store.Store.{Store}
 use Rattle.bulletin.specs.declared.count.Count.{Count}
 use Rattle.bulletin.specs.declared.take.Taken.the-variants.{New, Same, Disputed as AnswersDisputed, Refused}
 use Rattle.pages.specs.Pages.{absentPage, heldPage, disputedPage}
-use Rattle.pages.specs.Names.{nameVerdict}
-use Rattle.bulletin.specs.Stores.{soundStore, pageBehind, ShapedStore}
+use Rattle.bulletin.specs.Stores.{noPages, openOf, soundStore, pageBehind, ShapedStore}
 use Rattle.bulletin.specs.Takings.{takeOf}
 use Rattle.bulletin.specs.Counts.{countOf}
 use Rattle.bulletin.specs.Merges.{joinedStores, mergeOf}
+use Rattle.bulletin.specs.Text.{textAnswer}
+use Rattle.bulletin.proofs.Claims.{every-name-in-range-is-opened}
 use Rattle.pages.proofs.States.{absent, held, disputed}
 use Rattle.histories.specs.Soundness.{InRange, Sound}
 use Rattle.histories.specs.Frames.{Frame, storeAfter, pageNumbered, SameFrames, SamePages, Brings, Came, Absent, Held, Disputed, AllTaken}
-use Rattle.histories.specs.Merging.{Tree, treeStore, allFrames, WhyNotMerged}
+use Rattle.histories.specs.Merging.{Tree, treeStore, allFrames}
 use Rattle.histories.specs.Histories.{History, historyStore, framesOf, GoesOn}
-use Rattle.histories.specs.Reports.{LowestWithout, IsHeld, Reports, inOrder, Trimmed, Tells, TellsNothing, NotHeldBecause}
+use Rattle.histories.specs.Reports.{All, LowestWithout, IsHeld, Reports, inOrder, Trimmed, Tells, TellsNothing, NotHeldBecause}
+use Rattle.histories.specs.Reasons.{WhyNotOpened, mergeQuestions, WhyNotMerged, WhyNotReported, pageQuestions, WhyNotTaken, PageHeld, TextOf, TextFits, WhyNotTold}
 use Rattle.histories.specs.Examples.{ofTwoPages, cameTwice, cameBoth}
-use Rattle.histories.proofs.Soundness.NameRanges.{fine-in-range, in-range-fine}
+use Rattle.histories.proofs.Soundness.NameRanges.{in-range-fine}
 use Rattle.histories.proofs.Soundness.Tested.{tested-sound, sound-tested}
 use Rattle.histories.proofs.Frames.PageStates.{told-page, page-told, same-pages, frames-bring}
 use Rattle.histories.proofs.Frames.Answers.{taken-brings, brings-not-refused, answers-new, answers-same, answers-disputed, answers-still-disputed}
-use Rattle.histories.proofs.Histories.Merges.{merge-joins, joined-sound, commutes, associates, repeats, held-kept, after-sound, merge-after, merge-reason, tree-after, same-trees}
+use Rattle.histories.proofs.Histories.Merges.{merge-joins, joined-sound, commutes, associates, repeats, held-kept, after-sound, merge-after, tree-after, same-trees}
 use Rattle.histories.proofs.Histories.FramesForAStore.{sound-given, after-shaped}
-use Rattle.histories.proofs.Histories.StoresOfHistories.{joined-shaped, history-after, history-sound, history-shaped, held-from-then-on, any-store}
+use Rattle.histories.proofs.Histories.StoresOfHistories.{joined-shaped, history-after, history-sound, history-shaped, held-from-then-on, disputed-from-then-on, any-store}
+use Rattle.histories.proofs.Refusals.StoreAnswers.{open-exactly, open-reason, merge-exactly, merge-reason, report-exactly, report-reason, unsound-reported}
+use Rattle.histories.proofs.Refusals.TakingSteps.{take-exactly, take-reason}
+use Rattle.histories.proofs.Refusals.TextSteps.{text-exactly, text-reason, whole-told}
 use Rattle.histories.proofs.Reports.Reported.{reported, reported-once}
 use Rattle.histories.proofs.Reports.Trimming.{trimmed-once}
 use Rattle.histories.proofs.Reports.TextFromFrames.{whole-text, at-most, no-text, missed}
 use Rattle.histories.proofs.Reports.Complete.{complete-reported, complete-told}
 use Rattle.histories.proofs.Reports.OnePageTwice.{all-taken, twice-reported, twice-told}
 
--- ---- sound
+-- ---- opened and sound
 
--- "every name in range is opened", and no other: the test of a name asks each value for its range
-pub opened-exactly-when-in-range : (n : Name) → nameVerdict n ≡ Fine ↔ InRange n
-opened-exactly-when-in-range n = (fine-in-range n, in-range-fine n)
+-- "So every name in range is opened", and no other ..
+pub opened-exactly-when-in-range : (n : Name) → openOf n .answer ≡ Fine ↔ InRange n
+opened-exactly-when-in-range n = open-exactly n
+
+-- .. "it starts with no page"
+pub opened-without-a-page : (n : Name) → InRange n → openOf n ≡ record { answer = Fine; store = noPages n }
+opened-without-a-page n r = every-name-in-range-is-opened n (in-range-fine n r)
+
+-- "Opening: 8 at the first bad value in frame order; the total is 1-63, at bit 207"
+pub opening-refused-for-a-reason : (n : Name) (x : Refusal) → openOf n .answer ≡ Rejected x → WhyNotOpened n x
+opening-refused-for-a-reason n x e = open-reason n x e
 
 -- "A store is sound when its name is in range, each page's state is one of the three, absent and disputed pages hold zero
 -- bytes, and pages past the total are absent": the test of a store, whatever stands in it, asks just that.
@@ -57,6 +72,16 @@ sound-exactly-when-tested s = (tested-sound s, sound-tested s)
 pub taken-exactly-when-a-page-of-the-bulletin : (s : Store) (r : Record) → Sound s
     → ((x : Refusal) → takeOf s r .answer ≡ Refused x → ⊥) ↔ ((p : ℕ) × Brings (s .name) r p (r .text))
 taken-exactly-when-a-page-of-the-bulletin s r h = (taken-brings s r, λ b. brings-not-refused s r (b .0) (r .text) h (b .1))
+
+-- "Taking: 14, then what writing that record to 32 bytes would refuse, 12, 13": the condition of the number fails, and every
+-- earlier one holds ..
+pub taking-refused-for-a-reason : (s : Store) (r : Record) (x : Refusal) → takeOf s r .answer ≡ Refused x → WhyNotTaken s r x
+taking-refused-for-a-reason s r x e = take-reason s r x e
+
+-- .. and where all of them hold, and there alone, it is not refused: "where no row tested by a call applies, the call succeeds"
+pub taken-exactly-when-nothing-is-wrong : (s : Store) (r : Record)
+    → ((x : Refusal) → takeOf s r .answer ≡ Refused x → ⊥) ↔ (Sound s × Valid r × Met (pageQuestions (s .name) r))
+taken-exactly-when-nothing-is-wrong s r = take-exactly s r
 
 -- "Each page from 1 to the total is absent, held with its 18 bytes, or disputed": absent exactly when no frame brought it ..
 pub absent-exactly-when-none-came : (n : Name) (frames : List Frame) (p : ℕ) → InRange n → 1 ≤ p → p ≤ n .total
@@ -126,6 +151,9 @@ sound-stores-are-merged a b p q e = merge-joins a b p q e
 pub merging-refused-for-a-reason : (a b : Store) (x : Refusal) → mergeOf a b .answer ≡ Rejected x → WhyNotMerged a b x
 merging-refused-for-a-reason a b x e = merge-reason a b x e
 
+pub merged-exactly-when-nothing-is-wrong : (a b : Store) → mergeOf a b .answer ≡ Fine ↔ Met (mergeQuestions a b)
+merged-exactly-when-nothing-is-wrong a b = merge-exactly a b
+
 pub merging-keeps-soundness : (a b : Store) → Sound a → Sound b → ShapedStore a → ShapedStore b → a .name ≡ b .name → Sound (joinedStores a b) × ShapedStore (joinedStores a b)
 merging-keeps-soundness a b p q x y e = (joined-sound a b p q (x .long) (y .long) e, joined-shaped a b p q x y e)
 
@@ -178,6 +206,11 @@ pub a-held-text-is-never-replaced : (n : Name) (h k : History n) (p : ℕ) (t : 
     → (pageNumbered (historyStore k) p ≡ heldPage t) ⊎ (pageNumbered (historyStore k) p ≡ disputedPage)
 a-held-text-is-never-replaced n h k p t r g low high e = held-from-then-on n r h k g p t low high e
 
+-- "a page already disputed stays so", over any takings and merges that follow
+pub a-disputed-page-stays-disputed : (n : Name) (h k : History n) (p : ℕ) → InRange n → GoesOn h k → 1 ≤ p → p ≤ n .total
+    → pageNumbered (historyStore h) p ≡ disputedPage → pageNumbered (historyStore k) p ≡ disputedPage
+a-disputed-page-stays-disputed n h k p r g low high e = disputed-from-then-on n r h k g p low high e
+
 -- ---- reported and told
 
 -- "A store reports how many pages are held, how many are disputed, and the lowest page that is not held (0 if none)": each of
@@ -192,6 +225,33 @@ the-frames-tell-one-report n frames c d p q = reported-once n frames c d p q
 -- .. also after merges, and with stores from elsewhere
 pub a-history-reports-its-frames : (n : Name) (h : History n) → InRange n → Reports n (framesOf h) (countOf (historyStore h))
 a-history-reports-its-frames n h r = subst (λ (s : Store). Reports n (framesOf h) (countOf s)) (sym (history-after n r h)) (reported n r (framesOf h))
+
+-- "The reports of a store: 14": refused where the store is not sound, and there alone ..
+pub report-refused-for-a-reason : (s : Store) (x : Refusal) → countOf s .answer ≡ Rejected x → WhyNotReported s x
+report-refused-for-a-reason s x e = report-reason s x e
+
+pub reported-exactly-when-sound : (s : Store) → countOf s .answer ≡ Fine ↔ Sound s
+reported-exactly-when-sound s = report-exactly s
+
+-- .. "A refused report gives zeros"
+pub a-store-that-is-not-sound-reports-zeros : (s : Store) → (Sound s → ⊥)
+    → countOf s ≡ record { answer = Rejected Unsound; held = 0; disputed = 0; lowest = 0 }
+a-store-that-is-not-sound-reports-zeros s h = unsound-reported s h
+
+-- "Text: 14, 15, 16", "with the lowest such page and whether it is absent or disputed": the condition of the number fails, and
+-- every earlier one holds ..
+pub text-refused-for-a-reason : (s : Store) (size : ℕ) (x : Refusal) → ShapedStore s → textAnswer s size .answer ≡ Rejected x → WhyNotTold s size x
+text-refused-for-a-reason s size x h e = text-reason s h size x e
+
+-- .. and where all of them hold, and there alone, the text is told ..
+pub told-exactly-when-nothing-is-wrong : (s : Store) (size : ℕ) → ShapedStore s
+    → textAnswer s size .answer ≡ Fine ↔ (Sound s × All (PageHeld s) (s .name .total) × TextFits s size)
+told-exactly-when-nothing-is-wrong s size h = text-exactly s h size
+
+-- .. with its length: "the pages' bytes in order, less all zero bytes at its end"
+pub held-pages-tell-their-text : (s : Store) → ShapedStore s → Sound s → All (PageHeld s) (s .name .total)
+    → (text : List ℕ) × TextOf s text × Tells s text
+held-pages-tell-their-text s h p all = whole-told s h p all
 
 -- "The text is the pages' bytes in order, less all zero bytes at its end": where each page is held with its text ..
 pub the-text-is-told-by-the-frames : (n : Name) (frames : List Frame) (t : ℕ → List ℕ) → InRange n

@@ -3,4 +3,5 @@ pub mod Frames
 pub mod Merging
 pub mod Histories
 pub mod Reports
+pub mod Reasons
 pub mod Examples

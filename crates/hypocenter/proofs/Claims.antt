@@ -1,14 +1,12 @@
 -- What is claimed of what the numbers of a hypocenter say.
 use mathlib.Core.Path.{_≡_, refl}
 use mathlib.Core.Bool.{Bool, true, false, _&&_, cond}
-use Prim.Native.Nat.{ℕ, _≤_}
+use Prim.Native.Nat.{ℕ, _≤_, _<_}
 use native.Mathlib.Omega.{arith}
 use lib.Dec.{eqb, leb}
-use borrow.Author.Tests.{leb-true}
-use Rattle.rows.proofs.Rules.Spans.{in-span}
-use Rattle.hypocenter.specs.declared.meaning.Depth.{Depth}
+use borrow.Author.Tests.{le-leb, leb-true, lt-leb, ne-eqb}
+use Rattle.rows.proofs.Rules.Spans.{in-span, span-in, span-out}
 use Rattle.hypocenter.specs.declared.meaning.Depth.the-variants.{Kilometres, Deeper, Unknown, OutOfRange}
-use Rattle.hypocenter.specs.declared.meaning.Magnitude.{Magnitude}
 use Rattle.hypocenter.specs.declared.meaning.Magnitude.the-variants.{InRange, UnknownAboveEight, Unknown as NoMagnitude, OutOfRange as NotAMagnitude}
 use Rattle.hypocenter.specs.Hypocenter.{depthOf, magnitudeOf}
 
@@ -24,6 +22,15 @@ depth-501-is-deeper = refl
 pub depth-511-is-unknown : depthOf 511 ≡ Unknown
 unfolding depthOf
 depth-511-is-unknown = refl
+
+-- .. each code of 0 to 500 is that many kilometres, no code but these and the two is a depth ..
+pub each-depth-is-told-in-kilometres : (code : ℕ) → code ≤ 500 → depthOf code ≡ Kilometres code
+unfolding depthOf
+each-depth-is-told-in-kilometres code h = simp (le-leb code 500 h)
+
+pub no-other-code-is-a-depth : (code : ℕ) → 501 < code → (code ≡ 511 → ⊥) → depthOf code ≡ OutOfRange
+unfolding depthOf
+no-other-code-is-a-depth code h n = simp (lt-leb code 500 (omega (arith, h)), ne-eqb code 501 (λ e. omega (arith, h, e)), ne-eqb code 511 n)
 
 -- .. and no code but 0 to 500 is ever told in kilometres, nor as others than its own
 pub only-a-depth-is-told-in-kilometres : (code km : ℕ) → depthOf code ≡ Kilometres km → (km ≡ code) × (code ≤ 500)
@@ -44,6 +51,15 @@ magnitude-126-is-above-8 = refl
 pub magnitude-127-is-unknown : magnitudeOf 127 ≡ NoMagnitude
 unfolding magnitudeOf
 magnitude-127-is-unknown = refl
+
+-- .. each code of 1 to 101 is that many tenths, no code but these and the two is a magnitude ..
+pub each-magnitude-is-told-in-tenths : (code : ℕ) → 1 ≤ code → code ≤ 101 → magnitudeOf code ≡ InRange code
+unfolding magnitudeOf
+each-magnitude-is-told-in-tenths code low high = simp (span-in 1 101 code (low, high))
+
+pub no-other-code-is-a-magnitude : (code : ℕ) → ((1 ≤ code) × (code ≤ 101) → ⊥) → (code ≡ 126 → ⊥) → (code ≡ 127 → ⊥) → magnitudeOf code ≡ NotAMagnitude
+unfolding magnitudeOf
+no-other-code-is-a-magnitude code out n m = simp (span-out 1 101 code out, ne-eqb code 126 n, ne-eqb code 127 m)
 
 -- .. and no code but 1 to 101 is ever told in tenths
 pub only-a-magnitude-is-told-in-tenths : (code tenths : ℕ) → magnitudeOf code ≡ InRange tenths → (tenths ≡ code) × ((1 ≤ code) × (code ≤ 101))

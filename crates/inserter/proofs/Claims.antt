@@ -1,32 +1,132 @@
--- What this crate claims of its definitions: a refused call leaves a store's bytes as they were.
-use mathlib.Core.Path.{_≡_, ap, _∙_}
-use mathlib.Core.List.{List}
-use Prim.Native.Nat.{ℕ}
-use lib.ListN.{length}
+-- What is claimed of one call, over the words and bytes that a program in C sees. What calls in a row come to is claimed in `calls`.
+use mathlib.Core.Path.{_≡_}
+use mathlib.Core.List.{List, [], _∷_}
+use Prim.Native.Nat.{ℕ, _+_, _*_, _/_, _^_, _≤_, _<_}
 use Rattle.rows.specs.declared.refusal.Refusal.{Refusal}
-use Rattle.rows.specs.declared.refusal.Verdict.the-variants.{Refused}
+use Rattle.rows.specs.declared.refusal.Said.{Said}
+use Rattle.rows.specs.declared.refusal.Verdict.{Verdict}
+use Rattle.rows.specs.declared.refusal.Verdict.the-variants.{Fine}
+use Rattle.rows.specs.Refusals.{plain, says, answers}
+use Rattle.report.specs.Runs.Reading.{readOf}
+use Rattle.line.specs.Lines.{lineReading}
+use Rattle.bulletin.specs.declared.take.Taken.{Taken}
 use Rattle.bulletin.specs.declared.take.Taken.the-variants.{Refused as NotTaken}
-use Rattle.bulletin.specs.Takings.{takeOf}
-use Rattle.bulletin.specs.Merges.{mergeVerdict}
-use Rattle.bulletin.proofs.Claims.{an-answered-refusal-leaves-the-store, a-refused-merge-gives-the-first}
-use Rattle.record_bytes.specs.Unpacked.{unpacked}
-use Rattle.store_bytes.specs.Stores.{storeBytes, storeFrom}
-use Rattle.store_bytes.proofs.Claims.{bytes-to-store-and-back}
-use Rattle.inserter.specs.Answers.{takeInto, mergeInto}
-use Rattle.inserter.proofs.StoreDoors.{taking-buffer, merging-buffer}
+use Rattle.bulletin.specs.Counts.{countOf}
+use Rattle.bulletin.specs.Text.{textAnswer}
+use Rattle.store_bytes.specs.Stores.{storeOrZeros}
+use Rattle.parity.specs.Parity.{parityOf}
+use Rattle.inserter.specs.Answers.{answerWord, countAnswer, InBytes, IsRefusal, mergeInto, openInto, readInto, readLineInto, takeInto, takenWord, textInto, wordBytes, writeInto, writeLineInto}
+use Rattle.inserter.specs.Meanings.{depthAnswer, magnitudeAnswer, prefectureAnswer, slotsAnswer}
+use Rattle.inserter.proofs.Meant as Meant
+use Rattle.inserter.proofs.Kept as Kept
+use Rattle.inserter.proofs.Refusing as Refusing
+use Rattle.inserter.proofs.Counting as Counting
 
--- "A refused taking leaves the store as given": byte for byte
-pub a-refused-taking-leaves-the-bytes : (buffer bytes : List ℕ) (x : Refusal) → length buffer ≡ 1205 → length bytes ≡ 251
-    → takeOf (storeFrom buffer) (unpacked bytes) .answer ≡ NotTaken x → takeInto buffer bytes .buffer ≡ buffer
-a-refused-taking-leaves-the-bytes buffer bytes x e f refused =
-    taking-buffer buffer bytes e f
-    ∙ ap storeBytes (an-answered-refusal-leaves-the-store (storeFrom buffer) (unpacked bytes) x refused)
-    ∙ bytes-to-store-and-back buffer e
+-- ---- "a refused call changes no lent buffer and no store": eight calls are lent a buffer to write to, and these are all of them
 
--- "a refused merge [gives] the first store as given": byte for byte
-pub a-refused-merge-leaves-the-bytes : (buffer other : List ℕ) (x : Refusal) → length buffer ≡ 1205 → length other ≡ 1205
-    → mergeVerdict (storeFrom buffer) (storeFrom other) ≡ Refused x → mergeInto buffer other .buffer ≡ buffer
-a-refused-merge-leaves-the-bytes buffer other x e f refused =
-    merging-buffer buffer other e f
-    ∙ ap storeBytes (a-refused-merge-gives-the-first (storeFrom buffer) (storeFrom other) x refused)
-    ∙ bytes-to-store-and-back buffer e
+pub a-refused-reading-leaves-the-bytes : (frame buffer : List ℕ) → IsRefusal (readInto frame buffer .answer) → readInto frame buffer .buffer ≡ buffer
+a-refused-reading-leaves-the-bytes frame buffer h = Kept.reading-leaves (readOf frame) buffer h
+
+pub a-refused-line-leaves-the-bytes : (line buffer : List ℕ) → IsRefusal (readLineInto line buffer .answer) → readLineInto line buffer .buffer ≡ buffer
+a-refused-line-leaves-the-bytes line buffer h = Kept.reading-leaves (lineReading line) buffer h
+
+pub a-refused-writing-leaves-the-bytes : (bytes buffer : List ℕ) → IsRefusal (writeInto bytes buffer .answer) → writeInto bytes buffer .buffer ≡ buffer
+a-refused-writing-leaves-the-bytes = Kept.writing-leaves
+
+pub a-refused-frame-leaves-the-bytes : (frame buffer : List ℕ) → IsRefusal (writeLineInto frame buffer .answer) → writeLineInto frame buffer .buffer ≡ buffer
+a-refused-frame-leaves-the-bytes = Kept.line-leaves
+
+pub a-refused-opening-leaves-the-bytes : (name buffer : List ℕ) → IsRefusal (openInto name buffer .answer) → openInto name buffer .buffer ≡ buffer
+a-refused-opening-leaves-the-bytes = Kept.opening-leaves
+
+pub a-refused-taking-leaves-the-bytes : (buffer bytes : List ℕ) → IsRefusal (takeInto buffer bytes .answer) → takeInto buffer bytes .buffer ≡ buffer
+a-refused-taking-leaves-the-bytes = Kept.taking-leaves
+
+pub a-refused-merge-leaves-the-bytes : (buffer other : List ℕ) → IsRefusal (mergeInto buffer other .answer) → mergeInto buffer other .buffer ≡ buffer
+a-refused-merge-leaves-the-bytes = Kept.merging-leaves
+
+pub a-refused-text-leaves-the-bytes : (store buffer : List ℕ) → IsRefusal (textInto store buffer .answer) → textInto store buffer .buffer ≡ buffer
+a-refused-text-leaves-the-bytes = Kept.text-leaves
+
+-- ---- no refusal looks like a success, and no success like a refusal
+
+-- "with its first bit", "with the lowest such page and whether it is absent or disputed": number, place, page and mark stand in a byte each, where a
+-- caller finds them ..
+pub a-word-has-number-place-page-and-mark : (s : Said) → InBytes s
+    → wordBytes (answerWord s) ≡ s .number ∷ s .place ∷ s .page ∷ s .mark ∷ []
+a-word-has-number-place-page-and-mark = Refusing.four-bytes
+
+-- .. so two refusals never give the same word ..
+pub words-tell-refusals-apart : (x y : Refusal) → InBytes (says x) → InBytes (says y) → answerWord (says x) ≡ answerWord (says y) → x ≡ y
+words-tell-refusals-apart = Refusing.words-apart
+
+-- .. every refusal has a number above 0 there ..
+pub a-refusal-is-told-as-one : (x : Refusal) → IsRefusal (answerWord (says x))
+a-refusal-is-told-as-one = Refusing.refusal-is-high
+
+pub a-wrong-call-is-told-as-a-refusal : IsRefusal (answerWord (plain 255))
+a-wrong-call-is-told-as-a-refusal = Refusing.wrong-call-is-high
+
+-- .. and what succeeds has none: 0 where there is nothing to say ..
+pub zero-is-told-of-success : (v : Verdict) → (v ≡ Fine → answerWord (answers v) ≡ 0) × (answerWord (answers v) ≡ 0 → v ≡ Fine)
+zero-is-told-of-success v = (Refusing.low-word v, Refusing.fine-word v)
+
+-- .. 1, 2 or 3 of a taking ..
+pub a-taking-is-no-refusal : (t : Taken) → ((x : Refusal) → t ≡ NotTaken x → ⊥) → takenWord t ≤ 3
+a-taking-is-no-refusal = Refusing.taken-is-low
+
+-- .. held, disputed and lowest of a report, "each at most 63" ..
+pub a-report-is-no-refusal : (store : List ℕ) → countOf (storeOrZeros store) .answer ≡ Fine
+    → (countOf (storeOrZeros store) .held ≤ 63) × (countOf (storeOrZeros store) .disputed ≤ 63) × (countOf (storeOrZeros store) .lowest ≤ 63) × (countAnswer store < 2 ^ 24)
+a-report-is-no-refusal = Counting.report-is-low
+
+-- .. which stand where a refusal has place, page and mark ..
+pub a-report-has-held-disputed-and-lowest : (store : List ℕ) → countOf (storeOrZeros store) .answer ≡ Fine
+    → wordBytes (countAnswer store) ≡ 0 ∷ countOf (storeOrZeros store) .held ∷ countOf (storeOrZeros store) .disputed ∷ countOf (storeOrZeros store) .lowest ∷ []
+a-report-has-held-disputed-and-lowest = Counting.report-in-bytes
+
+-- .. and the length of a text, which is "at most 1,134 bytes"
+pub a-length-is-no-refusal : (store : List ℕ) (size : ℕ) → textAnswer (storeOrZeros store) size .length ≤ 1134
+a-length-is-no-refusal store size = Counting.text-is-low store size
+
+-- a parity has 24 bits
+pub a-parity-is-no-refusal : (frame : List ℕ) → parityOf frame < 2 ^ 24
+a-parity-is-no-refusal = Counting.parity-is-low
+
+-- ---- what a number says
+
+-- "Depth 0 is a depth; 511 is unknown and 501 means deeper than 500 km": 1 and the kilometres, 2, 3, and 0 for what is no depth
+pub a-depth-is-told-in-kilometres : (code : ℕ) → code ≤ 500 → depthAnswer code ≡ 2 ^ 16 + code
+a-depth-is-told-in-kilometres = Meant.in-kilometres
+
+pub depth-501-is-told-as-deeper : depthAnswer 501 ≡ 2 * 2 ^ 16
+depth-501-is-told-as-deeper = Meant.deeper
+
+pub depth-511-is-told-as-unknown : depthAnswer 511 ≡ 3 * 2 ^ 16
+depth-511-is-told-as-unknown = Meant.depth-unknown
+
+pub no-other-depth-is-told : (code : ℕ) → 501 < code → (code ≡ 511 → ⊥) → depthAnswer code ≡ 0
+no-other-depth-is-told = Meant.no-depth
+
+-- "Magnitude 127 is unknown, 126 is above 8.0 where no moment magnitude is known"
+pub a-magnitude-is-told-in-tenths : (code : ℕ) → 1 ≤ code → code ≤ 101 → magnitudeAnswer code ≡ 2 ^ 16 + code
+a-magnitude-is-told-in-tenths = Meant.in-tenths
+
+pub magnitude-126-is-told-as-above-8 : magnitudeAnswer 126 ≡ 2 * 2 ^ 16
+magnitude-126-is-told-as-above-8 = Meant.above-eight
+
+pub magnitude-127-is-told-as-unknown : magnitudeAnswer 127 ≡ 3 * 2 ^ 16
+magnitude-127-is-told-as-unknown = Meant.magnitude-unknown
+
+pub no-other-magnitude-is-told : (code : ℕ) → ((1 ≤ code) × (code ≤ 101) → ⊥) → (code ≡ 126 → ⊥) → (code ≡ 127 → ⊥) → magnitudeAnswer code ≡ 0
+no-other-magnitude-is-told = Meant.no-magnitude
+
+-- "A place divided by 100000, remainder dropped, is its prefecture", and nothing else has one
+pub a-prefecture-is-told-by-its-number : (place : ℕ) → 100000 ≤ place → place ≤ 4799999 → prefectureAnswer place ≡ place / 100000
+a-prefecture-is-told-by-its-number = Meant.in-prefecture
+
+pub no-other-prefecture-is-told : (place : ℕ) → ((100000 ≤ place) × (place ≤ 4799999) → ⊥) → prefectureAnswer place ≡ 0
+no-other-prefecture-is-told = Meant.nowhere
+
+pub sixteen-slots-are-told-at-most : (bytes : List ℕ) → slotsAnswer bytes ≤ 16
+sixteen-slots-are-told-at-most = Meant.sixteen-at-most

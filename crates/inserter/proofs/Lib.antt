@@ -3,3 +3,7 @@ pub mod Reading
 pub mod Writing
 pub mod StoreDoors
 pub mod Settled
+pub mod Refusing
+pub mod Kept
+pub mod Counting
+pub mod Meant

@@ -36,7 +36,19 @@ pub lz-merge-is-settled : Settled inserter.stores.lz_merge.ended inserter.stores
 lz-merge-is-settled κs a x y = parts first
 
 pub lz-count-is-settled : Settled inserter.stores.lz_count.ended inserter.stores.lz_count.Reads.Post
-lz-count-is-settled κs a x y = parts second
+lz-count-is-settled κs a x y = answer
 
 pub lz-text-is-settled : Settled inserter.stores.lz_text.ended inserter.stores.lz_text.Reads.Post
 lz-text-is-settled κs a x y = parts second
+
+pub lz-depth-is-settled : Settled inserter.meanings.lz_depth.ended inserter.meanings.lz_depth.Reads.Post
+lz-depth-is-settled κs a x y = answer
+
+pub lz-magnitude-is-settled : Settled inserter.meanings.lz_magnitude.ended inserter.meanings.lz_magnitude.Reads.Post
+lz-magnitude-is-settled κs a x y = answer
+
+pub lz-prefecture-is-settled : Settled inserter.meanings.lz_prefecture.ended inserter.meanings.lz_prefecture.Reads.Post
+lz-prefecture-is-settled κs a x y = answer
+
+pub lz-slots-used-is-settled : Settled inserter.meanings.lz_slots_used.ended inserter.meanings.lz_slots_used.Reads.Post
+lz-slots-used-is-settled κs a x y = answer

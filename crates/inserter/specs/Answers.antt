@@ -1,5 +1,5 @@
 -- What the functions for C and Rust answer, and what they leave in a lent buffer.
-use Prim.Native.Nat.{ℕ, _+_, _*_, _^_}
+use Prim.Native.Nat.{ℕ, _+_, _*_, _/_, _%_, _^_, _≤_, _<_}
 use mathlib.Core.Bool.{Bool, _&&_, cond}
 use mathlib.Core.List.{List, [], _∷_}
 use lib.ListN.{length}
@@ -14,21 +14,20 @@ use Rattle.rows.specs.Refusals.{plain, says, answers}
 use Rattle.report.specs.Runs.Reading.{readOf}
 use Rattle.report.specs.Runs.Writing.{writeAnswer, writeOf}
 use Rattle.line.specs.Lines.{lineReading, lineAnswer, lineInto}
-use Rattle.bulletin.specs.declared.store.Opening.{Opening}
+use Rattle.bulletin.specs.declared.store.Store.{Store}
 use Rattle.bulletin.specs.declared.take.Taken.{Taken}
 use Rattle.bulletin.specs.declared.take.Taken.the-variants.{New, Same, Disputed, Refused as NotTaken}
 use Rattle.bulletin.specs.declared.take.Taking.{Taking}
 use Rattle.bulletin.specs.declared.merge.Merging.{Merging}
 use Rattle.bulletin.specs.declared.count.Count.{Count}
-use Rattle.bulletin.specs.declared.text.Telling.{Telling}
 use Rattle.bulletin.specs.Stores.{openOf}
 use Rattle.bulletin.specs.Takings.{takeOf}
 use Rattle.bulletin.specs.Merges.{mergeOf}
 use Rattle.bulletin.specs.Counts.{countOf}
 use Rattle.bulletin.specs.Text.{textAnswer, textBuffer}
 use Rattle.record_bytes.specs.Packed.{packed}
-use Rattle.record_bytes.specs.Unpacked.{unpacked}
-use Rattle.store_bytes.specs.Stores.{storeBytes, nameFrom, storeFrom}
+use Rattle.record_bytes.specs.Unpacked.{recordFrom}
+use Rattle.store_bytes.specs.Stores.{storeBytes, storeInto, nameFrom, storeOrZeros}
 
 -- a parity has 24 bits; above them stands the number of the refusal, which is 1 where the slice is not 32 bytes long
 unfoldable pub parityAnswer : List ℕ → ℕ
@@ -38,6 +37,20 @@ parityAnswer s = cond (eqb (length s) 32) (parityOf s) (1 * 2 ^ 24)
 abbrev pub answerWord : Said → ℕ
 answerWord a = a .number * 2 ^ 24 + a .place * 2 ^ 16 + a .page * 2 ^ 8 + a .mark
 
+-- the four bytes of a word, as a caller takes them out of it
+abbrev pub wordBytes : ℕ → List ℕ
+wordBytes w = w / 2 ^ 24 ∷ w / 2 ^ 16 % 256 ∷ w / 2 ^ 8 % 256 ∷ w % 256 ∷ []
+
+-- place, page and mark, which are bytes in the code, have room there
+pub record InBytes (s : Said) : Type 0 where
+  pub place : s .place < 256
+  pub page : s .page < 256
+  pub mark : s .mark < 256
+
+-- the first byte of a word is not zero
+abbrev pub IsRefusal : ℕ → Type 0
+IsRefusal word = 2 ^ 24 ≤ word
+
 -- what is left of a call: its answer, and the lent buffer
 pub record CallResult : Type 0 where
   pub answer : ℕ
@@ -46,7 +59,7 @@ pub record CallResult : Type 0 where
 abbrev pub callResult : ℕ → List ℕ → CallResult
 callResult a b = record { answer = a; buffer = b }
 
--- a call whose buffers do not have the lengths that it takes is 255, and touches nothing
+-- a name of another length, or a buffer of another length for an answer, is 255, and nothing is touched
 abbrev pub ifLengthsFit : Bool → CallResult → List ℕ → CallResult
 ifLengthsFit right l buffer = cond right l (callResult (answerWord (plain 255)) buffer)
 
@@ -68,21 +81,26 @@ readLineInto line buffer = readingInto (lineReading line) buffer
 
 -- ---- writing: a refusal leaves the buffer as it was
 
-unfoldable pub writeInto : List ℕ → List ℕ → CallResult
-writeInto bytes buffer =
-    let r = unpacked bytes in
-    ifLengthsFit (eqb (length bytes) 251) (callResult (answerWord (answers (writeAnswer r (length buffer)))) (writeOf r buffer)) buffer
+unfoldable pub writeResult : Record → List ℕ → CallResult
+writeResult r buffer = callResult (answerWord (answers (writeAnswer r (length buffer)))) (writeOf r buffer)
+
+abbrev pub writeInto : List ℕ → List ℕ → CallResult
+writeInto bytes buffer = writeResult (recordFrom bytes) buffer
 
 abbrev pub writeLineInto : List ℕ → List ℕ → CallResult
 writeLineInto frame buffer = callResult (answerWord (answers (lineAnswer frame (length buffer)))) (lineInto frame buffer)
 
--- ---- the page store: a refusal leaves it as it was, but for opening, which then leaves zeros
+-- ---- the page store: a refusal leaves its bytes as they were. Bytes of another length are a store of zeros, which is not
+-- sound, and a record of zeros.
 
-abbrev pub openResult : Opening → CallResult
-openResult o = callResult (answerWord (answers (o .answer))) (storeBytes (o .store))
+abbrev pub openingByAnswer : Verdict → Store → List ℕ → CallResult
+openingByAnswer Fine s buffer = callResult (answerWord (answers Fine)) (storeBytes s)
+openingByAnswer (Refused x) s buffer = callResult (answerWord (answers (Refused x))) buffer
 
 unfoldable pub openInto : List ℕ → List ℕ → CallResult
-openInto name buffer = ifLengthsFit (eqb (length name) 8 && eqb (length buffer) 1205) (openResult (openOf (nameFrom name))) buffer
+openInto name buffer =
+    let o = openOf (nameFrom name) in
+    ifLengthsFit (eqb (length name) 8 && eqb (length buffer) 1205) (openingByAnswer (o .answer) (o .store) buffer) buffer
 
 -- "new where it was absent, same where it was held with those 18 bytes, and disputed otherwise"
 abbrev pub takenWord : Taken → ℕ
@@ -91,32 +109,38 @@ takenWord Same = 2
 takenWord Disputed = 3
 takenWord (NotTaken x) = answerWord (says x)
 
-abbrev pub takeResult : Taking → CallResult
-takeResult t = callResult (takenWord (t .answer)) (storeBytes (t .store))
+abbrev pub takeResult : Taking → List ℕ → CallResult
+takeResult t buffer = callResult (takenWord (t .answer)) (storeInto (t .store) buffer)
 
-unfoldable pub takeInto : List ℕ → List ℕ → CallResult
-takeInto buffer bytes = ifLengthsFit (eqb (length buffer) 1205 && eqb (length bytes) 251) (takeResult (takeOf (storeFrom buffer) (unpacked bytes))) buffer
+abbrev pub takeInto : List ℕ → List ℕ → CallResult
+takeInto buffer bytes = takeResult (takeOf (storeOrZeros buffer) (recordFrom bytes)) buffer
 
-abbrev pub mergeResult : Merging → CallResult
-mergeResult m = callResult (answerWord (answers (m .answer))) (storeBytes (m .store))
+abbrev pub mergeResult : Merging → List ℕ → CallResult
+mergeResult m buffer = callResult (answerWord (answers (m .answer))) (storeInto (m .store) buffer)
 
-unfoldable pub mergeInto : List ℕ → List ℕ → CallResult
-mergeInto buffer other = ifLengthsFit (eqb (length buffer) 1205 && eqb (length other) 1205) (mergeResult (mergeOf (storeFrom buffer) (storeFrom other))) buffer
+abbrev pub mergeInto : List ℕ → List ℕ → CallResult
+mergeInto buffer other = mergeResult (mergeOf (storeOrZeros buffer) (storeOrZeros other)) buffer
 
--- held, disputed, lowest
-abbrev pub countResult : Count → CallResult
-countResult c = callResult (answerWord (answers (c .answer))) (c .held ∷ c .disputed ∷ c .lowest ∷ [])
+-- held, disputed and lowest stand where a refusal has place, page and mark
+abbrev pub countWordBy : Verdict → Count → ℕ
+countWordBy Fine c = answerWord (record { number = 0; place = c .held; page = c .disputed; mark = c .lowest })
+countWordBy (Refused x) c = answerWord (says x)
 
-unfoldable pub countInto : List ℕ → List ℕ → CallResult
-countInto store buffer = ifLengthsFit (eqb (length store) 1205 && eqb (length buffer) 3) (countResult (countOf (storeFrom store))) buffer
+abbrev pub countWord : Count → ℕ
+countWord c = countWordBy (c .answer) c
+
+abbrev pub countAnswer : List ℕ → ℕ
+countAnswer store = countWord (countOf (storeOrZeros store))
 
 -- the length of the text, or the refusal
 abbrev pub lengthOrRefusal : Verdict → ℕ → ℕ
 lengthOrRefusal Fine n = n
 lengthOrRefusal (Refused x) n = answerWord (says x)
 
-abbrev pub textResult : Telling → List ℕ → CallResult
-textResult t buffer = callResult (lengthOrRefusal (t .answer) (t .length)) buffer
+unfoldable pub textResult : Store → List ℕ → CallResult
+textResult s buffer =
+    let t = textAnswer s (length buffer) in
+    callResult (lengthOrRefusal (t .answer) (t .length)) (textBuffer s buffer)
 
-unfoldable pub textInto : List ℕ → List ℕ → CallResult
-textInto store buffer = ifLengthsFit (eqb (length store) 1205) (textResult (textAnswer (storeFrom store) (length buffer)) (textBuffer (storeFrom store) buffer)) buffer
+abbrev pub textInto : List ℕ → List ℕ → CallResult
+textInto store buffer = textResult (storeOrZeros store) buffer

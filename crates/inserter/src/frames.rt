@@ -51,15 +51,12 @@ pub extern "C" fn lz_read(frame: &[u8], record_bytes: &mut [u8]) -> u32
 }
 
 // Writes the record of lent bytes to a lent frame. The answer is as that of `lz_read`; where
-// something is refused the frame stays as it was. Record bytes that are not 251 are 255, whatever
-// the frame is.
+// something is refused the frame stays as it was. Bytes that are not 251 are a record of zeros, which
+// is never written: 1 or 3.
 #[no_mangle]
 pub extern "C" fn lz_write(record_bytes: &[u8], frame: &mut [u8]) -> u32
     ensures { λ r. ⌜ callResult r (now (frame .exit)) ≡ writeInto (now (record_bytes .entry)) (now (frame .entry)) ⌝ }
 {
-    if record_bytes.len() != RECORD_SIZE {
-        return WRONG_CALL;
-    }
     let record = record_bytes::unpack(record_bytes);
     verdict_word(report::write::write(record, frame))
 }

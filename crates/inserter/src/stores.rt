@@ -1,22 +1,20 @@
-// The page store of a bulletin in 1205 lent bytes. Any such bytes are a store; one that is not sound is
-// refused with 14 in 14's turn, and stays as it was.
+// The page store of a bulletin in 1205 lent bytes. Any bytes are a store; one that is not sound, as
+// bytes of another length never are, is refused with 14 in 14's turn, and stays as it was.
 ghost use mathlib.Core.Path.{_≡_};
-ghost use Rattle.inserter.specs.Answers.{callResult, openInto, takeInto, mergeInto, countInto, textInto};
+ghost use Rattle.inserter.specs.Answers.{callResult, openInto, takeInto, mergeInto, countAnswer, textInto};
 use crate::words::WRONG_CALL;
+use crate::words::count_word;
 use crate::words::refusal_word;
 use crate::words::taken_word;
 use crate::words::verdict_word;
+use bulletin::in_place::taken_in;
 use bulletin::store::Store;
-use record_bytes::sizes::RECORD_SIZE;
 use rows::refusal::Verdict;
 use store_bytes::sizes::NAME_SIZE;
 use store_bytes::sizes::STORE_SIZE;
 
-// how many pages are held, how many are disputed, the lowest that is not held
-const COUNTS_SIZE: usize = 3;
-
 // Opens a store for the bulletin that 8 bytes name: Rc, month, day, hour, minute, It, Is, page total.
-// 8 with its place where a value is out of range, and then the store is zeros.
+// 8 with its place where a value is out of range, and then the store's bytes stay as they were.
 #[no_mangle]
 pub extern "C" fn lz_open(name: &[u8], store: &mut [u8]) -> u32
     ensures { λ r. ⌜ callResult r (now (store .exit)) ≡ openInto (now (name .entry)) (now (store .entry)) ⌝ }
@@ -28,10 +26,15 @@ pub extern "C" fn lz_open(name: &[u8], store: &mut [u8]) -> u32
         return WRONG_CALL;
     }
     let opening = Store::open(store_bytes::unpack_name(name));
-    let opened = opening.store;
     let answer = opening.answer;
-    store_bytes::pack_store(opened, store);
-    verdict_word(answer)
+    match answer {
+        Verdict::Fine => {
+            let opened = opening.store;
+            store_bytes::pack_store(opened, store);
+            0
+        }
+        Verdict::Refused(refusal) => refusal_word(refusal),
+    }
 }
 
 // Takes the page of a record's 251 bytes: 1 where it is new, 2 where the store had the same, 3 where it
@@ -40,14 +43,8 @@ pub extern "C" fn lz_open(name: &[u8], store: &mut [u8]) -> u32
 pub extern "C" fn lz_take(store: &mut [u8], record_bytes: &[u8]) -> u32
     ensures { λ r. ⌜ callResult r (now (store .exit)) ≡ takeInto (now (store .entry)) (now (record_bytes .entry)) ⌝ }
 {
-    if store.len() != STORE_SIZE {
-        return WRONG_CALL;
-    }
-    if record_bytes.len() != RECORD_SIZE {
-        return WRONG_CALL;
-    }
     let before = store_bytes::unpack_store(store);
-    let taking = before.take(record_bytes::unpack(record_bytes));
+    let taking = taken_in(before, record_bytes::unpack(record_bytes));
     let after = taking.store;
     let answer = taking.answer;
     store_bytes::pack_store(after, store);
@@ -59,12 +56,6 @@ pub extern "C" fn lz_take(store: &mut [u8], record_bytes: &[u8]) -> u32
 pub extern "C" fn lz_merge(store: &mut [u8], other: &[u8]) -> u32
     ensures { λ r. ⌜ callResult r (now (store .exit)) ≡ mergeInto (now (store .entry)) (now (other .entry)) ⌝ }
 {
-    if store.len() != STORE_SIZE {
-        return WRONG_CALL;
-    }
-    if other.len() != STORE_SIZE {
-        return WRONG_CALL;
-    }
     let before = store_bytes::unpack_store(store);
     let merging = before.merge(store_bytes::unpack_store(other));
     let after = merging.store;
@@ -73,24 +64,13 @@ pub extern "C" fn lz_merge(store: &mut [u8], other: &[u8]) -> u32
     verdict_word(answer)
 }
 
-// Puts into three bytes how many pages are held, how many are disputed, and the lowest that is not
-// held, 0 where all are. A refusal leaves three zeros.
+// How many pages are held, how many are disputed, and the lowest that is not held, 0 where all are: one
+// byte each, behind a byte of zero.
 #[no_mangle]
-pub extern "C" fn lz_count(store: &[u8], counts: &mut [u8]) -> u32
-    ensures { λ r. ⌜ callResult r (now (counts .exit)) ≡ countInto (now (store .entry)) (now (counts .entry)) ⌝ }
+pub extern "C" fn lz_count(store: &[u8]) -> u32
+    ensures { λ r. ⌜ r ≡ countAnswer (now (store .entry)) ⌝ }
 {
-    if store.len() != STORE_SIZE {
-        return WRONG_CALL;
-    }
-    if counts.len() != COUNTS_SIZE {
-        return WRONG_CALL;
-    }
-    let count = store_bytes::unpack_store(store).count();
-    let answer = count.answer;
-    counts[0] = count.held;
-    counts[1] = count.disputed;
-    counts[2] = count.lowest;
-    verdict_word(answer)
+    count_word(store_bytes::unpack_store(store).count())
 }
 
 // Puts the text of a store whose pages are all held into a lent buffer, and answers its length, which
@@ -100,9 +80,6 @@ pub extern "C" fn lz_count(store: &[u8], counts: &mut [u8]) -> u32
 pub extern "C" fn lz_text(store: &[u8], text: &mut [u8]) -> u32
     ensures { λ r. ⌜ callResult r (now (text .exit)) ≡ textInto (now (store .entry)) (now (text .entry)) ⌝ }
 {
-    if store.len() != STORE_SIZE {
-        return WRONG_CALL;
-    }
     let telling = store_bytes::unpack_store(store).text(text);
     let answer = telling.answer;
     match answer {

@@ -1,7 +1,8 @@
 // An answer as one word: the number of the refusal in the high byte, then its place, page and mark.
 ghost use mathlib.Core.Path.{_≡_};
 ghost use Rattle.rows.specs.Refusals.{says, answers};
-ghost use Rattle.inserter.specs.Answers.{answerWord, takenWord};
+ghost use Rattle.inserter.specs.Answers.{answerWord, takenWord, countWord};
+use bulletin::count::Count;
 use bulletin::take::Taken;
 use rows::refusal::Refusal;
 use rows::refusal::Said;
@@ -42,5 +43,21 @@ pub(crate) fn taken_word(taken: Taken) -> u32
         Taken::Same => 2,
         Taken::Disputed => 3,
         Taken::Refused(refusal) => refusal_word(refusal),
+    }
+}
+
+// The numbers of a report stand where a refusal has place, page and mark.
+pub(crate) fn count_word(count: Count) -> u32
+    ensures { λ r. ⌜ r ≡ countWord count ⌝ }
+{
+    let answer = count.answer;
+    match answer {
+        Verdict::Fine => word(Said {
+            number: 0,
+            place: count.held,
+            page: count.disputed,
+            mark: count.lowest,
+        }),
+        Verdict::Refused(refusal) => refusal_word(refusal),
     }
 }

@@ -3,7 +3,7 @@ use mathlib.Core.Path.{_≡_, refl, sym, ap, _∙_}
 use mathlib.Core.Bool.{Bool, true, false, cond}
 use mathlib.Core.Logic.{⊎-elim}
 use mathlib.Core.List.{List, [], _∷_}
-use Prim.Native.Nat.{ℕ, zero, suc, _-_, _≤_, _<_}
+use Prim.Native.Nat.{ℕ, _-_, _≤_, _<_}
 use native.Mathlib.Omega.{arith}
 use lib.ListN.{getD}
 use lib.Dec.{leb}
@@ -12,14 +12,10 @@ use Rattle.rows.specs.Layout.{Span, _to_}
 use Rattle.rows.specs.Runs.Verdict.{allowed}
 use Rattle.rows.specs.Values.{each}
 use Rattle.rows.proofs.Rules.Spans.{allowed-in}
+use Rattle.rows.proofs.Layouts.Lengths.{each-at}
 use Rattle.line.specs.Lines.{digits, worth, capital, upper}
 
--- ---- a table, and two that are the same
-
-pub each-at : {A : Type 0} (n : ℕ) (f : ℕ → A) (d : A) (i : ℕ) → i < n → getD (each n f) i d ≡ f i
-each-at zero f d i h = absurd (omega arith)
-each-at (suc n) f d zero h = refl
-each-at (suc n) f d (suc i) h = each-at n (λ j. f (suc j)) d i (omega arith)
+-- ---- two tables that are the same
 
 agree : {A : Type 0} (n : ℕ) (f g : ℕ → A) → each n f ≡ each n g → (i : ℕ) → i < n → f i ≡ g i
 agree n f g e i h = sym (each-at n f (f 0) i h) ∙ ap (λ l. getD l i (f 0)) e ∙ each-at n g (f 0) i h

@@ -6,4 +6,5 @@ pub mod LineEnds
 pub mod ThereAndBack
 pub mod DigitBits
 pub mod ReadLines
+pub mod LineReasons
 pub mod Settled

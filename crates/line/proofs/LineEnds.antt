@@ -13,12 +13,14 @@ use Rattle.rows.specs.declared.refusal.Refusal.{Refusal}
 use Rattle.rows.specs.declared.refusal.Refusal.the-variants.{Length, Padding, Short, Line}
 use Rattle.report.specs.declared.record.Record.{Record}
 use Rattle.report.specs.declared.read.Reading.{Reading}
+use Rattle.rows.specs.Refusals.{answers}
 use Rattle.rows.specs.Runs.Questions.{_then_, unless}
-use Rattle.report.specs.Records.{zeros}
-use Rattle.report.specs.Runs.Reading.{reading, readOf}
+use Rattle.report.specs.Records.{recordOf, zeros}
+use Rattle.report.specs.Runs.Reading.{readAnswer, reading, readOf}
+use Rattle.report.proofs.Reading.ReadSteps.{answer-found}
 use Rattle.rows.proofs.Rules.Outcomes.{not-both}
 use Rattle.line.specs.declared.from_line.Framing.{Framing}
-use Rattle.line.specs.Lines.{isLine, frameOfLine, noLine, framing, lineReading, lineOf, lineAnswer, lineInto}
+use Rattle.line.specs.Lines.{isLine, frameOfLine, noLine, framing, framingSays, lineReading, lineSays, lineOf, lineAnswer, lineInto}
 use Rattle.line.proofs.Pairs.{line-length}
 
 -- ---- reading
@@ -47,6 +49,24 @@ read-no-more l f x z e a q = by (isLine l) refl
     by : (t : Bool) → isLine l ≡ t → record { answer = f .answer; «record» = z } ≡ cond (isLine l) (readOf (frameOfLine l)) (reading (Refused Line) zeros)
     by true h = absurd (not-both (f .answer) x (ap (λ (g : Framing). g .answer) (e ∙ a-line l h)) a)
     by false h = simp (ap (λ (g : Framing). g .answer) (e ∙ no-line l h), q, h)
+
+-- ---- what reading says
+
+pub framing-said : (l : List ℕ) (f : Framing) → f ≡ framing l → (f ≡ framing l) × (answers (f .answer) ≡ framingSays l)
+unfolding framing unless
+framing-said l f e = (e, ap (λ (g : Framing). answers (g .answer)) e ∙ by (isLine l))
+  where
+    by : (t : Bool) → answers (cond t (record { answer = Fine; frame = frameOfLine l }) noLine .answer) ≡ answers (unless t Line)
+    by true = refl
+    by false = refl
+
+pub line-said : (l : List ℕ) (out : Reading) → out ≡ lineReading l → (out ≡ lineReading l) × (answers (out .answer) ≡ lineSays l)
+unfolding lineReading unless _then_
+line-said l out e = (e, ap (λ (o : Reading). answers (o .answer)) e ∙ by (isLine l))
+  where
+    by : (t : Bool) → answers (cond t (readOf (frameOfLine l)) (reading (Refused Line) zeros) .answer) ≡ answers (unless t Line then readAnswer (frameOfLine l))
+    by true = ap answers (answer-found (readAnswer (frameOfLine l)) (recordOf (frameOfLine l)))
+    by false = refl
 
 -- ---- writing
 

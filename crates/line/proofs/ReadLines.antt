@@ -21,6 +21,7 @@ use Rattle.line.specs.Lines.{isLine, frameOfLine, lineReading, lineOf, c
 use Rattle.line.proofs.ThereAndBack.{is-line, frame-back, same-frame, same-line}
 use Rattle.line.proofs.DigitBits.{half-field}
 use Rattle.report.proofs.Shaped.{Shaped}
+use Rattle.report.proofs.Reading.ReadSteps.{answer-found}
 
 pub line-reads : (l : List ℕ) → isLine l ≡ true → lineReading l ≡ readOf (frameOfLine l)
 unfolding lineReading
@@ -32,12 +33,8 @@ no-line-reads l h = rw h
 
 -- ---- 17 is the answer of no frame
 
-told : (v : Verdict) (r : Record) → reading v r .answer ≡ v
-told Fine r = refl
-told (Refused x) r = refl
-
 never-17 : (s : List ℕ) → readOf s .answer ≡ Refused Line → ⊥
-never-17 s e = omega (arith, answers-are-0-to-10 s, ap (λ (v : Verdict). answers v .number) (sym (told (readAnswer s) (recordOf s)) ∙ e))
+never-17 s e = omega (arith, answers-are-0-to-10 s, ap (λ (v : Verdict). answers v .number) (sym (answer-found (readAnswer s) (recordOf s)) ∙ e))
 
 pub only-17 : (l : List ℕ) → lineReading l .answer ≡ Refused Line → isLine l ≡ false
 only-17 l e = by (isLine l) refl

@@ -9,12 +9,14 @@ use Rattle.bits.specs.Frame.{fieldOf}
 use Rattle.rows.specs.declared.refusal.Verdict.{Verdict}
 use Rattle.rows.specs.declared.refusal.Verdict.the-variants.{Fine, Refused}
 use Rattle.rows.specs.declared.refusal.Refusal.the-variants.{Length, Padding, Short, Line}
+use Rattle.rows.specs.declared.refusal.Said.{Said}
+use Rattle.rows.specs.Refusals.{answers}
 use Rattle.report.specs.declared.read.Reading.{Reading}
 use Rattle.rows.specs.Runs.Questions.{_then_, unless}
 use Rattle.rows.specs.Layout.{Span, _to_}
 use Rattle.rows.specs.Runs.Verdict.{allowed}
 use Rattle.report.specs.Records.{zeros}
-use Rattle.report.specs.Runs.Reading.{reading, readOf}
+use Rattle.report.specs.Runs.Reading.{readAnswer, reading, readOf}
 use Rattle.line.specs.declared.from_line.Framing.{Framing}
 
 -- ---- one digit
@@ -64,9 +66,16 @@ noLine = record { answer = Refused Line; frame = replicate 32 0 }
 unfoldable pub framing : List ℕ → Framing
 framing l = cond (isLine l) (record { answer = Fine; frame = frameOfLine l }) noLine
 
+-- what that says, in the paper's numbers
+abbrev pub framingSays : List ℕ → Said
+framingSays l = answers (unless (isLine l) Line)
+
 -- "A line: 17, then as its frame."
 unfoldable pub lineReading : List ℕ → Reading
 lineReading l = cond (isLine l) (readOf (frameOfLine l)) (reading (Refused Line) zeros)
+
+abbrev pub lineSays : List ℕ → Said
+lineSays l = answers (unless (isLine l) Line then readAnswer (frameOfLine l))
 
 -- ---- from a frame to a line
 
@@ -88,6 +97,9 @@ lineAnswer s room =
     unless (eqb (length s) 32) Length
     then unless (eqb (fieldOf s 250 6) 0) Padding
     then unless (leb 63 room) Short
+
+abbrev pub lineWriteSays : List ℕ → ℕ → Said
+lineWriteSays s room = answers (lineAnswer s room)
 
 -- a refused writing leaves the buffer as it was, any other leaves the bytes behind the line
 abbrev pub lineWritten : Verdict → List ℕ → List ℕ → List ℕ

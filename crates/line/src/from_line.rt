@@ -1,6 +1,7 @@
 // From a line to a frame, and to what the frame says.
 ghost use mathlib.Core.Path.{_≡_};
-ghost use Rattle.line.specs.Lines.{noLine, framing, lineReading};
+ghost use Rattle.line.specs.Lines.{noLine, framing, framingSays, lineReading, lineSays};
+ghost use Rattle.rows.specs.Refusals.{answers};
 use crate::digits::DIGITS;
 use report::read::Reading;
 use report::record::Record;
@@ -25,6 +26,7 @@ fn no_line() -> Framing
 // The frame of a line, whatever it holds. Each byte is looked at once.
 pub fn frame_of_line(line: &[u8]) -> Framing
     ensures { λ r. ⌜ r ≡ framing (now (line .entry)) ⌝ }
+    ensures { λ r. ⌜ answers (r .answer) ≡ framingSays (now (line .entry)) ⌝ }
 {
     if line.len() != 63 {
         return no_line();
@@ -58,6 +60,7 @@ pub fn frame_of_line(line: &[u8]) -> Framing
 // What a line says, whatever it holds.
 pub fn read_line(line: &[u8]) -> Reading
     ensures { λ r. ⌜ r ≡ lineReading (now (line .entry)) ⌝ }
+    ensures { λ r. ⌜ answers (r .answer) ≡ lineSays (now (line .entry)) ⌝ }
 {
     let framing = frame_of_line(line);
     let answer = framing.answer;

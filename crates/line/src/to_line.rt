@@ -2,7 +2,8 @@
 ghost use mathlib.Core.Path.{_≡_};
 ghost use Prim.Native.Nat.{_<_};
 ghost use lib.ListN.{length};
-ghost use Rattle.line.specs.Lines.{capital, half, lineAnswer, lineInto};
+ghost use Rattle.line.specs.Lines.{capital, half, lineAnswer, lineInto, lineWriteSays};
+ghost use Rattle.rows.specs.Refusals.{answers};
 use rows::refusal::Refusal;
 use rows::refusal::Verdict;
 
@@ -30,6 +31,7 @@ fn digit(byte: u8, k: usize) -> u8
 // something in its padding is 2: a line has no digit for all of it.
 pub fn write_line(frame: &[u8], buffer: &mut [u8]) -> Verdict
     ensures { λ v. ⌜ (v ≡ lineAnswer (now (frame .entry)) (length (now (buffer .entry)))) × (now (buffer .exit) ≡ lineInto (now (frame .entry)) (now (buffer .entry))) ⌝ }
+    ensures { λ v. ⌜ answers v ≡ lineWriteSays (now (frame .entry)) (length (now (buffer .entry))) ⌝ }
 {
     if frame.len() != 32 {
         return Verdict::Refused(Refusal::Length);

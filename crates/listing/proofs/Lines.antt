@@ -1,3 +1,2 @@
 pub mod LineLoop
 pub mod WrongLines
-pub mod UsedSlots

@@ -9,7 +9,7 @@ use Rattle.rows.specs.declared.refusal.Refusal.{Refusal}
 use Rattle.nankai.specs.Nankai.{nankai, numberValues}
 use Rattle.rows.specs.Kept.{Holds}
 use Rattle.rows.specs.Faults.{Lowest}
-use Rattle.rows.proofs.Rules.Judged.{turn-place}
+use Rattle.rows.proofs.Rules.LowestBit.{lowest-bit}
 use Rattle.rows.proofs.Rules.Outcomes.{false-not-true, fine-then, then-assoc, then-fine}
 use Rattle.rows.proofs.Rules.JudgedFrames.{JudgesAll, judged}
 use Rattle.pages.specs.declared.name.Name.{Name}
@@ -28,22 +28,18 @@ pub is-fine : (v : Verdict) → isFine v ≡ true → v ≡ Fine
 is-fine Fine e = refl
 is-fine (Refused x) e = absurd (false-not-true e)
 
--- the name is fine where each value of its first page keeps its row's rule, and nowhere else
+-- the verdict on a name is the one on the values of its first page
 judges : (n : Name) → JudgesAll nankai (nameValues n)
 judges n = judged nankai (nameValues n) refl refl
 
-pub fine-holds : (n : Name) → nameVerdict n ≡ Fine → Holds nankai (nameValues n)
+fine-holds : (n : Name) → nameVerdict n ≡ Fine → Holds nankai (nameValues n)
 unfolding nameVerdict
 fine-holds n h = judges n .passed h
-
-pub holds-fine : (n : Name) → Holds nankai (nameValues n) → nameVerdict n ≡ Fine
-unfolding nameVerdict
-holds-fine n h = judges n .passes h
 
 -- and where it is not, no value that breaks its rule has a lower bit than the one that is named
 pub first-bad-value : (n : Name) (x : Refusal) → nameVerdict n ≡ Refused x → Lowest nankai (nameValues n) x
 unfolding nameVerdict
-first-bad-value n x e = record { there = judges n .found x e; lowest = λ y f. turn-place x y (judges n .earliest x y e f) }
+first-bad-value n x e = lowest-bit nankai (nameValues n) (judges n) x e
 
 -- what the code asks: the rest of that frame passes
 zero-bytes : (n : ℕ) → Bytes (replicate n 0)
@@ -60,7 +56,7 @@ unfolding nameVerdict verdict bodyVerdict
 name-found n v e = e ∙ simp (any-text-passes (replicate 18 0) (zero-bytes 18), last-passes, fine-then, then-fine, then-assoc)
 
 -- its first page is page 1 of a total from 1 to 63
-pub name-numbered : (n : Name) → nameVerdict n ≡ Fine → Numbered (pageOne n)
+name-numbered : (n : Name) → nameVerdict n ≡ Fine → Numbered (pageOne n)
 name-numbered n h = kept-numbered (pageOne n) (fine-holds n h .behind)
 
 pub total-most : (n : Name) → nameVerdict n ≡ Fine → n .total ≤ 63

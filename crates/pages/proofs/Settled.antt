@@ -1,7 +1,7 @@
 -- Every public function of `pages` is settled (crate `settled`).
 use Rattle.pages.proofs as pages
 use Rattle.settled.specs.Settled.{Settled}
-use Rattle.settled.proofs.Law.{answer}
+use Rattle.settled.proofs.Law.{answer, beside}
 
 pub Page-absent-is-settled : Settled pages.page.Page.absent.ended pages.page.Page.absent.Reads.Post
 Page-absent-is-settled κs a x y = answer
@@ -19,7 +19,7 @@ pub Name-of-zeros-is-settled : Settled pages.name.Name.of_zeros.ended pages.name
 Name-of-zeros-is-settled κs a x y = answer
 
 pub Name-verdict-is-settled : Settled pages.name.Name.verdict.ended pages.name.Name.verdict.Reads.Post
-Name-verdict-is-settled κs a x y = answer
+Name-verdict-is-settled κs a x y = beside answer
 
 pub Name-is-in-range-is-settled : Settled pages.name.Name.is_in_range.ended pages.name.Name.is_in_range.Reads.Post
 Name-is-in-range-is-settled κs a x y = answer

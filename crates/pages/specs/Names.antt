@@ -4,6 +4,8 @@ use lib.Dec.{eqb}
 use lib.ListN.{replicate}
 use Rattle.rows.specs.declared.refusal.Verdict.{Verdict}
 use Rattle.rows.specs.declared.refusal.Verdict.the-variants.{Fine, Refused}
+use Rattle.rows.specs.declared.refusal.Said.{Said}
+use Rattle.rows.specs.Refusals.{answers}
 use Rattle.nankai.specs.Nankai.{nankai, numberValues}
 use Rattle.rows.specs.Runs.Verdict.{verdict}
 use Rattle.pages.specs.declared.name.Name.{Name}
@@ -35,6 +37,10 @@ nameValues n = record {
 -- that page, whose total is at least the page number, 1
 unfoldable pub nameVerdict : Name → Verdict
 nameVerdict n = verdict nankai (nameValues n)
+
+-- what that says, in the paper's numbers
+abbrev pub nameSays : Name → Said
+nameSays n = answers (nameVerdict n)
 
 abbrev pub isFine : Verdict → Bool
 isFine Fine = true

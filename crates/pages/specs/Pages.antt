@@ -1,7 +1,7 @@
 -- One page of a store (document 01, "The page store"): "absent, held with its 18 bytes, or disputed".
 use mathlib.Core.Path.{_≡_}
 use mathlib.Core.Bool.{Bool, true, false, cond}
-use mathlib.Core.List.{List, [], _∷_}
+use mathlib.Core.List.{List, []}
 use Prim.Native.Nat.{ℕ, _<_}
 use lib.ListN.{length, getD, replicate}
 use lib.Dec.{eqb, ltb}

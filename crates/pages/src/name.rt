@@ -1,7 +1,8 @@
 // Which bulletin a page is of: report classification, issue time, information type, kind of
 // information and page total.
 ghost use mathlib.Core.Path.{_≡_};
-ghost use Rattle.pages.specs.Names.{zeroName, nameVerdict, nameInRange, sameCommon, sameName};
+ghost use Rattle.rows.specs.Refusals.{answers};
+ghost use Rattle.pages.specs.Names.{zeroName, nameVerdict, nameSays, nameInRange, sameCommon, sameName};
 use nankai::PageNumbers;
 use rows::common::Common;
 use rows::refusal::Verdict;
@@ -56,6 +57,7 @@ impl Name {
     // page 1 of its bulletin is, so the ranges of a frame's fields stand in one place.
     pub fn verdict(self) -> Verdict
         ensures { λ r. ⌜ r ≡ nameVerdict self ⌝ }
+        ensures { λ r. ⌜ answers r ≡ nameSays self ⌝ }
     {
         let common = self.common;
         let page = PageNumbers {

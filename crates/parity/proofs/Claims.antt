@@ -7,19 +7,29 @@ use mathlib.Core.List.{List}
 use lib.Bits.{bitXor}
 use borrow.Author.Tests.{eq-eqb, eqb-true}
 use Rattle.bits.specs.Frame.{number, fieldOf}
+use Rattle.bits.proofs.Frames.{field-lt}
 use Rattle.parity.specs.Parity.{after, parityOf, parityOfFront, parityRight}
 use Rattle.parity.proofs.Step.{after-lt}
 use Rattle.parity.proofs.Linear.{sum, after-sum}
 use Rattle.parity.proofs.Front.{parity-of-front}
+use Rattle.parity.proofs.EveryBit.{one-bit-counts}
 
 -- A parity is a number of 24 bits.
 pub parity-fits-its-field : (s : List ℕ) → parityOf s < 2 ^ 24
 unfolding parityOf
 parity-fits-its-field s = after-lt 0 (λ i. fieldOf s i 1) 226 (omega arith)
 
--- "CRC-24Q of bits 0 to 225": frames that agree in those have the same parity, whatever follows.
+-- "CRC-24Q of bits 0 to 225": frames that agree in those have the same parity, whatever follows ..
 pub parity-rests-on-226-bits : (s t : List ℕ) → number s / 2 ^ 30 ≡ number t / 2 ^ 30 → parityOf s ≡ parityOf t
 parity-rests-on-226-bits s t e = parity-of-front s ∙ ap parityOfFront e ∙ sym (parity-of-front t)
+
+-- .. and each of them counts: where two frames differ in one of those bits alone, their parities differ. So a parity of
+-- 224 bits, or of any fewer, is shut out.
+pub each-of-226-bits-counts : (s t : List ℕ) (k : ℕ) → k < 226 → ((i : ℕ) → i < 226 → (i ≡ k → ⊥) → fieldOf s i 1 ≡ fieldOf t i 1)
+    → (fieldOf s k 1 ≡ fieldOf t k 1 → ⊥) → parityOf s ≡ parityOf t → ⊥
+unfolding parityOf
+each-of-226-bits-counts s t k h same n e =
+    n (one-bit-counts (λ i. fieldOf s i 1) (λ i. fieldOf t i 1) k 226 h (λ i. field-lt s i 1) (λ i. field-lt t i 1) same e)
 
 -- The register is linear: of the sum of two runs of bits, without carries, it is the sum of the registers.
 pub register-is-linear : (c d : ℕ) (f g : ℕ → ℕ) (n : ℕ) → after (bitXor c d) (sum f g) n ≡ bitXor (after c f n) (after d g n)

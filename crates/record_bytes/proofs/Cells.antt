@@ -4,15 +4,15 @@ use Prim.Native.Nat.{ℕ, zero, suc, _+_, _*_, _/_, _%_, _^_, _≤_, _<_}
 use mathlib.Core.Bool.{Bool, cond, false, true}
 use lib.Dec.{eqb, leb}
 use borrow.Author.Tests.{eqb-true, leb-true}
-use native.Mathlib.Nat.{mod-eq-of-lt}
+use native.Mathlib.Nat.{mod-eq-of-lt, mod-lt}
 use native.Mathlib.Numerals.{add-one}
 use native.Mathlib.Omega.{arith}
 use mathlib.Core.List.{List, [], _∷_, _++_, append-assoc, append-nil, map}
 use lib.ListN.{length, getD, take, drop, replicate, length-append, length-drop}
-use lib.Seq.{drop-at, drop-drop, getD-drop, getD-take, length-take-le, take-at}
+use lib.Seq.{drop-at, drop-drop, getD-drop, length-take-le, take-at}
 use Rattle.bits.specs.Frame.{Bytes, eights, number}
 use Rattle.bits.specs.Layout.{Fit, decode, encode, total}
-use Rattle.bits.proofs.Bytes.{number-lt, number-more}
+use Rattle.bits.proofs.Bytes.{number-inj, number-lt, number-more}
 use Rattle.bits.proofs.Windows.{narrower}
 use Rattle.bits.proofs.Claims.{decoded-then-encoded}
 use Rattle.lent.specs.Numbers.{wide}
@@ -213,6 +213,21 @@ cells-fit l k (w ∷ ws) b h =
 
     behind : (a b c d : ℕ) → a + (b + c) ≤ d → a + b + c ≤ d
     behind a b c d h = omega arith
+
+-- ---- and its bytes are given back
+
+wide-bytes : (n v : ℕ) → Bytes (wide n v)
+wide-bytes zero v i = omega arith
+wide-bytes (suc n) v zero = mod-lt (v / 2 ^ (8 * n)) (omega arith)
+wide-bytes (suc n) v (suc i) = wide-bytes n v i
+
+pub wide-number : (n : ℕ) (l : List ℕ) → Bytes l → n ≤ length l → wide n (number (take n l)) ≡ take n l
+wide-number n l b h =
+    let long : length (take n l) ≡ n = length-take-le n l h in
+    let own : Bytes (take n l) = bytes-taken n l b in
+    let small : number (take n l) < 2 ^ (8 * n) = rw long at (number-lt (take n l) own) in
+    number-inj (wide n (number (take n l))) (take n l) (length-wide n (number (take n l)) ∙ sym long) (wide-bytes n (number (take n l))) own
+    (number-wide n (number (take n l)) ∙ mod-eq-of-lt small)
 
 -- ---- one byte more
 

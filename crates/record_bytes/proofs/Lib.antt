@@ -5,3 +5,5 @@ pub mod ToBytes
 pub mod FromBytes
 pub mod RoundTrip
 pub mod Settled
+pub mod ValidFits
+pub mod Accepted

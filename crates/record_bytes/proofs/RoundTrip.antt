@@ -39,7 +39,7 @@ pub record Fits (r : Record) : Type 0 where
 
 -- ---- one behind the other
 
-slot-behind : (n : ℕ) (l : List ℕ) (j k : ℕ) → j ≡ n + k → slotAt l j ≡ slotAt (drop n l) k
+pub slot-behind : (n : ℕ) (l : List ℕ) (j k : ℕ) → j ≡ n + k → slotAt l j ≡ slotAt (drop n l) k
 slot-behind n l j k e = λ i. record {
   day = byte-behind n l j k e i;
   hour = byte-behind n l (j + 1) (k + 1) (omega (arith, e)) i;

@@ -5,7 +5,7 @@ use mathlib.Core.List.{List, [], map, _∷_}
 use Prim.Native.Nat.{ℕ, _≤_, _<_}
 use lib.ListN.{length, getD}
 use types.Run.{OneOf}
-use Rattle.bits.specs.Frame.{Bytes, bytesOf}
+use Rattle.bits.specs.Frame.{Bytes, bytesOf, fieldOf}
 use Rattle.rows.specs.declared.refusal.Verdict.{Verdict}
 use Rattle.rows.specs.declared.refusal.Verdict.the-variants.{Fine, Refused}
 use Rattle.rows.specs.declared.refusal.Refusal.{Refusal}
@@ -17,18 +17,17 @@ use Rattle.report.specs.Records.{bodyOf, recordOf, zeros, values}
 use Rattle.rows.specs.Values.{valuesOf}
 use Rattle.rows.specs.Runs.Verdict.{empty}
 use Rattle.report.specs.Meaning.{usedOf}
-use Rattle.report.specs.Runs.Reading.{readAnswer, reading, readOf}
+use Rattle.report.specs.Runs.Reading.{readAnswer, readSays, reading, readOf}
 use Rattle.report.specs.Conforms.{Conforms}
-use Rattle.rows.specs.Faults.{Fault, Lowest}
-use Rattle.report.specs.Reasons.{readQuestions, WhyNotRead, WhyNotWritten}
-use Rattle.report.specs.Runs.Writing.{frame, written, writeAnswer, writeOf, Valid}
+use Rattle.rows.specs.Faults.{Fault, Lowest, Met}
+use Rattle.report.specs.Reasons.{readQuestions, WhyNotRead, writeQuestions, WhyNotWritten}
+use Rattle.report.specs.Runs.Writing.{frame, written, writeAnswer, writeOf, writeSays, Valid}
 use Rattle.report.specs.Rules.{KeepsRules}
-use Rattle.rows.proofs.Rules.Ordered.{Met}
 use Rattle.report.proofs.Reading.Frames.{layoutOf, frameValues, conforming-fine, fine-conforming, reason, faulty, faultless, no-gap}
 use Rattle.rows.proofs.Layouts.Lengths.{Filled, frame-filled}
 use Rattle.slots.proofs.Used.{counted-used}
-use Rattle.report.proofs.Reading.Used.{others-empty}
-use Rattle.rows.proofs.Rules.Numbers.{says-apart}
+use Rattle.report.proofs.Reading.Used.{others-empty, used-place, used-prefecture, used-slot-kept}
+use Rattle.rows.proofs.Rules.Numbers.{says-apart, says-numbered, zero-fine}
 use Rattle.report.proofs.Reading.ReadNumbers.{read-ten, refused-zeros}
 use Rattle.report.proofs.PaperValues.{found, expected, paperValues, every-row}
 use Rattle.report.proofs.Writing.WriteNumbers.{writeNumbers, write-numbered}
@@ -40,12 +39,15 @@ use Rattle.report.proofs.Shaped.{Shaped, frame-shaped, record-filled}
 use Rattle.report.proofs.Categories.{all, layouts, samples}
 use Rattle.report.proofs.RoundTrips.Witnesses.{Each, WrittenAndRead, samples-written-and-read}
 use Rattle.report.specs.Categories.{categories, layout}
-use Rattle.slots.specs.Slots.{slotParts, slotsValues, slotValues}
+use Rattle.slots.specs.Slots.{noSlot, slotParts, slotsValues, slotValues}
 use Rattle.slots.specs.declared.slot.Slot.{Slot}
 use Rattle.ash_fall.specs.AshFall.{ashFall}
+use Rattle.ash_fall.specs.Meaning.{prefectureOf}
+use Rattle.ash_fall.specs.declared.meaning.Prefecture.the-variants.{Number}
+use Rattle.rows.specs.Kept.{Kept}
 use Rattle.intensity.specs.Intensity.{intensity}
 use Rattle.report.proofs.Tables.{tables-tile as tiled, rules-fit as fit}
-use Rattle.report.proofs.Writing.Validity.{recordLayout, recordValues, valid-keeps, keeps-valid, reason as write-reason}
+use Rattle.report.proofs.Writing.Validity.{recordLayout, recordValues, valid-keeps, keeps-valid, reason as write-reason, faulty as write-faulty, faultless as write-faultless, fault-free}
 use Rattle.report.proofs.Writing.WriteReasons.{reserving, no-gap as write-no-gap, above-63}
 
 -- ---- the tables
@@ -116,6 +118,22 @@ pub counted-slots-are-used : (r : Record) (i : ℕ) → i < usedOf r → empty (
 unfolding usedOf
 counted-slots-are-used r i h = counted-used (map slotParts (r .slots)) i h
 
+-- "In a used slot each field must be in its range": in a frame that is read, those that are counted keep their rows' rules.
+pub used-slots-keep-their-rules : (s : List ℕ) → Conforms s → (i : ℕ) → i < usedOf (recordOf s)
+    → Kept [] (layoutOf s .slots .rows) (slotValues (layoutOf s .slots) (getD (recordOf s .slots) i noSlot))
+used-slots-keep-their-rules s c i u = used-slot-kept s c i u
+
+-- So each used slot of an intensity report has a "prefecture (6, 1-47)" ..
+pub used-prefectures-are-1-to-47 : (s : List ℕ) → Conforms s → fieldOf s 17 4 ≡ 3 → (i : ℕ) → i < usedOf (recordOf s)
+    → (1 ≤ getD (recordOf s .slots) i noSlot .place) × (getD (recordOf s .slots) i noSlot .place ≤ 47)
+used-prefectures-are-1-to-47 s c e i u = used-prefecture s c e i u
+
+-- .. and each used slot of an ash fall report a place that lies in one: "A place divided by 100000, remainder dropped, is its
+-- prefecture, 1 to 47".
+pub used-places-lie-in-a-prefecture : (s : List ℕ) → Conforms s → fieldOf s 17 4 ≡ 9 → (i : ℕ) → i < usedOf (recordOf s)
+    → (p : ℕ) × ((prefectureOf (getD (recordOf s .slots) i noSlot .place) ≡ Number p) × ((1 ≤ p) × (p ≤ 47)))
+used-places-lie-in-a-prefecture s c e i u = used-place s c e i u
+
 -- "After an empty slot every slot is empty": in a frame that is read, none behind the counted ones has.
 pub other-slots-are-empty : (s : List ℕ) → Conforms s → (i : ℕ) → usedOf (recordOf s) ≤ i → i < layoutOf s .slots .count
     → empty (getD (slotsValues (layoutOf s .slots) (recordOf s .slots)) i []) ≡ true
@@ -127,8 +145,16 @@ other-slots-are-empty s c i u l = others-empty s c i u l
 pub answers-tell-refusals-apart : (x y : Refusal) → says x ≡ says y → x ≡ y
 answers-tell-refusals-apart x y e = says-apart x y e
 
+-- A refusal has one of the numbers of that table, so none has number 0 ..
+pub refusals-are-1-to-17 : (x : Refusal) → (1 ≤ says x .number) × (says x .number ≤ 17)
+refusals-are-1-to-17 x = says-numbered x
+
+-- .. and where a promise says 0 nothing is refused: "answer (0 when read)".
+pub zero-says-that-nothing-is-refused : (v : Verdict) → answers v .number ≡ 0 → v ≡ Fine
+zero-says-that-nothing-is-refused v e = zero-fine v e
+
 -- "Reading a frame: 1 to 7 in that order, then 8, 9, 10 by lowest bit": no other number is answered.
-pub answers-are-0-to-10 : (s : List ℕ) → answers (readAnswer s) .number ≤ 10
+pub answers-are-0-to-10 : (s : List ℕ) → readSays s .number ≤ 10
 answers-are-0-to-10 s = read-ten s
 
 -- "A refused reading gives a record of zeros."
@@ -152,7 +178,23 @@ keeping-rules-is-valid r s k = keeps-valid r s k
 -- "Writing: 1, 3, 7, 11, then 8 and 10 by lowest bit": the condition of the number fails, every earlier one holds, and no
 -- fault has a lower bit than that of an 8 or 10.
 pub writing-refused-for-a-reason : (r : Record) (size : ℕ) (x : Refusal) → Shaped r → writeAnswer r size ≡ Refused x → WhyNotWritten r size x
-writing-refused-for-a-reason r size x s e = write-reason r size x s e
+writing-refused-for-a-reason r size x s e = write-reason r size s x e
+
+-- "8 and 10 by lowest bit", from the fault: a record that passes 1, 3, 7 and 11 and has a fault is refused, for one with the
+-- lowest bit.
+pub faulty-is-refused-in-writing : (r : Record) (size : ℕ) (y : Refusal) → Shaped r → Met (writeQuestions r size) → Fault (recordLayout r) (recordValues r) y
+    → (x : Refusal) × (writeAnswer r size ≡ Refused x) × Lowest (recordLayout r) (recordValues r) x
+faulty-is-refused-in-writing r size y s m f = write-faulty r size s y m f
+
+-- "where no row tested by a call applies, the call succeeds" ..
+pub faultless-is-written : (r : Record) (size : ℕ) → Shaped r → Met (writeQuestions r size)
+    → ((x : Refusal) → Fault (recordLayout r) (recordValues r) x → ⊥) → writeAnswer r size ≡ Fine
+faultless-is-written r size s m h = write-faultless r size s m h
+
+-- .. and there alone
+pub written-is-faultless : (r : Record) (size : ℕ) → Shaped r → writeAnswer r size ≡ Fine
+    → Met (writeQuestions r size) × ((x : Refusal) → Fault (recordLayout r) (recordValues r) x → ⊥)
+written-is-faultless r size s e = fault-free r size s e
 
 -- "the gap again before a slot's fields"
 pub gap-before-fields-in-writing : (r : Record) (size p : ℕ) → Shaped r → writeAnswer r size ≡ Refused (Range p)
@@ -164,7 +206,7 @@ pub reserved-above-63 : (r : Record) (n : ℕ) → Valid r → 63 < n → writeA
 reserved-above-63 r n v h = above-63 r n v h
 
 -- "Writing: 1, 3, 7, 11, then 8 and 10": no other number is answered, and never 9, for "spares .. are not in it".
-pub write-answers : (r : Record) (size : ℕ) → OneOf writeNumbers (answers (writeAnswer r size) .number)
+pub write-answers : (r : Record) (size : ℕ) → OneOf writeNumbers (writeSays r size .number)
 write-answers r size = write-numbered r size
 
 -- "the final contents of every buffer lent to it": the frame of a valid record, whatever stood there; a refused writing

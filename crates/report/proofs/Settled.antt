@@ -1,7 +1,7 @@
 -- Every public function of `report` is settled (crate `settled`).
 use Rattle.report.proofs as report
 use Rattle.settled.specs.Settled.{Settled}
-use Rattle.settled.proofs.Law.{answer, both, second}
+use Rattle.settled.proofs.Law.{answer, both, beside, second}
 
 pub Record-slots-used-is-settled : Settled report.record.Record.slots_used.ended report.record.Record.slots_used.Reads.Post
 Record-slots-used-is-settled κs a x y = answer
@@ -13,13 +13,13 @@ pub Record-told-is-settled : Settled report.record.Record.told.ended report.reco
 Record-told-is-settled κs a x y = answer
 
 pub read-is-settled : Settled report.read.read.ended report.read.read.Reads.Post
-read-is-settled κs a x y = answer
+read-is-settled κs a x y = beside answer
 
 pub write-answer-is-settled : Settled report.write.write_answer.ended report.write.write_answer.Reads.Post
-write-answer-is-settled κs a x y = answer
+write-answer-is-settled κs a x y = beside answer
 
 pub write-is-settled : Settled report.write.write.ended report.write.write.Reads.Post
-write-is-settled κs a x y = both second
+write-is-settled κs a x y = beside (both second)
 
 pub Body-fields-is-settled : Settled report.body.Body.fields.ended report.body.Body.fields.Reads.Post
 Body-fields-is-settled κs a x y = answer

@@ -1,7 +1,8 @@
 // Reading a lent frame: the bits first, then the rules.
 ghost use mathlib.Core.Path.{_≡_};
 ghost use Rattle.report.specs.Records.{recordOf};
-ghost use Rattle.report.specs.Runs.Reading.{outerOf, contentAnswer, reading, readOf};
+ghost use Rattle.report.specs.Runs.Reading.{outerOf, contentAnswer, reading, readOf, readSays};
+ghost use Rattle.rows.specs.Refusals.{answers};
 ghost use Rattle.rows.specs.declared.refusal.Verdict.{Verdict};
 use crate::body::Content;
 use crate::codes::is_preamble;
@@ -76,6 +77,7 @@ fn inner(f: [u8; 32]) -> Reading
 // Reads a lent frame, of whatever length and content.
 pub fn read(frame: &[u8]) -> Reading
     ensures { λ r. ⌜ r ≡ readOf (now (frame .entry)) ⌝ }
+    ensures { λ r. ⌜ answers (r .answer) ≡ readSays (now (frame .entry)) ⌝ }
 {
     if frame.len() != 32 {
         return conclude(Verdict::Refused(Refusal::Length), Record::of_zeros());

@@ -1,7 +1,8 @@
 // Writing a record to a lent frame: first whether, then what.
 ghost use mathlib.Core.Path.{_≡_};
 ghost use lib.ListN.{length};
-ghost use Rattle.report.specs.Runs.Writing.{writeAnswer, writeOf, writingTold};
+ghost use Rattle.report.specs.Runs.Writing.{writeAnswer, writeOf, writingTold, writeSays};
+ghost use Rattle.rows.specs.Refusals.{answers};
 use crate::body::Told;
 use crate::codes::is_preamble;
 use crate::encode::encode;
@@ -32,6 +33,7 @@ fn asked(r: Record, size: usize) -> Told
 // What writing a record to a buffer of this size answers.
 pub fn write_answer(r: Record, size: usize) -> Verdict
     ensures { λ v. ⌜ v ≡ writeAnswer r size ⌝ }
+    ensures { λ v. ⌜ answers v ≡ writeSays r size ⌝ }
 {
     let told = asked(r, size);
     told.found
@@ -41,6 +43,7 @@ pub fn write_answer(r: Record, size: usize) -> Verdict
 // frame stays as it was.
 pub fn write(r: Record, frame: &mut [u8]) -> Verdict
     ensures { λ v. ⌜ (v ≡ writeAnswer r (length (now (frame .entry)))) × (now (frame .exit) ≡ writeOf r (now (frame .entry))) ⌝ }
+    ensures { λ v. ⌜ answers v ≡ writeSays r (length (now (frame .entry))) ⌝ }
 {
     let told = asked(r, frame.len());
     let found = told.found;

@@ -7,5 +7,6 @@ pub mod JudgedRows
 pub mod JudgedSlots
 pub mod JudgedFrames
 pub mod Ordered
+pub mod LowestBit
 pub mod Numbers
 pub mod Walks

@@ -52,6 +52,11 @@ infixl 71 _or_
 pub data Question : Type 1 where
   _or_ : Type 0 → Refusal → Question
 
+-- every question is met
+abbrev pub Met : List Question → Type 0
+Met [] = Unit
+Met ((q or r) ∷ qs) = q × Met qs
+
 -- x is the refusal of the first question that is not met; where all are met, the rest holds
 abbrev pub First : List Question → Refusal → Type 0 → Type 0
 First [] x rest = rest

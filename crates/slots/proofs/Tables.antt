@@ -4,14 +4,14 @@ use Rattle.rows.specs.Kept.{Empty}
 use mathlib.Core.List.{List, [], _++_, _∷_, map}
 use Rattle.slots.specs.declared.slot.Slot.{Slot}
 use Rattle.rows.specs.Layout.{Slots, slotRows}
-use Rattle.rows.proofs.Layouts.Lengths.{SlotsFilled, length-each, length-shifted}
-use Prim.Native.Nat.{_*_, _+_, _-_, _≤_, suc, zero, ℕ}
+use Rattle.rows.proofs.Layouts.Lengths.{SlotsFilled, each-at, length-each, length-shifted}
+use Prim.Native.Nat.{_*_, _+_, _-_, _<_, _≤_, suc, zero, ℕ}
 use mathlib.Core.Path.{_∙_, _≡_, ap, ap₂, refl, sym}
 use Rattle.slots.proofs.Parts.{allWide, empty-spread, length-sift, length-spread, sift-spread, spread-vacant, trues, vacant-again}
 use Rattle.rows.proofs.Rules.Outcomes.{and-both, both-and}
 use native.Mathlib.Omega.{arith}
 use Rattle.rows.specs.Values.{cut, each, widths, flags, partWidths, spread}
-use lib.ListN.{drop, getD, length, length-append, length-map, length-replicate, replicate, take}
+use lib.ListN.{drop, getD, length, length-append, length-map, length-replicate, replicate, take, List·getD-append}
 use Rattle.rows.specs.Runs.Verdict.{empty}
 use Rattle.rows.proofs.Rules.JudgedSlots.{empty-is}
 use lib.Dec.{eqb, leb}
@@ -106,6 +106,16 @@ module _ (k : Slots) (t : Suited k) where
       ap (map (slotValues k)) (take-at (each (k .count) _) (replicate (16 - k .count) noSlot) (k .count) (length-each (k .count) _))
       ∙ map-each (k .count) _ (slotValues k)
       ∙ each-as (k .count) _ _ (λ i. same-values k t s (k .first + k .bits * i))
+
+  -- and so has each of them
+  pub slot-agrees : (s : List ℕ) (i : ℕ) → i < k .count → slotValues k (getD (slotsOf s k) i noSlot) ≡ map (cut s) (slotRows k (k .first + k .bits * i))
+  unfolding slotsOf
+  slot-agrees s i h =
+      let on-wire : ℕ → Slot = λ j. slotOf k s (k .first + k .bits * j) in
+      let listed = each (k .count) on-wire in
+      let inside : i < length listed = rw (length-each (k .count) on-wire) h in
+      ap (slotValues k) (List·getD-append listed (replicate (16 - k .count) noSlot) noSlot i inside ∙ each-at (k .count) on-wire noSlot i h)
+      ∙ same-values k t s (k .first + k .bits * i)
 
   pub slots-sixteen : (s : List ℕ) → length (slotsOf s k) ≡ 16
   unfolding slotsOf

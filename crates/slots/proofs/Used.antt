@@ -14,6 +14,7 @@ use Rattle.rows.proofs.Rules.Kinds.{mayBeZero, zero-asked}
 use native.Mathlib.Nat.{le-of-suc-le-suc, not-suc-le-zero, suc-inj, suc-ne-zero}
 use Rattle.slots.specs.Slots.{usedAmong, noSlot, slotOf, slotParts, slotsOf}
 use mathlib.Core.Logic.{⊎-elim}
+use native.Mathlib.Omega.{arith}
 use Rattle.slots.proofs.Tables.{Suited, same-silence}
 use Rattle.rows.specs.Values.{cut, each}
 
@@ -36,6 +37,42 @@ pub counted-used : (vs : List (List ℕ)) (i : ℕ) → i < usedAmong vs → emp
 unfolding usedAmong
 counted-used [] i h = absurd (not-suc-le-zero h)
 counted-used (v ∷ vs) i h = counted v vs (empty v) refl (counted-used vs) i h
+
+used-or-not : (b : Bool) (u n : ℕ) → u ≤ n → cond b 0 (suc u) ≤ suc n
+used-or-not true u n h = omega arith
+used-or-not false u n h = omega arith
+
+pub used-at-most : (vs : List (List ℕ)) → usedAmong vs ≤ length vs
+unfolding usedAmong
+used-at-most [] = omega arith
+used-at-most (v ∷ vs) = used-or-not (empty v) (usedAmong vs) (length vs) (used-at-most vs)
+
+-- ---- each of them keeps the rules of its rows
+
+-- what follows the first one is counted where the first one is
+counted-behind : (v : List ℕ) (vs : List (List ℕ)) (b : Bool) → empty v ≡ b → (i : ℕ) → suc i < usedAmong (v ∷ vs) → i < usedAmong vs
+counted-behind v vs true e i h = absurd (not-suc-le-zero (rw (first-missing v vs e) at h))
+counted-behind v vs false e i h = le-of-suc-le-suc (rw (first-counted v vs e) at h)
+
+unshifted : (a : ℕ) (past : List ℕ) (rs : List Row) (vs : List ℕ) → Kept past (shifted a rs) vs → Kept past rs vs
+unshifted a past [] vs h = tt
+unshifted a past (r ∷ rs) [] h = tt
+unshifted a past (r ∷ rs) (v ∷ vs) h = (h .0, unshifted a (v ∷ past) rs vs (h .1))
+
+later-used-kept : (k : Slots) (at : ℕ) (vs : List (List ℕ)) → LaterKept k at vs → (i : ℕ) → i < usedAmong vs → Kept [] (k .rows) (getD vs i [])
+unfolding usedAmong
+later-used-kept k at [] h i l = absurd (not-suc-le-zero l)
+later-used-kept k at (v ∷ vs) h zero l =
+    ⊎-elim (λ p. absurd (not-suc-le-zero (rw (first-missing v vs (is-empty v (p .0))) at l))) (λ p. unshifted at [] (k .rows) v (p .1 .0)) h
+later-used-kept k at (v ∷ vs) h (suc i) l =
+    ⊎-elim (λ p. absurd (not-suc-le-zero (rw (first-missing v vs (is-empty v (p .0))) at l)))
+    (λ p. later-used-kept k (at + k .bits) vs (p .1 .1) i (counted-behind v vs (empty v) refl i l)) h
+
+pub used-kept : (k : Slots) (vs : List (List ℕ)) → SlotsKept k vs → (i : ℕ) → i < usedAmong vs → Kept [] (k .rows) (getD vs i [])
+unfolding usedAmong
+used-kept k [] h i l = absurd (not-suc-le-zero l)
+used-kept k (v ∷ vs) h zero l = unshifted (k .first) [] (k .rows) v (h .0)
+used-kept k (v ∷ vs) h (suc i) l = later-used-kept k (k .first + k .bits) vs (h .1) i (counted-behind v vs (empty v) refl i l)
 
 -- ---- every slot behind them is empty, where nothing stands behind an empty one
 

@@ -9,7 +9,7 @@ use Rattle.rows.specs.Values.{each}
 use Rattle.pages.specs.declared.page.Page.{Page}
 use Rattle.bulletin.specs.declared.store.Store.{Store}
 use Rattle.store_bytes.specs.Stores.{nameBytes, pageBytes, pagesBytes, storeBytes, nameFrom, pageAt, pagesFrom, storeFrom}
-use Rattle.record_bytes.proofs.FromBytes.Places.{each-same, byte-behind}
+use Rattle.record_bytes.proofs.FromBytes.Places.{each-same, byte-behind, first-bytes}
 use Rattle.bulletin.proofs.Telling.PageBytes.{Eighteen}
 
 -- a page behind n bytes
@@ -25,11 +25,6 @@ pages-behind count n l from e =
     each-same count (λ i. pageAt l (from i)) (λ i. pageAt (drop n l) (19 * i)) (λ i. page-behind n l (from i) (19 * i) (e i))
 
 -- ---- from bytes and back to them
-
-first-bytes : (n : ℕ) (l : List ℕ) → n ≤ length l → each n (λ i. getD l i 0) ≡ take n l
-first-bytes zero l h = refl
-first-bytes (suc n) [] h = absurd (omega arith)
-first-bytes (suc n) (x ∷ l) h = ap (λ (t : List ℕ). x ∷ t) (first-bytes n l (omega arith))
 
 first-page : (l : List ℕ) → 19 ≤ length l → pageBytes (pageAt l 0) ≡ take 19 l
 first-page l h = first-bytes 19 l h

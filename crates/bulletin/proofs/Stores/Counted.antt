@@ -1,5 +1,5 @@
--- One turn of the loops that count and search the pages of a store, as laws of lists.
-use mathlib.Core.Path.{_≡_, refl}
+-- One turn of the loops that count and search the pages of a store, as laws of lists, and what their report says.
+use mathlib.Core.Path.{_≡_, refl, ap, _∙_}
 use mathlib.Core.Bool.{Bool, true, false, cond}
 use mathlib.Core.List.{List, [], _∷_}
 use Prim.Native.Nat.{ℕ, suc, _+_, _<_, _≤_}
@@ -8,10 +8,17 @@ use native.Mathlib.Numerals.{add-one}
 use lib.Dec.{eqb, ltb}
 use lib.ListN.{length, getD, drop, drop-of-length-le}
 use lib.Seq.{drop-cons}
+use Rattle.rows.specs.Refusals.{answers}
+use Rattle.rows.specs.Runs.Questions.{unless}
+use Rattle.rows.specs.declared.refusal.Verdict.the-variants.{Fine, Refused}
+use Rattle.rows.specs.declared.refusal.Refusal.the-variants.{Unsound}
 use Rattle.pages.specs.declared.page.Page.{Page}
+use Rattle.bulletin.specs.declared.store.Store.{Store}
+use Rattle.bulletin.specs.declared.count.Count.{Count}
+use Rattle.bulletin.specs.Stores.{soundStore}
 use borrow.Author.Tests.{eq-eqb, ne-eqb, lt-ltb, le-ltb}
 use Rattle.pages.specs.Pages.{noPage}
-use Rattle.bulletin.specs.Counts.{countMarked, lowestNotHeld}
+use Rattle.bulletin.specs.Counts.{countMarked, lowestNotHeld, countOf, countSays}
 
 -- ---- counts
 
@@ -55,3 +62,15 @@ lowest-most t (p ∷ l) i = by (ltb i t) (eqb (p .mark) 1) (lowest-most t l (suc
     by true true h = omega arith
     by true false h = omega arith
     by false b h = omega arith
+
+-- ---- what the report says
+
+pub count-said : (s : Store) (r : Count) → r ≡ countOf s → (r ≡ countOf s) × (answers (r .answer) ≡ countSays s)
+unfolding countOf unless
+count-said s r e = (e, ap (λ (c : Count). answers (c .answer)) e ∙ by (soundStore s) _ _ _)
+  where
+    by : (b : Bool) (held disputed lowest : ℕ)
+        → answers (cond {A = Count} b (record { answer = Fine; held = held; disputed = disputed; lowest = lowest }) (record { answer = Refused Unsound; held = 0; disputed = 0; lowest = 0 }) .answer)
+        ≡ answers (unless b Unsound)
+    by true held disputed lowest = refl
+    by false held disputed lowest = refl

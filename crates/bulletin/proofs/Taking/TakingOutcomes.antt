@@ -1,6 +1,7 @@
--- The ways out of admitting a record, and of taking it.
+-- The ways out of admitting a record, and of taking it, and what they say.
 use mathlib.Core.Path.{_≡_, refl, ap, sym, _∙_}
 use mathlib.Core.Bool.{Bool, true, false, cond}
+use mathlib.Core.List.{List}
 use Prim.Native.Nat.{ℕ, _-_}
 use native.Mathlib.Omega.{arith}
 use Rattle.nankai.specs.declared.PageNumbers.{PageNumbers}
@@ -8,16 +9,21 @@ use Rattle.report.specs.declared.record.Record.{Record}
 use Rattle.rows.specs.declared.refusal.Verdict.{Verdict}
 use Rattle.rows.specs.declared.refusal.Refusal.{Refusal}
 use Rattle.rows.specs.declared.refusal.Refusal.the-variants.{NoPage, OtherBulletin, Unsound}
+use Rattle.rows.specs.Refusals.{plain, answers}
+use Rattle.rows.specs.Runs.Questions.{_then_, unless}
 use Rattle.report.specs.Runs.Writing.{writeAnswer, Valid}
 use Rattle.rows.proofs.Rules.Outcomes.{unless-fine, unless-refused}
 use Rattle.pages.specs.declared.name.Name.{Name}
 use Rattle.bulletin.specs.declared.take.Admission.{Admission}
 use Rattle.bulletin.specs.declared.take.Admission.the-variants.{Number, Refused}
 use Rattle.bulletin.specs.declared.store.Store.{Store}
+use lib.Dec.{eqb}
+use Rattle.pages.specs.Pages.{join, heldPage}
 use Rattle.pages.specs.Names.{sameName}
-use Rattle.bulletin.specs.Stores.{soundStore}
+use Rattle.bulletin.specs.Stores.{soundStore, pageBehind}
 use Rattle.bulletin.specs.declared.take.Taking.{Taking}
-use Rattle.bulletin.specs.Takings.{bulletinOf, pageNumberIn, writable, admission, putPage, taking, takeOf, numberIn}
+use Rattle.bulletin.specs.declared.take.Taken.the-variants.{New, Same, Disputed}
+use Rattle.bulletin.specs.Takings.{bulletinOf, pageNumberIn, writable, admission, putPage, takingAnswer, taking, takeOf, numberIn, takenSays, admissionVerdict, takeSays}
 use Rattle.bulletin.specs.Steps.{soundness, refusedTaking}
 use Rattle.report.specs.declared.body.Body.the-variants.{Nankai}
 use Rattle.report.specs.declared.body.Body.{Body}
@@ -114,3 +120,32 @@ pub taken-in : (s : Store) (r : Record) (a : Admission) (k : ℕ) (t : Taking) �
     → t ≡ putPage s (k - 1) (r .text) → t ≡ takeOf s r
 unfolding taking
 taken-in s r a k t e f g = g ∙ sym (ap (λ (w : Admission). taking w s (r .text)) (sym e ∙ f))
+
+-- ---- what taking says
+
+-- new, the same and disputed say 0
+taken-zero : (b c : Bool) → takenSays (cond b New (cond c Same Disputed)) ≡ plain 0
+taken-zero true c = refl
+taken-zero false true = refl
+taken-zero false false = refl
+
+taking-says : (a : Admission) (s : Store) (t : List ℕ) → takenSays (taking a s t .answer) ≡ answers (admissionVerdict a)
+unfolding taking putPage takingAnswer
+taking-says (Number k) s t = taken-zero (eqb (pageBehind s (k - 1) .mark) 0) (eqb (join (pageBehind s (k - 1)) (heldPage t) .mark) 1)
+taking-says (Refused x) s t = refl
+
+-- the steps of an admission are the paper's order
+admission-says : (s : Store) (r : Record)
+    → admissionVerdict (admission s r) ≡ (unless (soundStore s) Unsound then writeAnswer r 32 then admissionVerdict (pageNumberIn (s .name) (r .common) (r .body)))
+unfolding admission unless _then_
+admission-says s r = by (soundStore s) (writeAnswer r 32)
+  where
+    by : (b : Bool) (v : Verdict) → admissionVerdict (cond b (writable v (pageNumberIn (s .name) (r .common) (r .body))) (Refused Unsound))
+        ≡ (unless b Unsound then v then admissionVerdict (pageNumberIn (s .name) (r .common) (r .body)))
+    by true Fine = refl
+    by true (Refuses x) = refl
+    by false v = refl
+
+pub taken-said : (s : Store) (r : Record) (t : Taking) → t ≡ takeOf s r → (t ≡ takeOf s r) × (takenSays (t .answer) ≡ takeSays s r)
+taken-said s r t e =
+    (e, ap (λ (u : Taking). takenSays (u .answer)) e ∙ taking-says (admission s r) s (r .text) ∙ ap answers (admission-says s r))

@@ -1,4 +1,4 @@
--- The ways out of telling the text.
+-- The ways out of telling the text, and what they say.
 use mathlib.Core.Path.{_≡_, sym, ap, _∙_, refl}
 use mathlib.Core.List.{List, _++_}
 use Prim.Native.Nat.{ℕ, _*_, _≤_, _<_}
@@ -9,9 +9,10 @@ use Rattle.rows.specs.declared.refusal.Verdict.{Verdict}
 use Rattle.rows.specs.declared.refusal.Verdict.the-variants.{Fine, Refused}
 use Rattle.rows.specs.declared.refusal.Refusal.{Refusal}
 use Rattle.rows.specs.declared.refusal.Refusal.the-variants.{Short, Unsound}
+use Rattle.rows.specs.Refusals.{answers}
 use Rattle.bulletin.specs.declared.store.Store.{Store}
 use Rattle.bulletin.specs.declared.text.Telling.{Telling}
-use Rattle.bulletin.specs.Text.{bytesInOrder, textLengthOf, textVerdict, withRoom, textAnswerBy, textAnswer, textBufferBy, textBuffer}
+use Rattle.bulletin.specs.Text.{bytesInOrder, textLengthOf, textVerdict, withRoom, textAnswerBy, textAnswer, textBufferBy, textBuffer, textSays}
 use mathlib.Core.Bool.{Bool, true, false, cond}
 use Rattle.rows.proofs.Rules.Outcomes.{not-both}
 use Rattle.bulletin.specs.Stores.{soundStore}
@@ -44,6 +45,16 @@ pub told-whole : (s : Store) (out after : List ℕ) (v : Verdict) (n : ℕ) → 
 told-whole s out after v n e f g h k =
     let b = by s out Fine (ap (λ (w : Verdict). withRoom w (textLengthOf s) (length out)) (sym e ∙ f) ∙ ap (λ (m : ℕ). withRoom Fine m (length out)) (sym g) ∙ rw (le-ltb _ _ h)) in
     ((λ j. tells (f j) (g j)) ∙ sym (b .0), k ∙ ap (λ (m : ℕ). take m (bytesInOrder (s .pages)) ++ drop m out) g ∙ sym (b .1))
+
+answer-found : (v : Verdict) (n : ℕ) → textAnswerBy v n .answer ≡ v
+answer-found Fine n = refl
+answer-found (Refused x) n = refl
+
+-- beside what is promised of the buffer
+pub text-said : (s : Store) (size : ℕ) (t : Telling) {B : Type 0} → (t ≡ textAnswer s size) × B
+    → ((t ≡ textAnswer s size) × B) × (answers (t .answer) ≡ textSays s size)
+text-said s size t p =
+    (p, ap (λ (u : Telling). answers (u .answer)) (p .0) ∙ ap answers (answer-found (withRoom (textVerdict s) (textLengthOf s) size) (textLengthOf s)))
 
 -- where a text is told the store is sound
 pub fine-sound : (s : Store) → textVerdict s ≡ Fine → soundStore s ≡ true

@@ -13,13 +13,13 @@ use Rattle.bulletin.specs.declared.take.Taking.{Taking}
 use Rattle.pages.specs.Pages.{join, heldPage}
 use Rattle.bulletin.specs.Stores.{pageBehind}
 use Rattle.bulletin.specs.Takings.{takingAnswer, putPage, takeOf}
-use Rattle.bulletin.proofs.Taking.TakenOrRefused.{taken-or-refused}
+use Rattle.bulletin.proofs.Taking.TakenOrRefused.{taken-or-refused, put-answer}
 use Rattle.pages.proofs.States.{Text, Mark, absent, held, disputed, toPage, joinM, join-to}
 use Rattle.rows.proofs.Rules.Tests.{eq-same, ne-same}
 use Rattle.histories.specs.Soundness.{InRange, Sound}
 use Rattle.histories.specs.Frames.{Frame, storeAfter, Brings, Came, Absent, Held, Disputed}
 use Rattle.histories.proofs.Soundness.Tested.{sound-tested}
-use Rattle.histories.proofs.Frames.TextsBrought.{put-answer, admits-brings, brings-taken, brings-page}
+use Rattle.histories.proofs.Frames.TextsBrought.{admits-brings, brings-taken, brings-page}
 use Rattle.histories.proofs.Histories.Merges.{after-sound, after-name}
 use Rattle.histories.proofs.Frames.PageStates.{Tells, markFor, tells, page-told}
 

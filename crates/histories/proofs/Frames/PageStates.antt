@@ -9,6 +9,7 @@ use Rattle.pages.specs.declared.name.Name.{Name}
 use Rattle.pages.proofs.States.{Text, Mark, absent, held, disputed, toPage, toPage-inj, markOf, markOf-same, Says, says, says-unique}
 use Rattle.histories.specs.Soundness.{InRange}
 use Rattle.histories.specs.Frames.{Frame, storeAfter, pageNumbered, SameFrames, SamePages, Came, Absent, Held, Disputed}
+use Rattle.histories.proofs.Soundness.KeptRules.{total-in-range}
 use Rattle.histories.proofs.Frames.StoreStates.{stands-same}
 use Rattle.histories.proofs.Frames.TextsBrought.{texts, in-came, came-in}
 use Rattle.histories.proofs.Frames.Takings.{after-stands}
@@ -52,7 +53,7 @@ module _ (n : Name) (range : InRange n) (fs : List Frame) where
   unfolding markFor
   page-for p low high =
       let same : suc (p - 1) ≡ p = omega arith in
-      after-stands n range fs .page (p - 1) (omega (arith, range .total .1)) ∙ ap (λ (q : ℕ). toPage (markOf (texts n range q fs))) same
+      after-stands n range fs .page (p - 1) (omega (arith, total-in-range n range .1)) ∙ ap (λ (q : ℕ). toPage (markOf (texts n range q fs))) same
 
   -- ---- both ways
 
@@ -88,3 +89,11 @@ held-on n a b p t range more low high e =
     by c absent h = absurd (h t c)
     by c (held u) h = inl (page-told n range b p (held u) low high h ∙ ap heldPage (sym (h .alone t c)))
     by c disputed h = inr (page-told n range b p disputed low high h)
+
+-- and one that was disputed stays so
+pub disputed-on : (n : Name) (a b : List Frame) (p : ℕ) → InRange n → ((u : Text) → Came n a p u → Came n b p u) → 1 ≤ p → p ≤ n .total
+    → pageNumbered (storeAfter n a) p ≡ disputedPage → pageNumbered (storeAfter n b) p ≡ disputedPage
+disputed-on n a b p range more low high e =
+    let two = told-page n range a p disputed low high e in
+    page-told n range b p disputed low high
+    (record { one = two .one; other = two .other; came = more (two .one) (two .came); came-too = more (two .other) (two .came-too); differ = two .differ })

@@ -23,6 +23,7 @@ use Rattle.bulletin.proofs.Claims.{every-name-in-range-is-opened}
 use Rattle.pages.proofs.States.{Text, Mark, absent, held, toPage, joinM, join-to, joinM-none, joinM-assoc, markOf, markOf-append}
 use Rattle.histories.specs.Soundness.{InRange}
 use Rattle.histories.specs.Frames.{Frame, takes, storeAfter, Brings}
+use Rattle.histories.proofs.Soundness.KeptRules.{total-in-range}
 use Rattle.histories.proofs.Soundness.NameRanges.{in-range-fine}
 use Rattle.histories.proofs.Soundness.Tested.{sound-tested}
 use Rattle.histories.proofs.Frames.StoreStates.{Stands, stands-for, stands-sound, opened-stands}
@@ -72,7 +73,7 @@ module _ (n : Name) (range : InRange n) where
       let fits = brings-page n f (a .0) (f .came .text) (a .1) in
       let taken : takeOf s (f .came) ≡ putPage s (a .0 - 1) (f .came .text) = brings-taken s (f .came) (a .0) (f .came .text) (sound-tested s (stands-sound s n m range p)) here in
       subst (λ (z : Taking). Stands (z .store) n (λ i. joinM (m i) (markOf (cond (eqb (a .0) (suc i)) (f .came .text ∷ []) [])))) (sym taken)
-      (put-stands s n m (a .0) (f .came .text) p (fits .0) (fits .1) (range .total .1))
+      (put-stands s n m (a .0) (f .came .text) p (fits .0) (fits .1) (total-in-range n range .1))
   taking-stands s m f p (inr none) =
       subst (λ (z : Store). Stands z n (λ i. joinM (m i) absent)) (sym (not-taken s n (f .came) (p .name) none))
       (stands-for s n m (λ i. joinM (m i) absent) p (λ i. sym (joinM-none (m i))))

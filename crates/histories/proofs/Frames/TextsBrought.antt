@@ -4,25 +4,22 @@ use mathlib.Core.Bool.{Bool, true, false, _&&_, cond}
 use mathlib.Core.List.{List, [], _∷_, _++_, append-assoc}
 use mathlib.Core.Logic.{_⊎_, inl, inr, ⊎-elim}
 use Prim.Native.Nat.{ℕ, _-_, _≤_}
-use native.Mathlib.Omega.{arith}
 use lib.Dec.{eqb}
 use borrow.Author.Tests.{eqb-true, eq-eqb}
 use Rattle.nankai.specs.declared.PageNumbers.{PageNumbers}
 use Rattle.report.specs.declared.record.Record.{Record}
 use Rattle.rows.specs.declared.refusal.Refusal.{Refusal}
 use Rattle.rows.proofs.Rules.Outcomes.{and-both}
-use Rattle.pages.specs.declared.page.Page.{Page}
 use Rattle.pages.specs.declared.name.Name.{Name}
 use Rattle.bulletin.specs.declared.store.Store.{Store}
-use Rattle.bulletin.specs.declared.take.Taken.the-variants.{New, Same, Disputed, Refused}
+use Rattle.bulletin.specs.declared.take.Taken.the-variants.{Refused}
 use Rattle.bulletin.specs.declared.take.Taking.{Taking}
-use Rattle.pages.specs.Pages.{join, heldPage}
 use Rattle.pages.specs.Names.{sameCommon, sameName}
-use Rattle.bulletin.specs.Stores.{noPages, soundStore, pageBehind}
-use Rattle.bulletin.specs.Takings.{bulletinOf, takingAnswer, putPage, takeOf}
+use Rattle.bulletin.specs.Stores.{noPages, soundStore}
+use Rattle.bulletin.specs.Takings.{bulletinOf, putPage, takeOf}
 use Rattle.bulletin.proofs.Taking.TakingOutcomes.{Admits}
 use Rattle.pages.proofs.Numbered.{numbered}
-use Rattle.bulletin.proofs.Taking.TakenOrRefused.{taken-or-refused}
+use Rattle.bulletin.proofs.Taking.TakenOrRefused.{taken-or-refused, put-answer}
 use Rattle.bulletin.proofs.Claims.{a-sound-store-takes-every-page}
 use Rattle.pages.proofs.States.{Text, In}
 use Rattle.histories.specs.Soundness.{InRange}
@@ -64,23 +61,8 @@ name-same a =
     let c = a .common in
     simp (eq-eqb (c .rc) (c .rc) refl, eq-eqb (c .month) (c .month) refl, eq-eqb (c .day) (c .day) refl, eq-eqb (c .hour) (c .hour) refl, eq-eqb (c .minute) (c .minute) refl, eq-eqb (c .it) (c .it) refl, eq-eqb (a .serial) (a .serial) refl, eq-eqb (a .total) (a .total) refl)
 
--- ---- a page that is put answers one of the three
-
-never-refused : (p q : Page) (x : Refusal) → takingAnswer p q ≡ Refused x → ⊥
-unfolding takingAnswer
-never-refused p q x e = by (eqb (p .mark) 0) (eqb (q .mark) 1) e
-  where
-    apart : _≡_ {A = ℕ} 0 1 → ⊥
-    apart z = omega arith
-
-    by : (a b : Bool) → cond a New (cond b Same Disputed) ≡ Refused x → ⊥
-    by true b e = let z : _≡_ {A = ℕ} 0 1 = cc in apart z
-    by false true e = let z : _≡_ {A = ℕ} 0 1 = cc in apart z
-    by false false e = let z : _≡_ {A = ℕ} 0 1 = cc in apart z
-
-pub put-answer : (s : Store) (k : ℕ) (t : Text) (x : Refusal) → putPage s k t .answer ≡ Refused x → ⊥
-unfolding putPage
-put-answer s k t x e = never-refused (pageBehind s k) (join (pageBehind s k) (heldPage t)) x e
+pub named-same : (a b : Name) → a ≡ b → sameName a b ≡ true
+named-same a b e = ap (λ (n : Name). sameName a n) (sym e) ∙ name-same a
 
 -- ---- what one record brings
 

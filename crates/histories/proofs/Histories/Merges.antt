@@ -6,11 +6,8 @@ use Prim.Native.Nat.{ℕ, suc, _<_}
 use lib.ListN.{length}
 use Rattle.rows.specs.declared.refusal.Verdict.{Verdict}
 use Rattle.rows.specs.declared.refusal.Verdict.the-variants.{Fine, Refused}
-use Rattle.rows.proofs.Rules.Outcomes.{both-fine, fine-both, not-both, then-fine, unless-true, unless-fine}
-use Rattle.rows.proofs.Rules.Ordered.{question, unquestioned}
-use Rattle.rows.specs.declared.refusal.Refusal.{Refusal}
+use Rattle.rows.proofs.Rules.Ordered.{Answers, question, last-question}
 use Rattle.rows.specs.declared.refusal.Refusal.the-variants.{OtherBulletin, Unsound}
-use Rattle.rows.specs.Runs.Questions.{_then_, unless}
 use Rattle.pages.specs.declared.name.Name.{Name}
 use Rattle.bulletin.specs.declared.store.Store.{Store}
 use Rattle.bulletin.specs.declared.merge.Merging.{Merging}
@@ -22,10 +19,11 @@ use Rattle.pages.proofs.States.{Mark, toPage, joinM, joinM-comm, joinM-assoc, j
 use Rattle.bulletin.proofs.Taking.HeldTexts.{joined-held}
 use Rattle.histories.specs.Soundness.{InRange, Sound}
 use Rattle.histories.specs.Frames.{Frame, storeAfter, SamePages}
-use Rattle.histories.specs.Merging.{Tree, receiver, merge, treeStore, allFrames, WhyNotMerged}
+use Rattle.histories.specs.Merging.{Tree, receiver, merge, treeStore, allFrames}
+use Rattle.histories.specs.Reasons.{mergeQuestions}
 use Rattle.histories.proofs.Soundness.Tested.{tested-sound, sound-tested}
 use Rattle.histories.proofs.Frames.StoreStates.{Stands, markIn, marksOf, held-mark, stands-same, stands-sound, sound-stands, joined-stands}
-use Rattle.histories.proofs.Frames.TextsBrought.{same-name, name-same, texts, texts-append}
+use Rattle.histories.proofs.Frames.TextsBrought.{same-name, named-same, texts, texts-append}
 use Rattle.histories.proofs.Frames.Takings.{after-stands}
 use Rattle.histories.proofs.Frames.PageStates.{same-pages}
 
@@ -33,22 +31,16 @@ use Rattle.histories.proofs.Frames.PageStates.{same-pages}
 abbrev pub fineMerge : Store → Merging
 fineMerge s = record { answer = Fine; store = s }
 
--- sound stores of one bulletin are merged ..
-pub merge-joins : (a b : Store) → Sound a → Sound b → a .name ≡ b .name → mergeOf a b ≡ fineMerge (joinedStores a b)
+-- sound stores of one bulletin are merged, and no others
+pub merge-answered : (a b : Store) → Answers (mergeVerdict a b) (mergeQuestions a b) Fine
 unfolding mergeVerdict
-merge-joins a b p q e =
-    ap (λ (v : Verdict). merging v a b)
-    (both-fine _ _ (unless-true (soundStore a) _ (sound-tested a p))
-    (both-fine _ _ (unless-true (soundStore b) _ (sound-tested b q))
-    (unless-true (sameName (a .name) (b .name)) _ (ap (λ (n : Name). sameName (a .name) n) (sym e) ∙ name-same (a .name)))))
+merge-answered a b =
+    question (soundStore a) (Sound a) Unsound (tested-sound a) (sound-tested a)
+    (question (soundStore b) (Sound b) Unsound (tested-sound b) (sound-tested b)
+    (last-question (sameName (a .name) (b .name)) (a .name ≡ b .name) OtherBulletin (same-name (a .name) (b .name)) (named-same (a .name) (b .name))))
 
--- .. and no others
-pub fine-merged : (a b : Store) → mergeVerdict a b ≡ Fine → Sound a × Sound b × (a .name ≡ b .name)
-unfolding mergeVerdict
-fine-merged a b e =
-    let first = fine-both _ _ e in
-    let second = fine-both _ _ (first .1) in
-    (tested-sound a (unless-fine _ _ (first .0)), tested-sound b (unless-fine _ _ (second .0)), same-name (a .name) (b .name) (unless-fine _ _ (second .1)))
+pub merge-joins : (a b : Store) → Sound a → Sound b → a .name ≡ b .name → mergeOf a b ≡ fineMerge (joinedStores a b)
+merge-joins a b p q e = ap (λ (v : Verdict). merging v a b) (merge-answered a b .met (p, (q, (e, tt))))
 
 -- ---- the laws, on sound stores of one bulletin, which have 63 pages: each is the law of a page's mark, for every page
 
@@ -105,28 +97,10 @@ held-kept a b la lb i t h e = by (mergeVerdict a b) refl
     by : (v : Verdict) → mergeVerdict a b ≡ v → (pageBehind (merging v a b .store) i ≡ heldPage t) ⊎ (pageBehind (merging v a b .store) i ≡ disputedPage)
     by (Refused x) f = inl e
     by Fine f =
-        let parts = fine-merged a b f in
+        let parts = merge-answered a b .fine f .0 in
         joined-held (pageBehind (joinedStores a b) i) t (marksOf b i)
-        (merged-stands a b (parts .0) (parts .1) la lb (parts .2) .page i h
+        (merged-stands a b (parts .0) (parts .1 .0) la lb (parts .1 .1 .0) .page i h
         ∙ ap (λ (m : Mark). toPage (joinM m (marksOf b i))) (ap markIn e ∙ held-mark t))
-
--- ---- why a merge is refused
-
-told-verdict : (v : Verdict) (a b : Store) → merging v a b .answer ≡ v
-told-verdict Fine a b = refl
-told-verdict (Refused x) a b = refl
-
-pub merge-reason : (a b : Store) (x : Refusal) → mergeOf a b .answer ≡ Refused x → WhyNotMerged a b x
-unfolding mergeVerdict
-merge-reason a b x e =
-    let last : Verdict = unless (sameName (a .name) (b .name)) OtherBulletin in
-    let asked = question (soundStore a) (Sound a) Unsound (tested-sound a) (sound-tested a)
-    (question (soundStore b) (Sound b) Unsound (tested-sound b) (sound-tested b)
-    (question (sameName (a .name) (b .name)) (a .name ≡ b .name) OtherBulletin (same-name (a .name) (b .name))
-    (λ n. ap (λ (m : Name). sameName (a .name) m) (sym n) ∙ name-same (a .name)) (unquestioned Fine)))
-    in
-    let whole = ap (λ (v : Verdict). unless (soundStore a) Unsound then unless (soundStore b) Unsound then v) (then-fine last) in
-    asked .refused x ⊥ (whole ∙ sym (told-verdict (mergeVerdict a b) a b) ∙ e) (λ z. not-both Fine x refl z)
 
 -- ---- over frames
 

@@ -18,14 +18,14 @@ use Prim.Native.Nat.{ℕ, _≤_}
 use Rattle.report.specs.declared.record.Record.{Record}
 use Rattle.pages.specs.Pages.{heldPage, disputedPage}
 use Rattle.histories.specs.Frames.{Frame, takes, storeAfter, pageNumbered, Among, Came}
-use Rattle.histories.proofs.Frames.PageStates.{held-on}
+use Rattle.histories.proofs.Frames.PageStates.{held-on, disputed-on}
 use Rattle.histories.specs.Histories.{History, opened, took, merged, met, refused, historyStore, framesOf, GoesOn, there, taking, merging as merging-on, meeting, refusing}
 use Rattle.histories.proofs.Soundness.Tested.{tested-sound, sound-tested}
 use Rattle.histories.proofs.Frames.TextsBrought.{same-name, name-same}
-use Rattle.histories.proofs.Histories.Merges.{fine-merged, after-sound, after-name, joined-after, merge-after}
+use Rattle.histories.proofs.Histories.Merges.{merge-answered, after-sound, after-name, joined-after, merge-after}
 use Rattle.histories.proofs.Histories.FramesForAStore.{sound-given, after-shaped}
 
-takes-append : (s : Store) (a b : List Frame) → takes s (a ++ b) ≡ takes (takes s a) b
+pub takes-append : (s : Store) (a b : List Frame) → takes s (a ++ b) ≡ takes (takes s a) b
 takes-append s [] b = refl
 takes-append s (f ∷ a) b = takes-append (takeOf s (f .came) .store) a b
 
@@ -35,7 +35,7 @@ merge-refused a b none = by (mergeVerdict a b) refl
   where
     by : (v : Verdict) → mergeVerdict a b ≡ v → merging v a b .store ≡ a
     by (Refused x) e = refl
-    by Fine e = let parts = fine-merged a b e in absurd (none (parts .1) (sym (parts .2)))
+    by Fine e = let parts = merge-answered a b .fine e .0 in absurd (none (parts .1 .0) (sym (parts .1 .1 .0)))
 
 -- what two sound stores of one bulletin give has the shape of a store of the code
 pub joined-shaped : (a b : Store) → Sound a → Sound b → ShapedStore a → ShapedStore b → a .name ≡ b .name → ShapedStore (joinedStores a b)
@@ -92,3 +92,9 @@ module _ (n : Name) (range : InRange n) where
   held-from-then-on h k g p t low high e =
       subst (λ (s : Store). (pageNumbered s p ≡ heldPage t) ⊎ (pageNumbered s p ≡ disputedPage)) (sym (history-after k))
       (held-on n (framesOf h) (framesOf k) p t range (came-on h g p) low high (ap (λ (s : Store). pageNumbered s p) (sym (history-after h)) ∙ e))
+
+  pub disputed-from-then-on : (h k : History n) → GoesOn h k → (p : ℕ) → 1 ≤ p → p ≤ n .total → pageNumbered (historyStore h) p ≡ disputedPage
+      → pageNumbered (historyStore k) p ≡ disputedPage
+  disputed-from-then-on h k g p low high e =
+      ap (λ (s : Store). pageNumbered s p) (history-after k)
+      ∙ disputed-on n (framesOf h) (framesOf k) p range (came-on h g p) low high (ap (λ (s : Store). pageNumbered s p) (sym (history-after h)) ∙ e)

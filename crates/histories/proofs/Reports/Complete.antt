@@ -12,7 +12,7 @@ use Rattle.bulletin.specs.declared.count.Count.{Count}
 use Rattle.bulletin.specs.Counts.{countOf}
 use Rattle.pages.proofs.States.{Text}
 use Rattle.histories.specs.Frames.{storeAfter, Among, Came, Held, Disputed}
-use Rattle.histories.specs.Reports.{none, one-more, no-more, Trimmed, Tells, inOrder}
+use Rattle.histories.specs.Reports.{none, one-more, no-more, Tells, inOrder}
 use Rattle.histories.specs.Examples.{ofTwoPages, framePaged, cameBoth}
 use Rattle.histories.proofs.Reports.OnePageTwice.{in-range, letters, page-brings}
 use Rattle.histories.proofs.Reports.Reported.{reported, reported-once}

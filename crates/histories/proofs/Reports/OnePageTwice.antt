@@ -21,16 +21,8 @@ use Rattle.histories.proofs.Reports.Reported.{reported, reported-once}
 use Rattle.histories.proofs.Reports.TextFromFrames.{no-text}
 
 pub in-range : InRange ofTwoPages
-in-range = record {
-  rc = inr refl;
-  month = (omega arith, omega arith);
-  day = (omega arith, omega arith);
-  hour = omega arith;
-  minute = omega arith;
-  it = inl refl;
-  serial = (omega arith, omega arith);
-  total = (omega arith, omega arith);
-}
+in-range =
+    (inr refl, ((omega arith, omega arith), ((omega arith, omega arith), (omega arith, (omega arith, (inl refl, ((omega arith, omega arith), ((omega arith, omega arith), tt))))))))
 
 abbrev pub letters : Text
 letters = replicate 18 65

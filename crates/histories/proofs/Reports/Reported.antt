@@ -17,18 +17,22 @@ use Rattle.pages.proofs.States.{Mark, absent, held, disputed, toPage}
 use Rattle.histories.specs.Soundness.{InRange}
 use Rattle.histories.specs.Frames.{Frame, storeAfter, Disputed}
 use Rattle.histories.specs.Reports.{IsHeld, Reports}
+use Rattle.histories.proofs.Soundness.KeptRules.{total-in-range}
 use Rattle.histories.proofs.Soundness.Tested.{sound-tested}
 use Rattle.histories.proofs.Frames.Takings.{after-stands}
 use Rattle.histories.proofs.Histories.Merges.{after-sound, after-name}
 use Rattle.histories.proofs.Frames.PageStates.{Tells, markFor, tells, tells-one}
 use Rattle.histories.proofs.Reports.Counts.{Marks, counted, lowest-found, counted-once, found-once}
 
-abbrev soundCount : Store → Count
+abbrev pub soundCount : Store → Count
 soundCount s = record { answer = Fine; held = countMarked 1 (s .pages); disputed = countMarked 2 (s .pages); lowest = lowestNotHeld (s .name .total) 0 (s .pages) }
 
-reports : (s : Store) → soundStore s ≡ true → countOf s ≡ soundCount s
+abbrev pub refusedCount : Count
+refusedCount = record { answer = Refused Unsound; held = 0; disputed = 0; lowest = 0 }
+
+pub count-by : (s : Store) (b : Bool) → soundStore s ≡ b → countOf s ≡ cond b (soundCount s) refusedCount
 unfolding countOf
-reports s h = ap (λ (b : Bool). cond b (soundCount s) (record { answer = Refused Unsound; held = 0; disputed = 0; lowest = 0 })) h
+count-by s b h = ap (λ (t : Bool). cond t (soundCount s) refusedCount) h
 
 -- marks tell apart
 zero-not-one : _≡_ {A = ℕ} 0 1 → ⊥
@@ -64,18 +68,18 @@ module _ (n : Name) (range : InRange n) (fs : List Frame) where
 
   pub held-marks : Marks (IsHeld n fs) 1 (storeAfter n fs .pages) (n .total)
   held-marks = record {
-    has = λ i b e. is-held (suc i) (markFor n range fs (suc i)) (tells n range fs (suc i)) (mark-at i (omega (arith, range .total .1)) 1 e);
-    is = λ i b h. told-mark i (omega (arith, range .total .1)) (held (h .0)) (h .1);
+    has = λ i b e. is-held (suc i) (markFor n range fs (suc i)) (tells n range fs (suc i)) (mark-at i (omega (arith, total-in-range n range .1)) 1 e);
+    is = λ i b h. told-mark i (omega (arith, total-in-range n range .1)) (held (h .0)) (h .1);
   }
 
   disputed-marks : Marks (Disputed n fs) 2 (storeAfter n fs .pages) (n .total)
   disputed-marks = record {
-    has = λ i b e. is-disputed (suc i) (markFor n range fs (suc i)) (tells n range fs (suc i)) (mark-at i (omega (arith, range .total .1)) 2 e);
-    is = λ i b h. told-mark i (omega (arith, range .total .1)) disputed h;
+    has = λ i b e. is-disputed (suc i) (markFor n range fs (suc i)) (tells n range fs (suc i)) (mark-at i (omega (arith, total-in-range n range .1)) 2 e);
+    is = λ i b h. told-mark i (omega (arith, total-in-range n range .1)) disputed h;
   }
 
   pub enough : n .total ≤ length (storeAfter n fs .pages)
-  enough = omega (arith, range .total .1, after-stands n range fs .long)
+  enough = omega (arith, total-in-range n range .1, after-stands n range fs .long)
 
   past : (k : ℕ) → (0 ≡ k → ⊥) → (i : ℕ) → n .total ≤ i → i < length (storeAfter n fs .pages) → pageBehind (storeAfter n fs) i .mark ≡ k → ⊥
   past k differ i l h e =
@@ -87,7 +91,7 @@ module _ (n : Name) (range : InRange n) (fs : List Frame) where
 
   pub reported : Reports n fs (countOf (storeAfter n fs))
   reported =
-      let e = reports (storeAfter n fs) (sound-tested (storeAfter n fs) (after-sound n range fs)) in
+      let e = count-by (storeAfter n fs) true (sound-tested (storeAfter n fs) (after-sound n range fs)) in
       let pages = storeAfter n fs .pages in
       rw e (record {
         answer = refl;

@@ -24,6 +24,7 @@ use Rattle.bulletin.proofs.Telling.TextOutcomes.{told-whole, told-short}
 use Rattle.histories.specs.Soundness.{InRange}
 use Rattle.histories.specs.Frames.{Frame, storeAfter, pageNumbered, Absent, Held, Disputed}
 use Rattle.histories.specs.Reports.{All, LowestWithout, IsHeld, inOrder, Trimmed, Tells, TellsNothing, NotHeldBecause}
+use Rattle.histories.proofs.Soundness.KeptRules.{total-in-range}
 use Rattle.histories.proofs.Soundness.Tested.{sound-tested}
 use Rattle.histories.proofs.Histories.Merges.{after-sound}
 use Rattle.histories.proofs.Histories.FramesForAStore.{came-bytes}
@@ -35,7 +36,7 @@ use Rattle.histories.proofs.Reports.Trimming.{trimmed, trimmed-length, 
 
 -- ---- 14 and 15
 
-verdict-by-lowest : (s : Store) (k : ℕ) → soundStore s ≡ true → lowestNotHeld (s .name .total) 0 (s .pages) ≡ k
+pub verdict-by-lowest : (s : Store) (k : ℕ) → soundStore s ≡ true → lowestNotHeld (s .name .total) 0 (s .pages) ≡ k
     → textVerdict s ≡ cond (eqb k 0) Fine (Refused (NotHeld k (whyNotHeld (pageBehind s (k - 1)))))
 unfolding textVerdict
 verdict-by-lowest s k h e =
@@ -47,7 +48,7 @@ refused-tells s x e = record {
   untouched = λ out. ap (λ (v : Verdict). textBufferBy (withRoom v (textLengthOf s) (length out)) (textLengthOf s) (bytesInOrder (s .pages)) out) e;
 }
 
-fine-tells : (s : Store) → textVerdict s ≡ Fine → textLengthOf s ≤ length (bytesInOrder (s .pages)) → Tells s (take (textLengthOf s) (bytesInOrder (s .pages)))
+pub fine-tells : (s : Store) → textVerdict s ≡ Fine → textLengthOf s ≤ length (bytesInOrder (s .pages)) → Tells s (take (textLengthOf s) (bytesInOrder (s .pages)))
 fine-tells s e most =
     let text = take (textLengthOf s) (bytesInOrder (s .pages)) in
     let long : length text ≡ textLengthOf s = length-take-le (textLengthOf s) (bytesInOrder (s .pages)) most in
@@ -75,7 +76,7 @@ module _ (n : Name) (range : InRange n) (fs : List Frame) where
   whole-text t all =
       let s = storeAfter n fs in
       let held-at : (i : ℕ) → i < n .total → Held n fs (suc i) (t (suc i)) = λ i b. all (suc i) (omega arith) b in
-      let text-at : (i : ℕ) → i < n .total → pageBehind s i .text ≡ t (suc i) = λ i b. ap (λ (p : Page). p .text) (page-at n range fs i (omega (arith, range .total .1)) ∙ ap toPage (tells-one n range fs (suc i) (held (t (suc i))) (held-at i b))) in
+      let text-at : (i : ℕ) → i < n .total → pageBehind s i .text ≡ t (suc i) = λ i b. ap (λ (p : Page). p .text) (page-at n range fs i (omega (arith, total-in-range n range .1)) ∙ ap toPage (tells-one n range fs (suc i) (held (t (suc i))) (held-at i b))) in
       let front = front-bytes t (s .pages) (n .total) (enough n range fs) text-at (λ i b. came-bytes n fs (suc i) (t (suc i)) (held-at i b .came) .long) in
       let total : s .name .total ≡ n .total = total-same n range fs in
       let long : 18 * s .name .total ≤ length (bytesInOrder (s .pages)) = omega (arith, front .1) in
@@ -88,7 +89,7 @@ module _ (n : Name) (range : InRange n) (fs : List Frame) where
   pub at-most : (t : ℕ → List ℕ) (text : List ℕ) → ((p : ℕ) → 1 ≤ p → p ≤ n .total → Held n fs p (t p)) → Trimmed (inOrder t (n .total)) text → length text ≤ 1134
   at-most t text all h =
       let long = length-order t (n .total) (λ i b. came-bytes n fs (suc i) (t (suc i)) (all (suc i) (omega arith) b .came) .long) in
-      omega (arith, long, trimmed-length (inOrder t (n .total)) text h, range .total .1)
+      omega (arith, long, trimmed-length (inOrder t (n .total)) text h, total-in-range n range .1)
 
   -- ---- one is not
 

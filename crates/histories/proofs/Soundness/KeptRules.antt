@@ -30,15 +30,16 @@ same-bytes (suc n) v h (suc k) = same-bytes n v h k
 pub all-alike : (v : ℕ) → v < 256 → Bytes18 (replicate 18 v)
 all-alike v h = record { long = refl; bytes = same-bytes 18 v h }
 
--- ---- codes
+-- the last of the values of a name
+pub total-in-range : (n : Name) → InRange n → (1 ≤ n .total) × (n .total ≤ 63)
+total-in-range n range = range .1 .1 .1 .1 .1 .1 .1 .0
 
-pub one-span : (lo hi v : ℕ) → In (lo to hi ∷ []) v → (lo ≤ v) × (v ≤ hi)
-one-span lo hi v h = ⊎-elim (λ p. p) (λ z. absurd z) h
+-- ---- codes
 
 pub two-codes : (a b v : ℕ) → In (a to a ∷ b to b ∷ []) v → (v ≡ a) ⊎ (v ≡ b)
 two-codes a b v h = ⊎-elim (λ p. inl (omega arith)) (λ q. ⊎-elim (λ p. inr (omega arith)) (λ n. absurd n) q) h
 
-codes-two : (a b v : ℕ) → (v ≡ a) ⊎ (v ≡ b) → In (a to a ∷ b to b ∷ []) v
+pub codes-two : (a b v : ℕ) → (v ≡ a) ⊎ (v ≡ b) → In (a to a ∷ b to b ∷ []) v
 codes-two a b v h = ⊎-elim (λ e. inl (omega arith, omega arith)) (λ e. inr (inl (omega arith, omega arith))) h
 
 only : (v : ℕ) → In (v to v ∷ []) v
@@ -70,18 +71,18 @@ page-holds preamble n p slots t range low high is = record {
   head = (
     only 43,
     (
-      codes-two 2 7 (n .common .rc) (range .rc),
+      codes-two 2 7 (n .common .rc) (range .0),
       (
         only 4,
         (
-          inl (range .month),
+          inl (range .1 .0),
           (
-            inl (range .day),
+            inl (range .1 .1 .0),
             (
-              inl (omega arith, range .hour),
+              inl (omega arith, range .1 .1 .1 .0),
               (
-                inl (omega arith, range .minute),
-                (codes-two 0 2 (n .common .it) (range .it), tt),
+                inl (omega arith, range .1 .1 .1 .1 .0),
+                (codes-two 0 2 (n .common .it) (range .1 .1 .1 .1 .1 .0), tt),
               ),
             ),
           ),
@@ -89,9 +90,9 @@ page-holds preamble n p slots t range low high is = record {
       ),
     ),
   );
-  front = (refl, (inl (range .serial), tt));
+  front = (refl, (inl (range .1 .1 .1 .1 .1 .1 .0), tt));
   slots = tt;
   text = subst (Kept [] (nankai .text)) (sym (take-all 18 t (omega (arith, is .long)))) (kept-bytes 18 57 [] t (is .bytes));
-  behind = (inl (low, omega (arith, range .total .1)), ((high, range .total .1), (refl, tt)));
+  behind = (inl (low, omega (arith, total-in-range n range .1)), ((high, total-in-range n range .1), (refl, tt)));
   last = (only 1, (inl (omega arith, omega arith), tt));
 }

@@ -1,35 +1,51 @@
--- A name is opened exactly where each of its values is in its range.
-use mathlib.Core.Path.{_≡_}
+-- A name is opened exactly where each of its values is in its range, and refused at the first that is not.
+use mathlib.Core.Path.{_≡_, refl, sym, _∙_}
+use mathlib.Core.Bool.{true, _&&_}
 use native.Mathlib.Omega.{arith}
-use lib.ListN.{replicate}
+use lib.Dec.{leb}
 use Rattle.rows.specs.declared.refusal.Verdict.the-variants.{Fine}
-use Rattle.slots.specs.Slots.{noSlot}
+use Rattle.rows.specs.declared.refusal.Refusal.the-variants.{Range, Spare}
+use Rattle.rows.specs.Layout.{twoOrSeven, uncorrected}
+use Rattle.rows.specs.Runs.Questions.{_then_}
+use Rattle.rows.specs.Runs.Verdict.{allowed, ranged, commonVerdict, slotsVerdict, bodyVerdict}
+use Rattle.rows.proofs.Rules.Outcomes.{then-assoc, fine-then, then-fine, unless-true}
+use Rattle.rows.proofs.Rules.Spans.{allowed-in, in-allowed, in-span, span-in}
+use Rattle.rows.proofs.Rules.Walks.{common-walk}
+use Rattle.rows.proofs.Rules.Ordered.{Answers, question, last-question}
+use Rattle.nankai.specs.Nankai.{nankai}
+use Rattle.nankai.proofs.Walks.{front-walk, behind-walk}
 use Rattle.pages.specs.declared.name.Name.{Name}
-use Rattle.pages.specs.Names.{nameVerdict}
-use Rattle.pages.proofs.Ranges.{fine-holds, holds-fine, name-numbered}
-use Rattle.histories.specs.Soundness.{InRange}
-use Rattle.histories.proofs.Soundness.KeptRules.{all-alike, one-span, two-codes, page-holds}
-use Rattle.report.specs.Records.{values}
+use Rattle.pages.specs.Names.{nameVerdict, pageOne}
+use Rattle.pages.proofs.Ranges.{name-found}
+use Rattle.histories.specs.Soundness.{openQuestions, InRange}
+use Rattle.histories.proofs.Soundness.KeptRules.{two-codes, codes-two}
+
+name-asked : (n : Name) → nameVerdict n
+    ≡ commonVerdict (n .common) (allowed twoOrSeven (n .common .rc)) (allowed uncorrected (n .common .it))
+    then ranged (leb 1 (n .serial) && leb (n .serial) 15) 53
+    then ranged (leb 1 (n .total) && leb (n .total) 63) 207
+unfolding bodyVerdict slotsVerdict
+name-asked n =
+    sym (name-found n _ refl)
+    ∙ simp (common-walk nankai (n .common), front-walk (pageOne n) 0 0, behind-walk (pageOne n) 0 0)
+    (simp (unless-true true (Spare 43) refl, unless-true true (Range 201) refl, unless-true true (Spare 213) refl, fine-then, then-fine))
+
+pub name-answered : (n : Name) → Answers (nameVerdict n) (openQuestions n) Fine
+name-answered n =
+    let c = n .common in
+    rw (name-asked n)
+    (simp then-assoc
+    (question (allowed twoOrSeven (c .rc)) _ (Range 14) (λ e. two-codes 2 7 (c .rc) (allowed-in twoOrSeven (c .rc) e)) (λ h. in-allowed twoOrSeven (c .rc) (codes-two 2 7 (c .rc) h))
+    (question (leb 1 (c .month) && leb (c .month) 12) _ (Range 21) (in-span 1 12 (c .month)) (span-in 1 12 (c .month))
+    (question (leb 1 (c .day) && leb (c .day) 31) _ (Range 25) (in-span 1 31 (c .day)) (span-in 1 31 (c .day))
+    (question (leb 0 (c .hour) && leb (c .hour) 23) _ (Range 30) (λ e. in-span 0 23 (c .hour) e .1) (λ h. span-in 0 23 (c .hour) (omega arith, h))
+    (question (leb 0 (c .minute) && leb (c .minute) 59) _ (Range 35) (λ e. in-span 0 59 (c .minute) e .1) (λ h. span-in 0 59 (c .minute) (omega arith, h))
+    (question (allowed uncorrected (c .it)) _ (Range 41) (λ e. two-codes 0 2 (c .it) (allowed-in uncorrected (c .it) e)) (λ h. in-allowed uncorrected (c .it) (codes-two 0 2 (c .it) h))
+    (question (leb 1 (n .serial) && leb (n .serial) 15) _ (Range 53) (in-span 1 15 (n .serial)) (span-in 1 15 (n .serial))
+    (last-question (leb 1 (n .total) && leb (n .total) 63) _ (Range 207) (in-span 1 63 (n .total)) (span-in 1 63 (n .total)))))))))))
 
 pub fine-in-range : (n : Name) → nameVerdict n ≡ Fine → InRange n
-fine-in-range n e =
-    let c = n .common in
-    let holds = fine-holds n e in
-    let from-rc = holds .head .1 in
-    let from-month = from-rc .1 .1 in
-    let from-hour = from-month .1 .1 in
-    let numbers = name-numbered n e in
-    record {
-      rc = two-codes 2 7 (c .rc) (from-rc .0);
-      month = one-span 1 12 (c .month) (from-month .0);
-      day = one-span 1 31 (c .day) (from-month .1 .0);
-      hour = one-span 0 23 (c .hour) (from-hour .0) .1;
-      minute = one-span 0 59 (c .minute) (from-hour .1 .0) .1;
-      it = two-codes 0 2 (c .it) (from-hour .1 .1 .0);
-      serial = one-span 1 15 (n .serial) (holds .front .1 .0);
-      total = (numbers .high, numbers .most);
-    }
+fine-in-range n e = name-answered n .fine e .0
 
 pub in-range-fine : (n : Name) → InRange n → nameVerdict n ≡ Fine
-unfolding values
-in-range-fine n h = holds-fine n (page-holds 0 n 1 (replicate 16 noSlot) (replicate 18 0) h (omega arith) (h .total .0) (all-alike 0 (omega arith)))
+in-range-fine n h = name-answered n .met h

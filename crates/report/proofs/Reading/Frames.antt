@@ -8,7 +8,6 @@ use lib.Dec.{eqb}
 use borrow.Author.Tests.{eqb-true, eq-eqb}
 use Rattle.bits.specs.Frame.{fieldOf}
 use Rattle.parity.specs.Parity.{parityOf, parityRight}
-use Rattle.rows.specs.declared.refusal.Verdict.{Verdict}
 use Rattle.rows.specs.declared.refusal.Verdict.the-variants.{Fine, Refused}
 use Rattle.rows.specs.declared.refusal.Refusal.{Refusal}
 use Rattle.rows.specs.declared.refusal.Refusal.the-variants.{Length, Padding, Preamble, Parity, Message, Version, Category, Range, Gap}
@@ -19,13 +18,14 @@ use Rattle.report.specs.Records.{bodyOf}
 use Rattle.report.specs.Runs.Reading.{outerOf, innerOf, readAnswer}
 use Rattle.rows.specs.Kept.{In}
 use Rattle.report.specs.Conforms.{Conforms}
-use Rattle.rows.specs.Faults.{Fault, Lowest}
+use Rattle.rows.specs.Faults.{Fault, Lowest, Met}
 use Rattle.report.specs.Reasons.{readQuestions, WhyNotRead}
 use Rattle.rows.proofs.Rules.Outcomes.{then-assoc}
-use Rattle.rows.proofs.Rules.Judged.{turn-place, turn}
+use Rattle.rows.proofs.Rules.Judged.{turn}
 use Rattle.rows.proofs.Rules.Spans.{allowed-in, in-allowed}
 use Rattle.rows.proofs.Rules.JudgedFrames.{JudgesAll}
-use Rattle.rows.proofs.Rules.Ordered.{Met, Answers, unquestioned, question, past}
+use Rattle.rows.proofs.Rules.Ordered.{Answers, unquestioned, question, past}
+use Rattle.rows.proofs.Rules.LowestBit.{for-a-reason, faulty-refused, faultless-fine}
 use Rattle.rows.proofs.Layouts.Lengths.{length-each}
 use Rattle.report.specs.Categories.{categories, layout, preambles}
 use Rattle.report.proofs.Tables.{judged-all}
@@ -42,9 +42,6 @@ frameValues s = valuesOf s (layoutOf s)
 inner : (s : List ℕ) → JudgesAll (layoutOf s) (frameValues s)
 unfolding valuesOf
 inner s = judged-all (bodyOf s) (frameValues s) (length-each (layoutOf s .slots .count) _)
-
-lowest : (s : List ℕ) (x : Refusal) → innerOf s ≡ Refused x → Lowest (layoutOf s) (frameValues s) x
-lowest s x e = record { there = inner s .found x e; lowest = λ y f. turn-place x y (inner s .earliest x y e f) }
 
 -- ---- 1 to 7
 
@@ -85,25 +82,16 @@ fine-conforming s e =
 
 -- ---- reasons
 
-pub reason : (s : List ℕ) (x : Refusal) → readAnswer s ≡ Refused x → WhyNotRead s x
-reason s x e = answered s .refused x (Lowest (layoutOf s) (frameValues s) x) e (lowest s x)
+module _ (s : List ℕ) where
+  pub reason : (x : Refusal) → readAnswer s ≡ Refused x → WhyNotRead s x
+  reason = for-a-reason (readAnswer s) (readQuestions s) (layoutOf s) (frameValues s) (answered s) (inner s)
 
-pub faulty : (s : List ℕ) (y : Refusal) → Met (readQuestions s) → Fault (layoutOf s) (frameValues s) y
-    → (x : Refusal) × (readAnswer s ≡ Refused x) × Lowest (layoutOf s) (frameValues s) x
-faulty s y m f = by (innerOf s) refl
-  where
-    by : (v : Verdict) → innerOf s ≡ v → (x : Refusal) × (readAnswer s ≡ Refused x) × Lowest (layoutOf s) (frameValues s) x
-    by Fine e = absurd (inner s .clean y (inner s .passed e) f)
-    by (Refused x) e = (x, answered s .met m ∙ e, lowest s x e)
+  pub faulty : (y : Refusal) → Met (readQuestions s) → Fault (layoutOf s) (frameValues s) y
+      → (x : Refusal) × (readAnswer s ≡ Refused x) × Lowest (layoutOf s) (frameValues s) x
+  faulty = faulty-refused (readAnswer s) (readQuestions s) (layoutOf s) (frameValues s) (answered s) (inner s)
 
--- nothing is wrong, so nothing is refused
-pub faultless : (s : List ℕ) → Met (readQuestions s)
-    → ((x : Refusal) → Fault (layoutOf s) (frameValues s) x → ⊥) → readAnswer s ≡ Fine
-faultless s m h = by (innerOf s) refl
-  where
-    by : (v : Verdict) → innerOf s ≡ v → readAnswer s ≡ Fine
-    by Fine e = answered s .met m ∙ e
-    by (Refused x) e = absurd (h x (inner s .found x e))
+  pub faultless : Met (readQuestions s) → ((x : Refusal) → Fault (layoutOf s) (frameValues s) x → ⊥) → readAnswer s ≡ Fine
+  faultless = faultless-fine (readAnswer s) (readQuestions s) (layoutOf s) (frameValues s) (answered s) (inner s)
 
 pub no-gap : (s : List ℕ) (p : ℕ) → readAnswer s ≡ Refused (Range p) → Fault (layoutOf s) (frameValues s) (Gap p) → ⊥
 no-gap s p e f = late (inner s .earliest (Range p) (Gap p) refused f)

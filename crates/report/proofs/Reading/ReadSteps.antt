@@ -1,5 +1,5 @@
--- The three ways out of reading, and the two of writing.
-use mathlib.Core.Path.{_≡_, sym, ap, _∙_}
+-- The three ways out of reading, and what each of them says.
+use mathlib.Core.Path.{_≡_, refl, sym, ap, _∙_}
 use Prim.Native.Nat.{ℕ}
 use mathlib.Core.List.{List}
 use lib.ListN.{length}
@@ -10,9 +10,10 @@ use Rattle.rows.specs.declared.refusal.Refusal.{Refusal}
 use Rattle.rows.specs.declared.refusal.Refusal.the-variants.{Length}
 use Rattle.report.specs.declared.record.Record.{Record}
 use Rattle.report.specs.declared.read.Reading.{Reading}
+use Rattle.rows.specs.Refusals.{answers}
 use Rattle.rows.specs.Runs.Questions.{_then_, unless}
 use Rattle.report.specs.Records.{recordOf}
-use Rattle.report.specs.Runs.Reading.{outerOf, contentAnswer, readAnswer, reading, readOf}
+use Rattle.report.specs.Runs.Reading.{outerOf, contentAnswer, readAnswer, reading, readOf, readSays}
 
 pub not-a-frame : (s : List ℕ) (r : Record) (out : Reading) → (length s ≡ 32 → ⊥) → out ≡ reading (Refused Length) r → out ≡ readOf s
 unfolding unless _then_
@@ -42,4 +43,12 @@ read-on s f v out l p q e k =
     ∙ ap (λ (g : List ℕ). reading (contentAnswer g) (recordOf g)) p
     ∙ sym (ap (λ (w : Verdict). reading w (recordOf s)) (asked s v l (q ∙ ap outerOf p) ∙ ap (λ (w : Verdict). w then contentAnswer s) e))
 
--- ---- and the two of writing
+-- ---- what it says
+
+-- the answer that is handed out is the one that was found, with either record
+pub answer-found : (v : Verdict) (r : Record) → reading v r .answer ≡ v
+answer-found Fine r = refl
+answer-found (Refused x) r = refl
+
+pub read-said : (s : List ℕ) (out : Reading) → out ≡ readOf s → (out ≡ readOf s) × (answers (out .answer) ≡ readSays s)
+read-said s out e = (e, ap (λ (o : Reading). answers (o .answer)) e ∙ ap answers (answer-found (readAnswer s) (recordOf s)))

@@ -1,28 +1,40 @@
--- What the number of used slots says of a frame that is read.
+-- What the number of used slots says: of any record, and of a frame that is read.
 use Rattle.report.specs.declared.body.Body.{Body}
 use mathlib.Core.Bool.{Bool, _&&_, _||_, false, true}
 use Rattle.report.specs.Conforms.{Conforms}
-use mathlib.Core.List.{List, [], map}
-use Rattle.rows.specs.Layout.{Slots, slotRows}
-use Rattle.rows.specs.Kept.{SlotsKept}
-use Prim.Native.Nat.{_*_, _+_, _<_, _≤_, ℕ}
+use mathlib.Core.List.{List, [], _∷_, map}
+use mathlib.Core.Logic.{⊎-elim}
+use Rattle.bits.specs.Frame.{fieldOf}
+use Rattle.rows.specs.Layout.{Layout, Slots, _to_, slotRows}
+use Rattle.rows.specs.Kept.{In, Kept, SlotsKept}
+use Prim.Native.Nat.{_*_, _+_, _/_, _<_, _≤_, ℕ}
 use mathlib.Core.Path.{_∙_, _≡_, ap, refl, subst, sym}
 use Rattle.rows.proofs.Rules.Outcomes.{and-both}
 use native.Mathlib.Omega.{arith}
-use Rattle.slots.proofs.Used.{behind-used, frame-used, names}
-use Rattle.report.specs.Records.{bodyOf, recordAs, recordOf}
+use Rattle.slots.proofs.Used.{behind-used, frame-used, names, used-at-most, used-kept}
+use Rattle.report.specs.Records.{bodyBy, bodyOf, recordAs, recordOf}
 use Rattle.rows.specs.Values.{cut, each, valuesOf}
 use Rattle.rows.specs.Runs.Verdict.{empty}
 use lib.Dec.{eqb}
 use borrow.Author.Tests.{eqb-true}
-use Rattle.rows.proofs.Layouts.Lengths.{frame-filled, length-each}
-use lib.ListN.{getD}
-use Rattle.report.specs.Categories.{layout}
+use Rattle.rows.proofs.Layouts.Lengths.{each-at, frame-filled, length-each}
+use lib.ListN.{getD, length, length-map}
+use Rattle.ash_fall.specs.AshFall.{ashFall}
+use Rattle.ash_fall.specs.Meaning.{prefectureOf}
+use Rattle.ash_fall.specs.declared.meaning.Prefecture.the-variants.{Number}
+use Rattle.ash_fall.proofs.Claims.{a-prefecture-is-1-to-47, each-place-has-a-prefecture}
+use Rattle.intensity.specs.Intensity.{intensity}
+use Rattle.report.specs.Categories.{bodyFrom, layout}
 use Rattle.report.proofs.Categories.{listed, ruled}
-use Rattle.slots.proofs.Tables.{slots-agree}
+use Rattle.slots.proofs.Tables.{slot-agrees, slots-agree}
 use Rattle.report.proofs.Tables.{slots-named, suited-slots}
-use Rattle.slots.specs.Slots.{slotsValues, usedAmong}
+use Rattle.slots.specs.Slots.{noSlot, slotParts, slotValues, slotsValues, usedAmong}
 use Rattle.report.specs.Meaning.{usedOf}
+use Rattle.report.specs.declared.record.Record.{Record}
+
+pub few : (r : Record) → length (r .slots) ≡ 16 → usedOf r ≤ 16
+unfolding usedOf
+few r n = omega (arith, used-at-most (map slotParts (r .slots)), length-map (r .slots) slotParts)
 
 -- the values of a frame's slots
 abbrev slotsAt : List ℕ → Slots → List (List ℕ)
@@ -50,3 +62,41 @@ others-empty s c i u l =
     let t = suited-slots (bodyOf s) in
     ap (λ (vs : List (List ℕ)). empty (getD vs i [])) (slots-agree k t s)
     ∙ body-behind-used s (bodyOf s) (c .rows .slots) i (subst (λ (n : ℕ). n ≤ i) (frame-used k t s) u) l
+
+-- ---- each used slot keeps its category's rules
+
+pub used-slot-kept : (s : List ℕ) → Conforms s → (i : ℕ) → i < usedOf (recordOf s)
+    → Kept [] (layout (bodyOf s) .slots .rows) (slotValues (layout (bodyOf s) .slots) (getD (recordOf s .slots) i noSlot))
+unfolding usedOf recordAs valuesOf
+used-slot-kept s c i u =
+    let k = layout (bodyOf s) .slots in
+    let t = suited-slots (bodyOf s) in
+    let counted : i < usedAmong (slotsAt s k) = subst (λ (n : ℕ). i < n) (frame-used k t s) u in
+    let inside : i < k .count = omega (arith, counted, used-at-most (slotsAt s k), length-each (k .count) (λ i. map (cut s) (slotRows k (k .first + k .bits * i)))) in
+    subst (Kept [] (k .rows)) (each-at (k .count) _ [] i inside ∙ sym (slot-agrees k t s i inside)) (used-kept k (slotsAt s k) (c .rows .slots) i counted)
+
+-- where the category has this table
+used-slot-of : (s : List ℕ) → Conforms s → (l : Layout) → layout (bodyOf s) ≡ l → (i : ℕ) → i < usedOf (recordOf s)
+    → Kept [] (l .slots .rows) (slotValues (l .slots) (getD (recordOf s .slots) i noSlot))
+used-slot-of s c l e i u =
+    subst (λ (l : Layout). Kept [] (l .slots .rows) (slotValues (l .slots) (getD (recordOf s .slots) i noSlot))) e (used-slot-kept s c i u)
+
+table-by-code : (s : List ℕ) (dc : ℕ) → fieldOf s 17 4 ≡ dc → layout (bodyOf s) ≡ layout (bodyBy s dc)
+table-by-code s dc e = ap (λ (n : ℕ). layout (bodyBy s n)) e
+
+one-span : (lo hi v : ℕ) → In (lo to hi ∷ []) v → (lo ≤ v) × (v ≤ hi)
+one-span lo hi v h = ⊎-elim (λ p. p) (λ n. absurd n) h
+
+pub used-prefecture : (s : List ℕ) → Conforms s → fieldOf s 17 4 ≡ 3 → (i : ℕ) → i < usedOf (recordOf s)
+    → (1 ≤ getD (recordOf s .slots) i noSlot .place) × (getD (recordOf s .slots) i noSlot .place ≤ 47)
+unfolding bodyFrom
+used-prefecture s c e i u = one-span 1 47 _ (used-slot-of s c intensity (table-by-code s 3 e) i u .1 .0)
+
+pub used-place : (s : List ℕ) → Conforms s → fieldOf s 17 4 ≡ 9 → (i : ℕ) → i < usedOf (recordOf s)
+    → (p : ℕ) × ((prefectureOf (getD (recordOf s .slots) i noSlot .place) ≡ Number p) × ((1 ≤ p) × (p ≤ 47)))
+unfolding bodyFrom
+used-place s c e i u =
+    let place : ℕ = getD (recordOf s .slots) i noSlot .place in
+    let inside : (110000 ≤ place) × (place ≤ 4799999) = one-span 110000 4799999 place (used-slot-of s c ashFall (table-by-code s 9 e) i u .1 .1 .0) in
+    let named : prefectureOf place ≡ Number (place / 100000) = each-place-has-a-prefecture place (omega arith) (inside .1) in
+    (place / 100000, (named, a-prefecture-is-1-to-47 place (place / 100000) named .1))

@@ -6,7 +6,7 @@ use lib.ListN.{length}
 use lib.Dec.{eqb, ltb}
 use borrow.Author.Tests.{eqb-true, eq-eqb, lt-ltb, ltb-true}
 use Rattle.rows.specs.declared.refusal.Verdict.{Verdict}
-use Rattle.rows.specs.declared.refusal.Verdict.the-variants.{Refused}
+use Rattle.rows.specs.declared.refusal.Verdict.the-variants.{Fine, Refused}
 use Rattle.rows.specs.declared.refusal.Refusal.{Refusal}
 use Rattle.rows.specs.declared.refusal.Refusal.the-variants.{Length, Preamble, Category, Unused}
 use Rattle.report.specs.declared.record.Record.{Record}
@@ -15,15 +15,15 @@ use Rattle.rows.specs.Values.{Values}
 use Rattle.rows.specs.Runs.Verdict.{allowed, verdict}
 use Rattle.report.specs.Records.{values}
 use Rattle.rows.specs.Kept.{In}
-use Rattle.rows.specs.Faults.{Lowest}
+use Rattle.rows.specs.Faults.{Met, Fault, Lowest}
 use Rattle.report.specs.Rules.{Tidy, KeepsRules}
 use Rattle.report.specs.Reasons.{writeQuestions, WhyNotWritten}
 use Rattle.report.specs.Runs.Writing.{known, tidy, writeAnswer, Valid}
-use Rattle.rows.proofs.Rules.Judged.{turn-place}
 use Rattle.rows.proofs.Rules.Outcomes.{false-not-true, and-both}
 use Rattle.rows.proofs.Rules.Spans.{allowed-in, in-allowed}
 use Rattle.rows.proofs.Rules.JudgedFrames.{JudgesAll}
-use Rattle.rows.proofs.Rules.Ordered.{Met, Answers, unquestioned, question}
+use Rattle.rows.proofs.Rules.Ordered.{Answers, unquestioned, question}
+use Rattle.rows.proofs.Rules.LowestBit.{for-a-reason, faulty-refused, faultless-fine, fine-faultless}
 use Rattle.report.proofs.Writing.Unused.{is-tidy, tidy-is}
 use Rattle.report.specs.declared.body.Body.{Body}
 use mathlib.Core.List.{List, [], _∷_}
@@ -101,10 +101,16 @@ keeps-valid r s k = answered r 32 .met (met r k) ∙ judged-record r (s .slots) 
 
 -- ---- reasons
 
-lowest : (r : Record) (x : Refusal) → length (r .slots) ≡ 16 → innerWrite r ≡ Refused x → Lowest (recordLayout r) (recordValues r) x
-lowest r x n e =
-    let j = judged-record r n in
-    record { there = j .found x e; lowest = λ y f. turn-place x y (j .earliest x y e f) }
+module _ (r : Record) (size : ℕ) (s : Shaped r) where
+  pub reason : (x : Refusal) → writeAnswer r size ≡ Refused x → WhyNotWritten r size x
+  reason = for-a-reason (writeAnswer r size) (writeQuestions r size) (recordLayout r) (recordValues r) (answered r size) (judged-record r (s .slots))
 
-pub reason : (r : Record) (size : ℕ) (x : Refusal) → Shaped r → writeAnswer r size ≡ Refused x → WhyNotWritten r size x
-reason r size x s e = answered r size .refused x (Lowest (recordLayout r) (recordValues r) x) e (lowest r x (s .slots))
+  pub faulty : (y : Refusal) → Met (writeQuestions r size) → Fault (recordLayout r) (recordValues r) y
+      → (x : Refusal) × (writeAnswer r size ≡ Refused x) × Lowest (recordLayout r) (recordValues r) x
+  faulty = faulty-refused (writeAnswer r size) (writeQuestions r size) (recordLayout r) (recordValues r) (answered r size) (judged-record r (s .slots))
+
+  pub faultless : Met (writeQuestions r size) → ((x : Refusal) → Fault (recordLayout r) (recordValues r) x → ⊥) → writeAnswer r size ≡ Fine
+  faultless = faultless-fine (writeAnswer r size) (writeQuestions r size) (recordLayout r) (recordValues r) (answered r size) (judged-record r (s .slots))
+
+  pub fault-free : writeAnswer r size ≡ Fine → Met (writeQuestions r size) × ((x : Refusal) → Fault (recordLayout r) (recordValues r) x → ⊥)
+  fault-free = fine-faultless (writeAnswer r size) (writeQuestions r size) (recordLayout r) (recordValues r) (answered r size) (judged-record r (s .slots))

@@ -1,4 +1,4 @@
--- The three ways out of reading, and the two of writing.
+-- The two ways out of writing.
 use mathlib.Core.Path.{_≡_, sym, ap, _∙_}
 use Prim.Native.Nat.{ℕ}
 use mathlib.Core.List.{List}

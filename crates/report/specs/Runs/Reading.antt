@@ -8,6 +8,8 @@ use Rattle.parity.specs.Parity.{parityRight}
 use Rattle.rows.specs.declared.refusal.Verdict.{Verdict}
 use Rattle.rows.specs.declared.refusal.Verdict.the-variants.{Fine, Refused}
 use Rattle.rows.specs.declared.refusal.Refusal.the-variants.{Length, Padding, Preamble, Parity, Message, Version, Category}
+use Rattle.rows.specs.declared.refusal.Said.{Said}
+use Rattle.rows.specs.Refusals.{answers}
 use Rattle.report.specs.declared.record.Record.{Record}
 use Rattle.report.specs.declared.read.Reading.{Reading}
 use Rattle.rows.specs.Runs.Questions.{_then_, unless}
@@ -39,6 +41,10 @@ contentAnswer s = unless (allowed categories (fieldOf s 17 4)) Category then inn
 
 abbrev pub readAnswer : List ℕ → Verdict
 readAnswer s = unless (eqb (length s) 32) Length then outerOf s then contentAnswer s
+
+-- what reading says, in the paper's numbers
+abbrev pub readSays : List ℕ → Said
+readSays s = answers (readAnswer s)
 
 -- what stands from bit 43 up to bit 213, spares among it
 abbrev pub contentAs : List ℕ → Body → Content

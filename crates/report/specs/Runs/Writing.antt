@@ -12,6 +12,8 @@ use Rattle.parity.specs.Parity.{parityOfFront}
 use Rattle.rows.specs.declared.refusal.Verdict.{Verdict}
 use Rattle.rows.specs.declared.refusal.Verdict.the-variants.{Fine, Refused}
 use Rattle.rows.specs.declared.refusal.Refusal.the-variants.{Length, Preamble, Category, Unused}
+use Rattle.rows.specs.declared.refusal.Said.{Said}
+use Rattle.rows.specs.Refusals.{answers}
 use Rattle.report.specs.declared.record.Record.{Record}
 use Rattle.rows.specs.Runs.Questions.{_then_, unless}
 use Rattle.rows.specs.Layout.{Layout, allRows}
@@ -48,6 +50,10 @@ writeAnswer r size =
     then unless (known (r .body)) Category
     then unless (tidy r) Unused
     then verdict (layout (r .body)) (values r 0 0)
+
+-- what writing says, in the paper's numbers
+abbrev pub writeSays : Record → ℕ → Said
+writeSays r size = answers (writeAnswer r size)
 
 -- with the fields that are written
 unfoldable pub writingTold : Record → ℕ → Told

@@ -1,14 +1,20 @@
--- Each row of a table has its value.
+-- Each row of a table has its value, and what `each` lists stands in its place.
 use mathlib.Core.Path.{sym, _≡_, refl, ap, _∙_}
-use Prim.Native.Nat.{ℕ, zero, suc, _+_}
+use Prim.Native.Nat.{ℕ, zero, suc, _+_, _<_}
+use native.Mathlib.Omega.{arith}
 use mathlib.Core.List.{List, [], _∷_}
-use lib.ListN.{length, length-map}
+use lib.ListN.{length, length-map, getD}
 use Rattle.rows.specs.Layout.{shifted, Row, Layout, common, ending, slotRows, Slots}
 use Rattle.rows.specs.Values.{Values, each, valuesOf, cut}
 
 pub length-each : {A : Type 0} (n : ℕ) (f : ℕ → A) → length (each n f) ≡ n
 length-each zero f = refl
 length-each (suc n) f = ap suc (length-each n (λ i. f (suc i)))
+
+pub each-at : {A : Type 0} (n : ℕ) (f : ℕ → A) (d : A) (i : ℕ) → i < n → getD (each n f) i d ≡ f i
+each-at zero f d i h = absurd (omega arith)
+each-at (suc n) f d zero h = refl
+each-at (suc n) f d (suc i) h = each-at n (λ j. f (suc j)) d i (omega arith)
 
 -- a value for each row of each slot, from the bit `at` on
 abbrev pub SlotsFilled : Slots → ℕ → List (List ℕ) → Type 0

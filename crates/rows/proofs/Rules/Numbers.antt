@@ -5,6 +5,7 @@ use Prim.Native.Nat.{ℕ, _+_, _-_, _≤_}
 use mathlib.Core.List.{List, [], _∷_}
 use lib.ListN.{getD}
 use lib.Dec.{lit≤}
+use native.Mathlib.Omega.{arith}
 use Rattle.rows.specs.declared.refusal.Verdict.{Verdict}
 use Rattle.rows.specs.declared.refusal.Verdict.the-variants.{Fine, Refused}
 use Rattle.rows.specs.declared.refusal.Refusal.{Refusal}
@@ -60,6 +61,42 @@ unsaid-says Line = refl
 
 pub says-apart : (x y : Refusal) → says x ≡ says y → x ≡ y
 says-apart x y e = sym (unsaid-says x) ∙ ap unsaid e ∙ unsaid-says y
+
+-- ---- 1 to 17, and 0 where nothing is refused
+
+pub says-numbered : (x : Refusal) → (1 ≤ says x .number) × (says x .number ≤ 17)
+says-numbered Length = (lit≤ tt, lit≤ tt)
+says-numbered Padding = (lit≤ tt, lit≤ tt)
+says-numbered Preamble = (lit≤ tt, lit≤ tt)
+says-numbered Parity = (lit≤ tt, lit≤ tt)
+says-numbered Message = (lit≤ tt, lit≤ tt)
+says-numbered Version = (lit≤ tt, lit≤ tt)
+says-numbered Category = (lit≤ tt, lit≤ tt)
+says-numbered (Range p) = (lit≤ tt, lit≤ tt)
+says-numbered (Spare p) = (lit≤ tt, lit≤ tt)
+says-numbered (Gap p) = (lit≤ tt, lit≤ tt)
+says-numbered Unused = (lit≤ tt, lit≤ tt)
+says-numbered NoPage = (lit≤ tt, lit≤ tt)
+says-numbered OtherBulletin = (lit≤ tt, lit≤ tt)
+says-numbered Unsound = (lit≤ tt, lit≤ tt)
+says-numbered (NotHeld page mark) = (lit≤ tt, lit≤ tt)
+says-numbered Short = (lit≤ tt, lit≤ tt)
+says-numbered Line = (lit≤ tt, lit≤ tt)
+
+-- no refusal answers 0
+pub zero-fine : (v : Verdict) → answers v .number ≡ 0 → v ≡ Fine
+zero-fine Fine e = refl
+zero-fine (Refused x) e = absurd (omega (arith, says-numbered x .0, e))
+
+-- ---- a promise of an answer, and of what it says: alone, and beside what is promised of a buffer
+
+pub also-said : {v w : Verdict} → v ≡ w → (v ≡ w) × (answers v ≡ answers w)
+also-said e = (e, ap answers e)
+
+pub beside-said : {B : Type 0} {v w : Verdict} → (v ≡ w) × B → ((v ≡ w) × B) × (answers v ≡ answers w)
+beside-said p = (p, ap answers (p .0))
+
+-- ---- up to 10
 
 abbrev pub UpToTen : Verdict → Type 0
 UpToTen v = answers v .number ≤ 10

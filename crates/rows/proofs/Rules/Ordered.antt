@@ -1,7 +1,7 @@
 -- Questions that are asked in an order (1 to 7), before the rest.
-use mathlib.Core.Path.{_≡_, refl, sym, ap, _∙_}
+use mathlib.Core.Path.{_≡_, refl, sym, ap, _∙_, subst}
 use mathlib.Core.Bool.{Bool, true, _&&_}
-use mathlib.Core.Logic.{inl, inr, ⊎-elim}
+use mathlib.Core.Logic.{inl, inr, ⊎-elim, _↔_}
 use Prim.Native.Nat.{ℕ, _≤_, _<_}
 use native.Mathlib.Omega.{arith}
 use mathlib.Core.List.{List, [], _∷_}
@@ -12,13 +12,8 @@ use Rattle.rows.specs.declared.refusal.Verdict.the-variants.{Fine, Refus
 use Rattle.rows.specs.declared.refusal.Refusal.{Refusal}
 use Rattle.rows.specs.Refusals.{says}
 use Rattle.rows.specs.Runs.Questions.{_then_, unless}
-use Rattle.rows.specs.Faults.{Question, _or_, First}
-use Rattle.rows.proofs.Rules.Outcomes.{unless-fine, unless-refused, fine-both, refused-one, met-then, false-not-true, and-both}
-
--- every question is met
-abbrev pub Met : List Question → Type 0
-Met [] = Unit
-Met ((q or r) ∷ qs) = q × Met qs
+use Rattle.rows.specs.Faults.{Question, _or_, First, Met}
+use Rattle.rows.proofs.Rules.Outcomes.{unless-fine, unless-refused, fine-both, refused-one, met-then, then-fine, not-both, false-not-true, and-both}
 
 -- v is what these questions answer, and w where all are met
 pub record Answers (v : Verdict) (qs : List Question) (w : Verdict) : Type 1 where
@@ -43,6 +38,20 @@ question {v} {w} {qs} b q r f g a = record {
       (λ h. inr (f (unless-fine b r (h .0)), a .refused x rest (h .1) k))
       (refused-one (unless b r) v x e);
 }
+
+-- one question with nothing behind it
+pub last-question : (b : Bool) (q : Type 0) (r : Refusal) → (b ≡ true → q) → (q → b ≡ true) → Answers (unless b r) (q or r ∷ []) Fine
+last-question b q r f g = subst (λ (v : Verdict). Answers v (q or r ∷ []) Fine) (then-fine (unless b r)) (question b q r f g (unquestioned Fine))
+
+-- ---- where nothing comes behind the questions
+
+pub met-exactly : {v : Verdict} {qs : List Question} → Answers v qs Fine → v ≡ Fine ↔ Met qs
+met-exactly a = (λ e. a .fine e .0, λ m. a .met m)
+
+pub first-not-met : {v : Verdict} {qs : List Question} → Answers v qs Fine → (x : Refusal) → v ≡ Refused x → First qs x ⊥
+first-not-met a x e = a .refused x ⊥ e (not-both Fine x refl)
+
+-- ---- by number
 
 -- the numbers of the questions are below n
 abbrev pub numbersBelow : ℕ → List Question → Bool

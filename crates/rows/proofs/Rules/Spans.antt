@@ -30,6 +30,13 @@ in-span lo hi v e = let q = and-both (leb lo v) (leb v hi) e in (leb-true lo v (
 pub span-in : (lo hi v : ℕ) → (lo ≤ v) × (v ≤ hi) → leb lo v && leb v hi ≡ true
 span-in lo hi v h = both-and (leb lo v) (leb v hi) (le-leb lo v (h .0)) (le-leb v hi (h .1))
 
+pub span-out : (lo hi v : ℕ) → ((lo ≤ v) × (v ≤ hi) → ⊥) → leb lo v && leb v hi ≡ false
+span-out lo hi v h = by (leb lo v && leb v hi) refl
+  where
+    by : (b : Bool) → leb lo v && leb v hi ≡ b → leb lo v && leb v hi ≡ false
+    by true e = absurd (h (in-span lo hi v e))
+    by false e = e
+
 pub allowed-in : (ss : List Span) (v : ℕ) → allowed ss v ≡ true → In ss v
 unfolding allowed
 allowed-in [] v e = false-not-true e

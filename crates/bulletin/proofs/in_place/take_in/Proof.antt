@@ -43,7 +43,8 @@ use Rattle.report.proofs.record.Record.Laws as F′
 use Rattle.bulletin.specs.declared.store.Store.{Store}
 use Rattle.bulletin.specs.declared.take.Taking.{Taking}
 use Rattle.bulletin.specs.declared.take.Taken.{Taken}
-use Rattle.bulletin.specs.Takings.{takeOf}
+use Rattle.bulletin.specs.Takings.{takeOf, takenSays, takeSays}
+use Rattle.bulletin.proofs.Taking.TakingOutcomes.{taken-said}
 use Rattle.bulletin.proofs.store.Store as S
 use Rattle.bulletin.proofs.store.Store.Laws as S′
 use Rattle.bulletin.proofs.take.Taking as T
@@ -92,7 +93,10 @@ module _ {M : Type 1} (𝓤 : URA M) (H : Heap 𝓤) (A : Atoms 𝓤) (at-mem : 
   Take = tripleOf 𝓤 H A take.signature (take.spec 𝓤 H A at-mem run)
 
   took : (h : Store) (g : Record) (r : Taking) → ent 𝓤 (ensured 𝓤 H A take.ended (take.clauses 𝓤 H A at-mem run) tt (h, (g, tt)) tt r) (fact 𝓤 (r ≡ takeOf h g))
-  took h g r = exE 𝓤 _ (λ ws. snd∗ 𝓤 (sem 𝓤 H A (lasts take.ended tt (h, (g, tt)) ws)) (fact 𝓤 (r ≡ takeOf h g)))
+  took h g r =
+      let value : SProp 𝓤 = fact 𝓤 (r ≡ takeOf h g) in
+      let numbers : SProp 𝓤 = fact 𝓤 (takenSays (r .answer) ≡ takeSays h g) in
+      exE 𝓤 _ (λ ws. via 𝓤 (sep 𝓤 value numbers) (snd∗ 𝓤 (sem 𝓤 H A (lasts take.ended tt (h, (g, tt)) ws)) (sep 𝓤 value numbers)) (fst∗ 𝓤 value numbers))
 
 module _ {M : Type 1} (𝓤 : URA M) (H : Heap 𝓤) (A : Atoms 𝓤) (W : Given 𝓤 H A) (at-mem : Memory → SProp 𝓤) (run : Routine → Fun 𝓤) (κ : Lft) (q : Share) (b o : ℕ) (γ : GName) (h : Store) (g : Record) (w : Val) where
   abbrev x : RefT Store × (Record × Unit {0})
@@ -109,7 +113,7 @@ module _ {M : Type 1} (𝓤 : URA M) (H : Heap 𝓤) (A : Atoms 𝓤) (W : Given
   exits ig r e ia =
       qed W (‵ (fobs γ (S.the-row .coded .code (r .store))) ∷ ‵ (fbor κ (Body (mem S.the-row) b o γ)) ∷ ‵ (flft κ q) ∷ []) ∵
       suffices ! _ (ends-at 𝓤 H A f.ended stayed (f.clauses 𝓤 H A at-mem run) W (((κ, tt), (q, tt), tt, x, at), tt) (N-val (r .answer)) (r .answer) (r .store, (tt, tt)) (tt, (tt, tt))) $
-      says ! (ap (λ (z : Taking). z .answer) e, ap (λ (z : Taking). z .store) e) $ nothing ! $ move ! (3 ∷ 0 ∷ []) $ join ! $
+      says ! ((ap (λ (z : Taking). z .answer) e, ap (λ (z : Taking). z .store) e), taken-said h g r e .1) $ nothing ! $ move ! (3 ∷ 0 ∷ []) $ join ! $
       frame ! $ feqI ! (List Val) (vptr b o ∷ []) (vptr b o ∷ []) refl $ fjoin3 ! $ nothing ! $ owned ! F.the-row (Is F.the-row) (LL.makes F.the-type F′.the-plain 𝓤 H A) g _ ig $ fjoin ! $ move ! (1 ∷ 0 ∷ []) $ fjoin ! $
       owned ! N.the-row (Is N.the-row) (EL.makes N.the-type N′.the-plain 𝓤 H A) (r .answer) _ ia $ move ! (1 ∷ 0 ∷ []) $ done !
 

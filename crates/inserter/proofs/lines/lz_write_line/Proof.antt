@@ -9,7 +9,7 @@ use Rattle.inserter.proofs.lines.lz_write_line.Tie as tie
 
 returns : tie.Need-returns
 returns c =
-    let wrote = c .before .before .before .write-line .ensures in
+    let wrote = c .before .before .before .write-line .ensures .0 in
     λ i. callResult ((c .verdict-word .ensures ∙ ap (λ (v : Verdict). answerWord (answers v)) (wrote .0)) i) (wrote .1 i)
 
 pub lz-write-line-spec : {M : Type 1} → statement M

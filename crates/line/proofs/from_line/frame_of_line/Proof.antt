@@ -8,6 +8,7 @@ use lib.ListN.{length, getD, take, drop, length-set}
 use Rattle.rows.specs.Runs.Verdict.{allowed}
 use Rattle.line.proofs.DigitValues.{no-digit, a-digit}
 use Rattle.line.proofs.DigitLoop.{markAt, digit-more, digit-stop, turn, last, wrong-length, wrong-digit}
+use Rattle.line.proofs.LineEnds.{framing-said}
 use Rattle.line.specs.Lines.{frameOfLine, allDigits, noLine, framing}
 use Rattle.line.proofs.from_line.frame_of_line.Statement.{statement}
 use Rattle.line.proofs.from_line.frame_of_line.Tie as tie
@@ -35,7 +36,7 @@ stopped c j h e g = wrong-digit (text c) (size c) (sym e ∙ digit-stop (text c)
 
 returns : tie.Need-returns Inv-loop μ-loop
 returns c =
-    c .no-line .ensures ∙ wrong-length _ (c .before .if1 .taken)
+    framing-said _ _ (c .no-line .ensures ∙ wrong-length _ (c .before .if1 .taken))
 
 cast-high : tie.Need-cast-high Inv-loop μ-loop
 cast-high c =
@@ -57,7 +58,7 @@ returns-2 : tie.Need-returns-2 Inv-loop μ-loop
 unfolding allowed
 returns-2 c =
     let l = c .before .before .before .before .before in
-    c .no-line2 .ensures ∙ stopped l (2 * l .loop .i) (omega arith) (l .loop .inv .1 .1 .1) (c .before .if2 .taken)
+    framing-said _ _ (c .no-line2 .ensures ∙ stopped l (2 * l .loop .i) (omega arith) (l .loop .inv .1 .1 .1) (c .before .if2 .taken))
 
 returns-3 : tie.Need-returns-3 Inv-loop μ-loop
 unfolding allowed
@@ -66,8 +67,9 @@ returns-3 c =
     let l = k .before .before .before .before in
     let i = l .loop .i in
     let first = a-digit (getD (text l) (2 * i) 0) (bytes l (2 * i)) (k .if2 .left) in
-    c .no-line3 .ensures
-    ∙ stopped l (2 * i + 1) (omega arith) (sym (digit-more (text l) (2 * i) (omega (arith, size l)) (first .0)) ∙ l .loop .inv .1 .1 .1) (c .before .if3 .taken)
+    framing-said _ _
+    (c .no-line3 .ensures
+    ∙ stopped l (2 * i + 1) (omega arith) (sym (digit-more (text l) (2 * i) (omega (arith, size l)) (first .0)) ∙ l .loop .inv .1 .1 .1) (c .before .if3 .taken))
 
 loop-again : tie.Need-loop-again Inv-loop μ-loop
 unfolding allowed
@@ -91,7 +93,7 @@ returns-4 c =
     let l = c .before .before .before .before in
     let v = l .loop .inv in
     let end : l .loop .i ≡ 31 = omega arith in
-    c .no-line4 .ensures ∙ stopped l 62 (omega arith) (ap (λ (i : ℕ). allDigits (drop (2 * i) (text l))) (sym end) ∙ v .1 .1 .1) (c .before .if4 .taken)
+    framing-said _ _ (c .no-line4 .ensures ∙ stopped l 62 (omega arith) (ap (λ (i : ℕ). allDigits (drop (2 * i) (text l))) (sym end) ∙ v .1 .1 .1) (c .before .if4 .taken))
 
 returns-5 : tie.Need-returns-5 Inv-loop μ-loop
 unfolding allowed
@@ -99,7 +101,7 @@ returns-5 c =
     let l = c .before .before .before in
     let v = l .loop .inv in
     let end : l .loop .i ≡ 31 = omega arith in
-    last (text l) (size l) (bytes l) (l .loop .frame) (v .1 .0) (c .if4 .left) (rw end at (v .1 .1 .0)) (rw end at (v .1 .1 .1))
+    framing-said _ _ (last (text l) (size l) (bytes l) (l .loop .frame) (v .1 .0) (c .if4 .left) (rw end at (v .1 .1 .0)) (rw end at (v .1 .1 .1)))
 
 pub frame-of-line-spec : {M : Type 1} → statement M
 frame-of-line-spec =

@@ -1,5 +1,5 @@
 -- `line::from_line::read_line` meets its contract.
-use Rattle.line.proofs.LineEnds.{read-on, read-no-more}
+use Rattle.line.proofs.LineEnds.{read-on, read-no-more, line-said}
 use borrow.Author.Needs.{needs}
 use Rattle.line.proofs.from_line.read_line.Statement.{statement}
 use Rattle.line.proofs.from_line.read_line.Tie as tie
@@ -10,12 +10,12 @@ enum-told c = search needs
 returns : tie.Need-returns
 returns c =
     let f = c .before .before .before .before .before in
-    read-on _ (f .frame-of-line .result) _ (f .frame-of-line .ensures) (c .before .before .enum-told .given .1) (c .read .ensures)
+    line-said _ _ (read-on _ (f .frame-of-line .result) _ (f .frame-of-line .ensures .0) (c .before .before .enum-told .given .1) (c .read .ensures .0))
 
 returns-2 : tie.Need-returns-2
 returns-2 c =
     let f = c .before .before .before .before in
-    read-no-more _ (f .frame-of-line .result) _ _ (f .frame-of-line .ensures) (c .before .enum-told2 .given .1) (c .of-zeros .ensures)
+    line-said _ _ (read-no-more _ (f .frame-of-line .result) _ _ (f .frame-of-line .ensures .0) (c .before .enum-told2 .given .1) (c .of-zeros .ensures))
 
 pub read-line-spec : {M : Type 1} → statement M
 read-line-spec =

@@ -9,6 +9,7 @@ use lib.ListN.{length, take, drop, set, length-set}
 use Rattle.bits.specs.Frame.{fieldOf}
 use Rattle.bits.proofs.Inside.{right-size}
 use Rattle.bits.proofs.ByteLoops.{copy-more, drop-more}
+use Rattle.rows.proofs.Rules.Numbers.{beside-said}
 use Rattle.line.specs.Lines.{lineOf}
 use Rattle.line.proofs.Pairs.{line-length, digit-at}
 use Rattle.line.proofs.LineEnds.{no-frame, padded, no-room, written}
@@ -32,13 +33,13 @@ no-padding : (c : tie.Else2 Inv-loop μ-loop) → fieldOf (c .before .before .be
 no-padding c = sym (padding (c .before)) ∙ c .if2 .left
 
 returns : tie.Need-returns Inv-loop μ-loop
-returns c = no-frame _ _ (c .if1 .taken)
+returns c = beside-said (no-frame _ _ (c .if1 .taken))
 
 returns-2 : tie.Need-returns-2 Inv-loop μ-loop
-returns-2 c = padded _ _ (c .before .before .before .if1 .left) (λ e. c .if2 .taken (padding (c .before) ∙ e))
+returns-2 c = beside-said (padded _ _ (c .before .before .before .if1 .left) (λ e. c .if2 .taken (padding (c .before) ∙ e)))
 
 returns-3 : tie.Need-returns-3 Inv-loop μ-loop
-returns-3 c = no-room _ _ (c .before .before .before .before .if1 .left) (no-padding (c .before)) (c .if3 .taken)
+returns-3 c = beside-said (no-room _ _ (c .before .before .before .before .if1 .left) (no-padding (c .before)) (c .if3 .taken))
 
 loop-holds : tie.Need-loop-holds Inv-loop μ-loop
 loop-holds c = (omega arith, (refl, (refl, refl)))
@@ -68,7 +69,7 @@ returns-4 c =
     let v = l .loop .inv in
     let a = e .before .before .before .before .before .before .args in
     let end : l .loop .k ≡ 63 = omega arith in
-    written (a .frame .now) (a .buffer .now) (l .loop .buffer) (e .before .before .before .if1 .left) (no-padding e) (l .before .if3 .left) (rw end at (v .1 .1 .0)) (rw end at (v .1 .1 .1))
+    beside-said (written (a .frame .now) (a .buffer .now) (l .loop .buffer) (e .before .before .before .if1 .left) (no-padding e) (l .before .if3 .left) (rw end at (v .1 .1 .0)) (rw end at (v .1 .1 .1)))
 
 pub write-line-spec : {M : Type 1} → statement M
 write-line-spec =

@@ -45,7 +45,7 @@ returns c =
     let s = l .before .before in
     let begun : List ℕ = begunIn (s .args .from) in
     let m : 0 < length begun = omega (arith, t .if2 .taken, ap length (same l), length-take-le (l .least .result) (s .args .from .begun) (fits l)) in
-    (w .write-row .ensures .0 ∙ ap (λ (x : List ℕ). filledBy x (s .args .out .now)) (ap (λ x. rowText (s .args .from .lines + 1) (rowOf x)) (r .read-line .ensures) ∙ ap (lineRow (s .args .from .lines + 1)) (same l) ∙ last-some (s .args .from .lines) begun (omega (arith, limit-is)) m), w .write-row .ensures .1)
+    (w .write-row .ensures .0 ∙ ap (λ (x : List ℕ). filledBy x (s .args .out .now)) (ap (λ x. rowText (s .args .from .lines + 1) (rowOf x)) (r .read-line .ensures .0) ∙ ap (lineRow (s .args .from .lines + 1)) (same l) ∙ last-some (s .args .from .lines) begun (omega (arith, limit-is)) m), w .write-row .ensures .1)
 
 returns-2 : tie.Need-returns-2
 unfolding finished

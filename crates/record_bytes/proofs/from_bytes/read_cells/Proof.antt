@@ -4,7 +4,7 @@ use mathlib.Core.Path.{_≡_, _∙_, ap, sym}
 use Prim.Native.Nat.{ℕ, _+_, _-_, _≤_}
 use native.Mathlib.Omega.{arith}
 use mathlib.Core.List.{List, _++_}
-use lib.ListN.{length, getD, take, replicate, length-replicate, length-set}
+use lib.ListN.{length, take, replicate, length-replicate, length-set}
 use lib.Seq.{take-all}
 use Rattle.rows.specs.Values.{each}
 use Rattle.rows.proofs.Layouts.Filling.{fill, filled}

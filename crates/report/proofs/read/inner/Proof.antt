@@ -3,7 +3,6 @@ use borrow.Author.Needs.{needs}
 use Rattle.report.proofs.read.inner.Statement.{statement}
 use Rattle.report.specs.declared.body.Content.{Content}
 use Rattle.report.specs.declared.record.Record.{Record}
-use Rattle.report.specs.declared.body.Told.{Told}
 use Rattle.report.specs.Runs.Told.{recordTold}
 use mathlib.Core.Path.{_≡_, _∙_, ap}
 use mathlib.Core.Bool.{not}

@@ -1,5 +1,5 @@
 -- `report::read::read` meets its contract.
-use Rattle.report.proofs.Reading.ReadSteps.{not-a-frame, refused-early, read-on}
+use Rattle.report.proofs.Reading.ReadSteps.{not-a-frame, refused-early, read-on, read-said}
 use Rattle.bits.proofs.Inside.{right-size}
 use borrow.Author.Needs.{needs}
 use mathlib.Core.Path.{sym, _∙_}
@@ -9,7 +9,8 @@ use Rattle.report.proofs.read.read.Tie as tie
 returns : tie.Need-returns
 returns c =
     let i = c .before .before in
-    not-a-frame (i .before .before .args .frame .now) (c .before .of-zeros .result) (c .conclude .result) (i .if1 .taken) (c .conclude .ensures)
+    let lent = i .before .before .args .frame .now in
+    read-said lent _ (not-a-frame lent (c .before .of-zeros .result) (c .conclude .result) (i .if1 .taken) (c .conclude .ensures))
 
 enum-told : tie.Need-enum-told
 enum-told c = search needs
@@ -22,7 +23,7 @@ returns-2 c =
     let o = c .before .before .before in
     let lent = o .before .before .before .before .args .frame .now in
     let size = o .before .before .if1 .left in
-    read-on _ _ (o .outer .result) _ size (o .before .frame-of .ensures ∙ right-size lent lent _ size) (o .outer .ensures) (c .before .enum-told .given .1) (c .inner .ensures)
+    read-said lent _ (read-on lent _ (o .outer .result) _ size (o .before .frame-of .ensures ∙ right-size lent lent _ size) (o .outer .ensures) (c .before .enum-told .given .1) (c .inner .ensures))
 
 returns-3 : tie.Need-returns-3
 returns-3 c =
@@ -30,7 +31,7 @@ returns-3 c =
     let o = e .before .before in
     let lent = o .before .before .before .before .args .frame .now in
     let size = o .before .before .if1 .left in
-    refused-early _ _ (o .outer .result) _ _ _ size (o .before .frame-of .ensures ∙ right-size lent lent _ size) (o .outer .ensures) (e .enum-told2 .given .1) (c .conclude2 .ensures)
+    read-said lent _ (refused-early lent _ (o .outer .result) _ _ _ size (o .before .frame-of .ensures ∙ right-size lent lent _ size) (o .outer .ensures) (e .enum-told2 .given .1) (c .conclude2 .ensures))
 
 pub read-spec : {M : Type 1} → statement M
 read-spec =

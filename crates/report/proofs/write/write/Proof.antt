@@ -1,6 +1,7 @@
 -- `report::write::write` meets its contract.
 use Rattle.report.proofs.Writing.WriteSteps.{fine-size, fine-valid, left-alone, written-out}
 use Rattle.bits.proofs.Inside.{right-size}
+use Rattle.rows.proofs.Rules.Numbers.{beside-said}
 use borrow.Author.Needs.{needs}
 use mathlib.Core.Path.{_≡_, ap, sym, _∙_}
 use lib.ListN.{length}
@@ -32,13 +33,13 @@ returns c =
     let a = k .before .before .before in
     let s = a .before .before in
     let size = fine-size (s .args .r) _ (sym (answer a) ∙ k .enum-told .given .1) in
-    written-out (s .args .r) (s .args .frame .now) _ (a .asked .result .found) (answer a) (k .enum-told .given .1) (p .copy-to .ensures ∙ right-size (s .args .frame .now) _ _ size ∙ n .encode .ensures)
+    beside-said (written-out (s .args .r) (s .args .frame .now) _ (a .asked .result .found) (answer a) (k .enum-told .given .1) (p .copy-to .ensures ∙ right-size (s .args .frame .now) _ _ size ∙ n .encode .ensures))
 
 returns-2 : tie.Need-returns-2
 returns-2 c =
     let a = c .before .before .before in
     let s = a .before .before in
-    left-alone (s .args .r) (s .args .frame .now) (a .asked .result .found) _ (answer a) (c .enum-told2 .given .1)
+    beside-said (left-alone (s .args .r) (s .args .frame .now) (a .asked .result .found) _ (answer a) (c .enum-told2 .given .1))
 
 pub write-spec : {M : Type 1} → statement M
 write-spec =

@@ -1,10 +1,9 @@
 -- `bulletin::store::Store::take` meets its contract.
 use mathlib.Core.Path.{_≡_, ap, sym, _∙_}
 use native.Mathlib.Omega.{arith}
-use Rattle.bulletin.specs.Takings.{admission}
-use Rattle.bulletin.specs.Steps.{admissionVerdict}
+use Rattle.bulletin.specs.Takings.{admission, admissionVerdict}
 use Rattle.bits.proofs.Arrays.{unmapped}
-use Rattle.bulletin.proofs.Taking.TakingOutcomes.{admits, unsound-store, sound-store, unwritable, writable-record, taken-refused, taken-in}
+use Rattle.bulletin.proofs.Taking.TakingOutcomes.{admits, unsound-store, sound-store, unwritable, writable-record, taken-refused, taken-in, taken-said}
 use Rattle.pages.proofs.Numbered.{numbered}
 use borrow.Author.Needs.{needs}
 use Rattle.bulletin.proofs.store.Store.take.Statement.{statement}
@@ -21,14 +20,14 @@ enum-told c = search needs
 returns : tie.Need-returns
 returns c = let e = c .before in
     let s = e .before .before in
-    taken-refused _ _ (s .soundness .result) _ _ (e .enum-told2 .given .1) (c .refused .ensures) (unsound-store _ _ _ _ (s .soundness .ensures) (e .enum-told2 .given .1))
+    taken-said _ _ _ (taken-refused _ _ (s .soundness .result) _ _ (e .enum-told2 .given .1) (c .refused .ensures) (unsound-store _ _ _ _ (s .soundness .ensures) (e .enum-told2 .given .1)))
 
 returns-2 : tie.Need-returns-2
 returns-2 c = let e = c .before in
     let w = e .before .before in
     let f = w .before in
     let sound = sound-store _ _ (f .before .before .soundness .ensures) (f .enum-told .given .1) in
-    taken-refused _ _ (w .write-answer .result) _ _ (e .enum-told4 .given .1) (c .refused2 .ensures) (unwritable _ _ _ _ sound (w .write-answer .ensures) (e .enum-told4 .given .1))
+    taken-said _ _ _ (taken-refused _ _ (w .write-answer .result) _ _ (e .enum-told4 .given .1) (c .refused2 .ensures) (unwritable _ _ _ _ sound (w .write-answer .ensures .0) (e .enum-told4 .given .1)))
 
 -- what the last step answers is what admitting is
 admitted : (c : tie.After-admit) → c .admit .result ≡ admission (c .before .before .before .before .before .before .before .before .before .args .self) (c .before .before .before .before .before .before .before .before .before .args .came)
@@ -36,13 +35,13 @@ admitted c = let f = c .before in
     let w = f .before .before in
     let g = w .before in
     let sound = sound-store _ _ (g .before .before .soundness .ensures) (g .enum-told .given .1) in
-    c .admit .ensures ∙ writable-record _ _ _ sound (w .write-answer .ensures) (f .enum-told3 .given .1)
+    c .admit .ensures ∙ writable-record _ _ _ sound (w .write-answer .ensures .0) (f .enum-told3 .given .1)
 
 returns-3 : tie.Need-returns-3
 returns-3 c = let v = c .before in
     let e = v .before in
     let a = e .before .before in
-    taken-refused _ _ (v .verdict .result) _ _ (v .verdict .ensures ∙ ap admissionVerdict (e .enum-told5 .given .1)) (c .refused3 .ensures) (sym (admitted a) ∙ e .enum-told5 .given .1)
+    taken-said _ _ _ (taken-refused _ _ (v .verdict .result) _ _ (v .verdict .ensures ∙ ap admissionVerdict (e .enum-told5 .given .1)) (c .refused3 .ensures) (sym (admitted a) ∙ e .enum-told5 .given .1))
 
 put-requires : tie.Need-put-requires
 put-requires c κs = let n = c .before in
@@ -58,7 +57,7 @@ put-requires c κs = let n = c .before in
 returns-4 : tie.Need-returns-4
 returns-4 c = let n = c .before .before in
     let a = n .before .before in
-    taken-in _ _ (a .admit .result) _ _ (admitted a) (n .admitted .given .1) (c .put .ensures)
+    taken-said _ _ _ (taken-in _ _ (a .admit .result) _ _ (admitted a) (n .admitted .given .1) (c .put .ensures))
 
 pub take-spec : {M : Type 1} → statement M
 take-spec =

@@ -3,7 +3,7 @@ use borrow.Author.Needs.{needs}
 use Rattle.listing.proofs.row.Row.slots_entry.Statement.{statement}
 use native.Mathlib.Omega.{arith}
 use borrow.Author.Tests.{eq-eqb, ne-eqb}
-use Rattle.listing.proofs.Lines.UsedSlots.{few}
+use Rattle.report.proofs.Reading.Used.{few}
 use Rattle.bits.proofs.Arrays.{unmapped}
 use Rattle.listing.proofs.row.Row.slots_entry.Tie as tie
 

@@ -9,10 +9,10 @@ enum-told : tie.Need-enum-told
 enum-told c = search needs
 
 returns : tie.Need-returns
-returns c = sym (ap isFine (sym (c .before .before .verdict .ensures) ∙ c .enum-told .given .1))
+returns c = sym (ap isFine (sym (c .before .before .verdict .ensures .0) ∙ c .enum-told .given .1))
 
 returns-2 : tie.Need-returns-2
-returns-2 c = sym (ap isFine (sym (c .before .before .verdict .ensures) ∙ c .enum-told2 .given .1))
+returns-2 c = sym (ap isFine (sym (c .before .before .verdict .ensures .0) ∙ c .enum-told2 .given .1))
 
 pub is-in-range-spec : {M : Type 1} → statement M
 is-in-range-spec = tie.close (tie.spec (λ c κs. search needs) enum-told (λ c. search needs) returns returns-2)

@@ -1,0 +1,3 @@
+pub mod RoundTrip
+pub mod Takings
+pub mod Claims

@@ -1,0 +1,114 @@
+-- A frame through `lz_read` and `lz_write`, and a record's bytes through `lz_write` and `lz_read`.
+use mathlib.Core.Path.{_≡_, refl, sym, ap, _∙_, subst}
+use mathlib.Core.Bool.{Bool, true, false, cond}
+use Prim.Native.Nat.{ℕ, _^_, _≤_}
+use native.Mathlib.Omega.{arith}
+use mathlib.Core.List.{List}
+use lib.ListN.{length}
+use lib.Dec.{eqb}
+use borrow.Author.Tests.{eq-eqb, eqb-true}
+use Rattle.bits.specs.Frame.{Bytes}
+use Rattle.rows.specs.declared.refusal.Verdict.{Verdict}
+use Rattle.rows.specs.declared.refusal.Verdict.the-variants.{Fine, Refused}
+use Rattle.rows.specs.Refusals.{says, answers}
+use Rattle.rows.specs.Runs.Questions.{_then_}
+use Rattle.rows.specs.Runs.Verdict.{allowed}
+use Rattle.rows.proofs.Rules.Outcomes.{false-not-true}
+use Rattle.rows.proofs.Rules.Spans.{in-allowed}
+use Rattle.report.specs.Categories.{preambles}
+use Rattle.report.proofs.Shaped.{Shaped}
+use Rattle.report.proofs.Writing.Validity.{answered}
+use Rattle.report.specs.declared.record.Record.{Record}
+use Rattle.report.specs.declared.read.Reading.{Reading}
+use Rattle.report.specs.Records.{recordOf, zeros}
+use Rattle.report.specs.Runs.Reading.{readOf}
+use Rattle.report.specs.Runs.Writing.{writeAnswer, writeOf, Valid}
+use Rattle.report.proofs.Claims.{read-again-is-the-record, read-records-are-shaped, written-again-is-the-frame}
+use Rattle.report.proofs.RoundTrips.ReadThenWritten.{frame-valid, reads, record-read}
+use Rattle.record_bytes.specs.Packed.{packed}
+use Rattle.record_bytes.specs.Unpacked.{recordFrom, unpacked}
+use Rattle.record_bytes.proofs.Claims.{accepted-bytes-are-given-back, packed-has-251-bytes, packed-then-unpacked, valid-records-fit-their-bytes}
+use Rattle.record_bytes.proofs.Accepted.{unpacked-shaped}
+use Rattle.inserter.specs.Answers.{answerWord, callResult, ifLengthsFit, readInto, readingByAnswer, readingInto, writeInto, writeResult}
+use Rattle.inserter.proofs.Claims.{zero-is-told-of-success, a-refusal-is-told-as-one}
+
+-- ---- a record's 251 bytes
+
+record-whole : (l : List ℕ) → length l ≡ 251 → recordFrom l ≡ unpacked l
+unfolding recordFrom
+record-whole l e = rw (eq-eqb (length l) 251 e)
+
+-- ---- what an answer of 0 tells of a reading and of a writing
+
+by-answer : (b : Bool) (v : Verdict) (r : Record) (buffer : List ℕ) → ifLengthsFit b (readingByAnswer v r buffer) buffer .answer ≡ 0
+    → (v ≡ Fine) × (ifLengthsFit b (readingByAnswer v r buffer) buffer .buffer ≡ packed r)
+by-answer false v r buffer e = absurd (omega (arith, e))
+by-answer true Fine r buffer e = (refl, refl)
+by-answer true (Refused x) r buffer e = let high : 2 ^ 24 ≤ answerWord (says x) = a-refusal-is-told-as-one x in absurd (omega (arith, high, e))
+
+read-zero : (got : Reading) (buffer : List ℕ) → readingInto got buffer .answer ≡ 0 → (got .answer ≡ Fine) × (readingInto got buffer .buffer ≡ packed (got .«record»))
+unfolding readingInto
+read-zero got buffer e = by-answer (eqb (length buffer) 251) (got .answer) (got .«record») buffer e
+
+read-whole : (r : Record) (buffer : List ℕ) → length buffer ≡ 251 → readingInto (record { answer = Fine; «record» = r }) buffer ≡ callResult 0 (packed r)
+unfolding readingInto
+read-whole r buffer e = rw (eq-eqb (length buffer) 251 e)
+
+write-zero : (r : Record) (buffer : List ℕ) → writeResult r buffer .answer ≡ 0 → writeAnswer r (length buffer) ≡ Fine
+unfolding writeResult
+write-zero r buffer e = zero-is-told-of-success (writeAnswer r (length buffer)) .1 e
+
+write-buffer : (r : Record) (buffer : List ℕ) → writeResult r buffer .buffer ≡ writeOf r buffer
+unfolding writeResult
+write-buffer r buffer = refl
+
+write-whole : (r : Record) (buffer s : List ℕ) → writeAnswer r (length buffer) ≡ Fine → writeOf r buffer ≡ s → writeResult r buffer ≡ callResult 0 s
+unfolding writeResult
+write-whole r buffer s e w = λ i. callResult (answerWord (answers (e i))) (w i)
+
+-- ---- there and back
+
+given-back : (r : Record) → Shaped r → Valid r → recordFrom (packed r) ≡ r
+given-back r s v = record-whole (packed r) (packed-has-251-bytes r (s .slots) (s .text)) ∙ packed-then-unpacked r (valid-records-fit-their-bytes r s v)
+
+pub read-then-written : (s bytes buffer : List ℕ) → Bytes s → length buffer ≡ 32 → readInto s bytes .answer ≡ 0
+    → writeInto (readInto s bytes .buffer) buffer ≡ callResult 0 s
+read-then-written s bytes buffer b n e =
+    let got = read-zero (readOf s) bytes e in
+    let r = readOf s .«record» in
+    let same : r ≡ recordOf s = record-read s (got .0) in
+    let shaped = subst Shaped (sym same) (read-records-are-shaped s) in
+    let valid = subst Valid (sym same) (frame-valid s (reads s (got .0))) in
+    let again = written-again-is-the-frame s buffer b (got .0) n in
+    ap (λ (l : List ℕ). writeInto l buffer) (got .1)
+    ∙ ap (λ (q : Record). writeResult q buffer) (given-back r shaped valid)
+    ∙ write-whole r buffer s (again .0) (again .1)
+
+-- no record of zeros is written
+zeros-refused : (n : ℕ) → writeAnswer zeros n ≡ Fine → ⊥
+unfolding allowed zeros
+zeros-refused n e = false-not-true (in-allowed preambles 0 (answered zeros n .fine e .0 .1 .0))
+
+accepted-long : (l : List ℕ) (n : ℕ) → writeAnswer (recordFrom l) n ≡ Fine → length l ≡ 251
+unfolding recordFrom
+accepted-long l n e = by (eqb (length l) 251) refl
+  where
+    by : (b : Bool) → eqb (length l) 251 ≡ b → length l ≡ 251
+    by true h = eqb-true (length l) 251 h
+    by false h = absurd (zeros-refused n (ap (λ (c : Bool). writeAnswer (cond c (unpacked l) zeros) n) (sym h) ∙ e))
+
+pub written-then-read : (l buffer bytes : List ℕ) → Bytes l → length bytes ≡ 251 → writeInto l buffer .answer ≡ 0
+    → readInto (writeInto l buffer .buffer) bytes ≡ callResult 0 l
+written-then-read l buffer bytes b n e =
+    let fine = write-zero (recordFrom l) buffer e in
+    let long = accepted-long l (length buffer) fine in
+    let whole = record-whole l long in
+    let r = unpacked l in
+    let fine-too : writeAnswer r (length buffer) ≡ Fine = ap (λ (q : Record). writeAnswer q (length buffer)) (sym whole) ∙ fine in
+    let room : length buffer ≡ 32 = answered r (length buffer) .fine fine-too .0 .0 in
+    let valid : Valid r = ap (writeAnswer r) (sym room) ∙ fine-too in
+    ap (λ (q : Record). readInto (writeResult q buffer .buffer) bytes) whole
+    ∙ ap (λ (s : List ℕ). readInto s bytes) (write-buffer r buffer)
+    ∙ ap (λ (g : Reading). readingInto g bytes) (read-again-is-the-record r buffer (unpacked-shaped l) valid room)
+    ∙ read-whole r bytes n
+    ∙ ap (callResult 0) (accepted-bytes-are-given-back l long b valid)

@@ -1,0 +1,3 @@
+pub mod StoreAnswers
+pub mod TakingSteps
+pub mod TextSteps

@@ -1,0 +1,53 @@
+-- What the functions for C and Rust answer of a number: whether it is known, and what it says. 0 is said of a number that
+-- says nothing.
+use Prim.Native.Nat.{ℕ, _+_, _*_, _^_}
+use mathlib.Core.List.{List}
+use Rattle.hypocenter.specs.declared.meaning.Depth.{Depth}
+use Rattle.hypocenter.specs.declared.meaning.Depth.the-variants.{Kilometres, Deeper, Unknown, OutOfRange}
+use Rattle.hypocenter.specs.declared.meaning.Magnitude.{Magnitude}
+use Rattle.hypocenter.specs.declared.meaning.Magnitude.the-variants.{InRange, UnknownAboveEight, Unknown as NoMagnitude, OutOfRange as NotAMagnitude}
+use Rattle.ash_fall.specs.declared.meaning.Prefecture.{Prefecture}
+use Rattle.ash_fall.specs.declared.meaning.Prefecture.the-variants.{Number, Nowhere}
+use Rattle.hypocenter.specs.Hypocenter.{depthOf, magnitudeOf}
+use Rattle.ash_fall.specs.Meaning.{prefectureOf}
+use Rattle.report.specs.Meaning.{usedOf}
+use Rattle.record_bytes.specs.Unpacked.{recordFrom}
+
+-- how a number is known stands in the second byte of the answer, the number itself behind it
+abbrev pub known : ℕ → ℕ
+known n = 1 * 2 ^ 16 + n
+
+abbrev pub beyond : ℕ
+beyond = 2 * 2 ^ 16
+
+abbrev pub unknown : ℕ
+unknown = 3 * 2 ^ 16
+
+abbrev pub depthWord : Depth → ℕ
+depthWord (Kilometres n) = known n
+depthWord Deeper = beyond
+depthWord Unknown = unknown
+depthWord OutOfRange = 0
+
+abbrev pub depthAnswer : ℕ → ℕ
+depthAnswer code = depthWord (depthOf code)
+
+abbrev pub magnitudeWord : Magnitude → ℕ
+magnitudeWord (InRange n) = known n
+magnitudeWord UnknownAboveEight = beyond
+magnitudeWord NoMagnitude = unknown
+magnitudeWord NotAMagnitude = 0
+
+abbrev pub magnitudeAnswer : ℕ → ℕ
+magnitudeAnswer code = magnitudeWord (magnitudeOf code)
+
+-- no prefecture has the number 0
+abbrev pub prefectureWord : Prefecture → ℕ
+prefectureWord (Number n) = n
+prefectureWord Nowhere = 0
+
+abbrev pub prefectureAnswer : ℕ → ℕ
+prefectureAnswer place = prefectureWord (prefectureOf place)
+
+abbrev pub slotsAnswer : List ℕ → ℕ
+slotsAnswer bytes = usedOf (recordFrom bytes)

@@ -1,0 +1,54 @@
+// What a number of a record says. No table has a first row for a number that it does not know: such a
+// number is told as 0, and neither a depth, a magnitude nor a prefecture is.
+ghost use mathlib.Core.Path.{_≡_};
+ghost use Rattle.inserter.specs.Meanings.{depthAnswer, magnitudeAnswer, prefectureAnswer, slotsAnswer};
+use ash_fall::meaning::Prefecture;
+use hypocenter::meaning::Depth;
+use hypocenter::meaning::Magnitude;
+
+// 1 in the second byte and the kilometres, 0 to 500, in the last two; 2 there for deeper than 500 km, 3 for
+// unknown; 0 for a code that no depth has.
+#[no_mangle]
+pub extern "C" fn lz_depth(code: u16) -> u32
+    ensures { λ r. ⌜ r ≡ depthAnswer code ⌝ }
+{
+    match Depth::of(code) {
+        Depth::Kilometres(kilometres) => 0x1_0000 + kilometres as u32,
+        Depth::Deeper => 0x2_0000,
+        Depth::Unknown => 0x3_0000,
+        Depth::OutOfRange => 0,
+    }
+}
+
+// 1 in the second byte and the tenths, 1 to 101, in the last; 2 there for above 8.0 without a moment magnitude,
+// 3 for unknown; 0 for a code that no magnitude has.
+#[no_mangle]
+pub extern "C" fn lz_magnitude(code: u8) -> u32
+    ensures { λ r. ⌜ r ≡ magnitudeAnswer code ⌝ }
+{
+    match Magnitude::of(code) {
+        Magnitude::InRange(tenths) => 0x1_0000 + tenths as u32,
+        Magnitude::UnknownAboveEight => 0x2_0000,
+        Magnitude::Unknown => 0x3_0000,
+        Magnitude::OutOfRange => 0,
+    }
+}
+
+// The prefecture, 1 to 47, that a place of an ash fall report lies in; 0 where it lies in none.
+#[no_mangle]
+pub extern "C" fn lz_prefecture(place: u64) -> u32
+    ensures { λ r. ⌜ r ≡ prefectureAnswer place ⌝ }
+{
+    match Prefecture::of(place) {
+        Prefecture::Number(prefecture) => prefecture as u32,
+        Prefecture::Nowhere => 0,
+    }
+}
+
+// How many slots of a record's 251 bytes are used, 0 to 16: those in front of the first empty one.
+#[no_mangle]
+pub extern "C" fn lz_slots_used(record_bytes: &[u8]) -> u32
+    ensures { λ r. ⌜ r ≡ slotsAnswer (now (record_bytes .entry)) ⌝ }
+{
+    record_bytes::unpack(record_bytes).slots_used() as u32
+}
