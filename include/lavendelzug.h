@@ -39,7 +39,6 @@ extern "C" {
 #define LZ_RECORD_BYTES 251  /* what a frame says */
 #define LZ_NAME_BYTES 8      /* which bulletin */
 #define LZ_STORE_BYTES 1205  /* a bulletin's pages */
-#define LZ_COUNT_BYTES 3     /* held, disputed, lowest */
 #define LZ_TEXT_MOST 1134    /* no text of a bulletin is longer */
 
 /*
@@ -47,8 +46,8 @@ extern "C" {
  *
  * One word: the number of the refusal in the high byte, 0 where nothing is
  * refused, then place, page and mark, each 0 unless the refusal names it. Where
- * nothing is refused, three functions answer a value, which never reaches the
- * high byte: lz_parity a parity, lz_take a number from 1 to 3, lz_text a length.
+ * something is refused, every buffer stays as it was. Where nothing is, some
+ * functions answer a value, which never reaches the high byte.
  */
 #define LZ_NUMBER(answer) ((uint8_t)((uint32_t)(answer) >> 24))
 #define LZ_PLACE(answer) ((uint8_t)((uint32_t)(answer) >> 16))
@@ -69,11 +68,11 @@ extern "C" {
 #define LZ_REFUSED_UNUSED 11          /* a record has something where its category has nothing */
 #define LZ_REFUSED_NO_PAGE 12         /* a record is not of category 4 */
 #define LZ_REFUSED_OTHER_BULLETIN 13  /* a page or a store is of another bulletin */
-#define LZ_REFUSED_UNSOUND 14         /* a store is not one that pages taken can give */
+#define LZ_REFUSED_UNSOUND 14         /* a store is not 1205 bytes that pages taken can give */
 #define LZ_REFUSED_NOT_HELD 15        /* a page is not held; page: the lowest such, mark: why */
 #define LZ_REFUSED_SHORT 16           /* a buffer is shorter than what would go into it */
 #define LZ_REFUSED_LINE 17            /* a line is not 63 hexadecimal digits, of either case */
-#define LZ_WRONG_CALL 255             /* a buffer has a length that this call does not take */
+#define LZ_WRONG_CALL 255             /* wrong lengths in lz_read, lz_read_line or lz_open */
 
 #define LZ_MARK_ABSENT 1    /* with 15: no text of the page was taken */
 #define LZ_MARK_DISPUTED 2  /* with 15: more than one was */
@@ -82,7 +81,8 @@ extern "C" {
  * ---- A record: 251 bytes ----
  *
  * Each number stands at a fixed place, in one byte unless more are named, the most
- * significant byte first. The ranges are those that are read and written.
+ * significant byte first. The ranges are those that are read and written. Bytes of
+ * another length are taken for a record of zeros.
  *
  *   at   what                      range
  *    0   category                  2, 3, 4, 9
@@ -218,7 +218,8 @@ extern "C" {
  *
  * A store is sound where its name is in range, each state is one of the three,
  * pages that are absent or disputed have zeros for a text, and pages past the
- * total are absent. It may be kept and copied as bytes.
+ * total are absent. Bytes of another length are no sound store. A store may be
+ * kept and copied as bytes.
  */
 #define LZ_NAME_RC 0
 #define LZ_NAME_MONTH 1
@@ -248,7 +249,6 @@ uint32_t lz_parity(const uint8_t *frame, size_t frame_length);
 
 /*
  * Reads a frame into a record, whose writing gives the same frame, and answers 0.
- * Where something is refused the record's buffer stays as it was.
  * Refuses: 255 where record_length is not 251; 1, 2, 3, 4, 5, 6, 7; then 8, 9
  * and 10 by the lowest place.
  */
@@ -257,9 +257,7 @@ uint32_t lz_read(const uint8_t *frame, size_t frame_length,
 
 /*
  * Writes a record to a frame, whose reading gives the same record, and answers 0.
- * Where something is refused the frame's buffer stays as it was.
- * Refuses: 255 where record_length is not 251; 1, 3, 7, 11; then 8 and 10 by the
- * lowest place.
+ * Refuses: 1, 3, 7, 11; then 8 and 10 by the lowest place.
  */
 uint32_t lz_write(const uint8_t *record_bytes, size_t record_length,
                   uint8_t *frame, size_t frame_length);
@@ -274,24 +272,52 @@ uint32_t lz_read_line(const uint8_t *line, size_t line_length,
 /*
  * Writes a frame as 63 digits with capital letters to the front of a buffer, and
  * answers 0. No zero and no end of line is put behind them: the other bytes stay
- * as they were, and where something is refused all of them do. The frame need
- * not be one that can be read. Refuses: 1, 2, 16.
+ * as they were. The frame need not be one that can be read. Refuses: 1, 2, 16.
  */
 uint32_t lz_write_line(const uint8_t *frame, size_t frame_length,
                        uint8_t *line, size_t line_length);
 
 /*
- * ---- The pages of a Nankai bulletin ----
+ * ---- What numbers say ----
  *
- * Before all else each of these answers 255, and touches nothing, where a name
- * is not 8 bytes long, a store not 1205, a record not 251 or counts not 3.
+ * These refuse nothing. A depth and a magnitude are told as a kind and a value,
+ * the latter 0 unless the kind is LZ_KNOWN.
  */
+#define LZ_KIND(answer) ((uint8_t)((uint32_t)(answer) >> 16))
+#define LZ_VALUE(answer) ((uint16_t)(uint32_t)(answer))
+
+#define LZ_NO_CODE 0  /* no depth, or no magnitude, has this code */
+#define LZ_KNOWN 1    /* value: kilometres, or tenths */
+#define LZ_BEYOND 2   /* deeper than 500 km, or above 8.0 where no moment magnitude is known */
+#define LZ_UNKNOWN 3
+
+/* What the depth of category 2 says: 0 to 500 are kilometres, 0 among them. */
+uint32_t lz_depth(uint16_t code);
+
+/* What the magnitude of category 2 says: 1 to 101 are tenths, and 101 is more than 10.0. */
+uint32_t lz_magnitude(uint8_t code);
+
+/*
+ * Answers the prefecture, 1 to 47, that a place of category 9 lies in, or 0 where
+ * it lies in none: below 100000 and above 4799999.
+ */
+uint32_t lz_prefecture(uint64_t place);
+
+/*
+ * Answers how many slots of a record are used, 0 to 16: those in front of the
+ * first that is zero in all of its bytes. In a record that was read, so are those
+ * behind it. In any other, what stands in bytes 9 to 40 where the category has
+ * nothing counts as a part of the last slot.
+ */
+uint32_t lz_slots_used(const uint8_t *record_bytes, size_t record_length);
+
+/* ---- The pages of a Nankai bulletin ---- */
 
 /*
  * Opens a store for the bulletin of a name, with every page absent, and answers
- * 0. Where a value of the name is out of range the store becomes zeros, which is
- * no sound store. Refuses: 8 with the place in a frame of the first such value:
- * 14, 21, 25, 30, 35, 41, 53 or 207.
+ * 0. What the buffer held before plays no part. Refuses: 255 where name_length is
+ * not 8 or store_length not 1205; 8 with the place in a frame of the first value
+ * of the name out of range: 14, 21, 25, 30, 35, 41, 53 or 207.
  */
 uint32_t lz_open(const uint8_t *name, size_t name_length,
                  uint8_t *store, size_t store_length);
@@ -299,8 +325,7 @@ uint32_t lz_open(const uint8_t *name, size_t name_length,
 /*
  * Takes the page of a record into a store, and answers what became of it. Two
  * texts for a page make it disputed, and it stays so. Preamble and Reserved play
- * no part. Where something is refused the store stays as it was.
- * Refuses: 14; what writing that record to 32 bytes refuses; 12, 13.
+ * no part. Refuses: 14; what writing that record to 32 bytes refuses; 12, 13.
  */
 #define LZ_TAKEN_NEW 1       /* it was absent and is held now */
 #define LZ_TAKEN_SAME 2      /* it was held with this text */
@@ -310,27 +335,27 @@ uint32_t lz_take(uint8_t *store, size_t store_length,
 
 /*
  * Merges another store of the same bulletin into a store, which then is as if it
- * had taken the pages of both, and answers 0. Where something is refused the
- * store stays as it was. Refuses: 14 where either store is not sound; 13.
+ * had taken the pages of both, and answers 0. Refuses: 14 where either store is
+ * not sound; 13.
  */
 uint32_t lz_merge(uint8_t *store, size_t store_length,
                   const uint8_t *other, size_t other_length);
 
 /*
- * Puts into three bytes how many pages are held, how many are disputed, and the
- * lowest page that is not held, 0 where all are, and answers 0. A bulletin is
- * complete where all are held, however many frames came. Where something is
- * refused the three bytes become zeros. Refuses: 14.
+ * Answers how many pages are held, how many are disputed, and the lowest page
+ * that is not held, 0 where all are. A bulletin is complete where all are held,
+ * however many frames came. Refuses: 14.
  */
-uint32_t lz_count(const uint8_t *store, size_t store_length,
-                  uint8_t *counts, size_t counts_length);
+#define LZ_HELD(answer) LZ_PLACE(answer)
+#define LZ_DISPUTED(answer) LZ_PAGE(answer)
+#define LZ_LOWEST(answer) LZ_MARK(answer)
+uint32_t lz_count(const uint8_t *store, size_t store_length);
 
 /*
  * Puts the texts of the pages in their order, less all zero bytes at the end, to
  * the front of a buffer of any length, and answers how many bytes that are: 0 to
- * LZ_TEXT_MOST. The bytes behind them stay as they were, and where something is
- * refused all of them do. A character may cross from one page into the next.
- * Refuses: 14, 15, 16.
+ * LZ_TEXT_MOST. The bytes behind them stay as they were. A character may cross
+ * from one page into the next. Refuses: 14, 15, 16.
  */
 uint32_t lz_text(const uint8_t *store, size_t store_length,
                  uint8_t *text, size_t text_length);

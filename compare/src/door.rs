@@ -3,6 +3,9 @@
 //! Their answer is the number of the refusal, 0 where nothing is refused, and
 //! its place, page and mark, if nothing else is said.
 
+/// A function that reads a slice.
+type Reads = unsafe extern "C" fn(*const u8, usize) -> u32;
+
 /// A function that reads the first slice and may write the second.
 type FromTo = unsafe extern "C" fn(*const u8, usize, *mut u8, usize) -> u32;
 
@@ -54,25 +57,23 @@ mod raw {
             other: *const u8,
             other_length: usize,
         ) -> u32;
-        pub fn lz_count(
-            store: *const u8,
-            store_length: usize,
-            counts: *mut u8,
-            counts_length: usize,
-        ) -> u32;
+        pub fn lz_count(store: *const u8, store_length: usize) -> u32;
         pub fn lz_text(
             store: *const u8,
             store_length: usize,
             text: *mut u8,
             text_length: usize,
         ) -> u32;
+        pub fn lz_depth(code: u16) -> u32;
+        pub fn lz_magnitude(code: u8) -> u32;
+        pub fn lz_prefecture(place: u64) -> u32;
+        pub fn lz_slots_used(record_bytes: *const u8, record_length: usize) -> u32;
     }
 }
 
 /// The parity of a frame, or nothing where the slice is not 32 bytes long.
 pub fn parity(frame: &[u8]) -> Option<u32> {
-    // The pointer and the length are those of one slice, which is only read.
-    let answer = unsafe { raw::lz_parity(frame.as_ptr(), frame.len()) };
+    let answer = from(raw::lz_parity, frame);
     match answer >> 24 {
         0 => Some(answer),
         1 if answer << 8 == 0 => None,
@@ -116,15 +117,44 @@ pub fn merge(store: &mut [u8], other: &[u8]) -> [u8; 4] {
     to_from(raw::lz_merge, store, other)
 }
 
-/// Writes held, disputed and lowest page to three bytes.
-pub fn report(store: &[u8], counts: &mut [u8]) -> [u8; 4] {
-    from_to(raw::lz_count, store, counts)
+/// Counts the pages of a store. Where nothing is refused, the last three bytes
+/// of the answer are held, disputed and lowest page.
+pub fn report(store: &[u8]) -> [u8; 4] {
+    from(raw::lz_count, store).to_be_bytes()
 }
 
 /// Writes the text of a store. Where nothing is refused, the last two bytes of
 /// the answer are its length.
 pub fn text(store: &[u8], text: &mut [u8]) -> [u8; 4] {
     from_to(raw::lz_text, store, text)
+}
+
+/// What a depth says: 65536 times its kind, and the kilometres.
+pub fn depth(code: u16) -> u32 {
+    // A number is handed over and nothing else.
+    unsafe { raw::lz_depth(code) }
+}
+
+/// What a magnitude says: 65536 times its kind, and the tenths.
+pub fn magnitude(code: u8) -> u32 {
+    // As above.
+    unsafe { raw::lz_magnitude(code) }
+}
+
+/// The prefecture of a place, or 0.
+pub fn prefecture(place: u64) -> u32 {
+    // As above.
+    unsafe { raw::lz_prefecture(place) }
+}
+
+/// How many slots the record of the bytes uses.
+pub fn slots_used(record_bytes: &[u8]) -> u32 {
+    from(raw::lz_slots_used, record_bytes)
+}
+
+fn from(door: Reads, from: &[u8]) -> u32 {
+    // The pointer and the length are those of one slice, which is only read.
+    unsafe { door(from.as_ptr(), from.len()) }
 }
 
 fn from_to(door: FromTo, from: &[u8], to: &mut [u8]) -> [u8; 4] {

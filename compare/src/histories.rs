@@ -1,11 +1,14 @@
 //! Histories of page stores, against the reference: after each step its
 //! answer, the buffer that was lent and the whole store.
 
-use crate::packed::{packed, Bytes, LENGTH};
+use crate::lent::{from_to, only_read, to_from};
+use crate::packed::{packed, Bytes};
 use crate::reading::{bytes_of, frame_of};
 use crate::writing::with_stray;
 use crate::{door, pattern, Count};
-use reference::generate::{any_bulletin, any_history, any_record, any_store, any_taking, Bulletin};
+use reference::generate::{
+    any_bulletin, any_history, any_record, any_store, any_taking, bad_name, Bulletin,
+};
 use reference::player::{Answer, Player, Step, Stores, STORES};
 use reference::random::Random;
 use reference::record::Record;
@@ -13,36 +16,33 @@ use reference::samples;
 use reference::store::{Name, Store, StoreBytes, STORE_BYTES};
 
 const HISTORIES: usize = 200_000;
-const BAD_CALLS: usize = 2_000;
+const REFUSED_OPENINGS: usize = 50_000;
 const STRAY_RECORDS: usize = 50_000;
 const DELIVERIES: usize = 500;
-
-/// What a call of the wrong lengths answers.
-const WRONG_LENGTH: Answer = [255, 0, 0, 0];
 
 /// The proved stores, of which only the bytes are known.
 struct Doors([StoreBytes; STORES]);
 
 impl Player for Doors {
     fn open(&mut self, store: usize, name: &Name) -> Answer {
-        door::open(&name.to_bytes(), &mut self.0[store])
+        only_read(&name.to_bytes(), |name| door::open(name, &mut self.0[store]))
     }
 
     fn take(&mut self, store: usize, record: &Record) -> Answer {
-        door::take(&mut self.0[store], &packed(record))
+        only_read(&packed(record), |record| door::take(&mut self.0[store], record))
     }
 
     fn merge(&mut self, store: usize, other: usize) -> Answer {
         let other = self.0[other];
-        door::merge(&mut self.0[store], &other)
+        only_read(&other, |other| door::merge(&mut self.0[store], other))
     }
 
-    fn report(&mut self, store: usize, counts: &mut [u8]) -> Answer {
-        door::report(&self.0[store], counts)
+    fn report(&mut self, store: usize) -> Answer {
+        only_read(&self.0[store], door::report)
     }
 
     fn text(&mut self, store: usize, buffer: &mut [u8]) -> Answer {
-        door::text(&self.0[store], buffer)
+        only_read(&self.0[store], |store| door::text(store, buffer))
     }
 
     fn bytes(&self, store: usize) -> StoreBytes {
@@ -84,55 +84,18 @@ fn argument(stores: &Doors, step: &Step) -> Vec<u8> {
     }
 }
 
-/// Arguments of other lengths are 255 before all else, and nothing is touched.
-pub fn other_lengths(count: &mut Count) {
+/// A refused opening answers as the reference does, and leaves what the buffer
+/// held, be it a live store.
+pub fn refused_openings(count: &mut Count) {
     let mut random = Random::new(74);
-    for _ in 0..BAD_CALLS {
+    for _ in 0..REFUSED_OPENINGS {
         let bulletin = any_bulletin(&mut random);
         let store = any_store(&mut random, &bulletin);
-        let record = packed(&any_taking(&mut random, &bulletin));
-        let name = bulletin.name.to_bytes();
-        for (length, other) in wrong_lengths(STORE_BYTES, STORE_BYTES) {
-            let (lent, given) = (resized(&store, length), resized(&store, other));
-            wrong(count, &lent, |lent| door::merge(lent, &given));
-        }
-        for (length, record_length) in wrong_lengths(STORE_BYTES, LENGTH) {
-            let (lent, given) = (resized(&store, length), resized(&record, record_length));
-            wrong(count, &lent, |lent| door::take(lent, &given));
-        }
-        for (name_length, length) in wrong_lengths(name.len(), STORE_BYTES) {
-            let given = resized(&name, name_length);
-            wrong(count, &pattern(length), |lent| door::open(&given, lent));
-        }
-        for (length, counts) in wrong_lengths(STORE_BYTES, 3) {
-            let given = resized(&store, length);
-            wrong(count, &pattern(counts), |lent| door::report(&given, lent));
-        }
-        for length in [0, STORE_BYTES - 1, STORE_BYTES + 1] {
-            let given = resized(&store, length);
-            wrong(count, &pattern(1134), |lent| door::text(&given, lent));
-        }
+        let name = bad_name(&mut random, &bulletin.name);
+        let refusal = Store::open(name).0.expect_err("a value of the name is out of range");
+        let ours = from_to(door::open, &name.to_bytes(), &store);
+        count.same(&name.to_bytes(), &ours, &(refusal.answer(), store.to_vec()));
     }
-}
-
-/// Lengths for two arguments, of which at least one is not as it should be.
-fn wrong_lengths(first: usize, second: usize) -> Vec<(usize, usize)> {
-    let near = |right: usize| [0, right - 1, right, right + 1];
-    let pairs = near(first).into_iter().flat_map(|one| near(second).map(|other| (one, other)));
-    pairs.filter(|&pair| pair != (first, second)).collect()
-}
-
-/// A call on a lent buffer must answer 255 and leave the buffer alone.
-fn wrong(count: &mut Count, lent: &[u8], call: impl Fn(&mut [u8]) -> Answer) {
-    let mut after = lent.to_vec();
-    let answer = call(&mut after);
-    count.same(lent, &(answer, after), &(WRONG_LENGTH, lent.to_vec()));
-}
-
-fn resized(bytes: &[u8], length: usize) -> Vec<u8> {
-    let mut bytes = bytes.to_vec();
-    bytes.resize(length, 0);
-    bytes
 }
 
 /// Record bytes that no record has: a sound store refuses them as writing
@@ -143,11 +106,10 @@ pub fn stray_records(count: &mut Count) {
         let bulletin = any_bulletin(&mut random);
         let store = any_store(&mut random, &bulletin);
         let record = stray_record(&mut random, &bulletin);
-        let mut after = store;
-        let answer = door::take(&mut after, &record);
+        let ours = to_from(door::take, &store, &record);
         let sound = Store::of_bytes(&store).is_sound();
         let expected = if sound { door::write(&record, &mut [0; 32]) } else { [14, 0, 0, 0] };
-        count.same(&[&store[..], &record].concat(), &(answer, after), &(expected, store));
+        count.same(&[&store[..], &record].concat(), &ours, &(expected, store.to_vec()));
     }
 }
 

@@ -1,8 +1,9 @@
 //! Lines of digits, read into the bytes of a record and written from frames,
 //! against the reference.
 
-use crate::packed::{packed, LENGTH};
-use crate::reading::frame_of;
+use crate::lent::{from_to, refused, Outcome};
+use crate::packed::LENGTH;
+use crate::reading::{agree_on_record, frame_of};
 use crate::{door, pattern, Count};
 use reference::generate::{any_frame, any_line, slices};
 use reference::line::{line_of_frame, read_line, write_line, DIGITS};
@@ -11,9 +12,6 @@ use reference::samples;
 
 const ANY_LINES: usize = 500_000;
 const ANY_FRAMES: usize = 200_000;
-
-/// What a call answers, and the buffer after it.
-type Outcome = ([u8; 4], Vec<u8>);
 
 /// Lines of every kind that the reference builds, and what is no line.
 pub fn any_lines(count: &mut Count) {
@@ -49,7 +47,7 @@ pub fn record_lengths(count: &mut Count) {
     for _ in 0..1000 {
         let line = any_line(&mut random);
         for length in [0, LENGTH - 1, LENGTH + 1] {
-            let expected = ([255, 0, 0, 0], pattern(length));
+            let expected = refused(255, &pattern(length));
             count.same(&line, &record_of(&line, length), &expected);
         }
     }
@@ -77,32 +75,25 @@ pub fn there_and_back(count: &mut Count) {
         let frame = any_frame(&mut random);
         let mut line = [0; DIGITS];
         if door::write_line(&frame, &mut line) == [0; 4] {
-            let mut record = pattern(LENGTH);
-            let answer = door::read(&frame, &mut record);
-            count.same(&frame, &record_of(&line, LENGTH), &(answer, record));
+            let expected = from_to(door::read, &frame, &pattern(LENGTH));
+            count.same(&frame, &record_of(&line, LENGTH), &expected);
         }
     }
 }
 
 fn agree(count: &mut Count, line: &[u8]) {
-    let expected = match read_line(line) {
-        Ok(record) => ([0; 4], packed(&record).to_vec()),
-        Err(refusal) => (refusal.answer(), pattern(LENGTH)),
-    };
-    count.same(line, &record_of(line, LENGTH), &expected);
+    agree_on_record(count, line, record_of(line, LENGTH), read_line(line));
 }
 
 /// What the proved reader does with a line.
 fn record_of(line: &[u8], length: usize) -> Outcome {
-    let mut record = pattern(length);
-    (door::read_line(line, &mut record), record)
+    from_to(door::read_line, line, &pattern(length))
 }
 
 fn agree_on_writing(count: &mut Count, frame: &[u8], length: usize) {
-    let mut ours = pattern(length);
-    let our_answer = door::write_line(frame, &mut ours);
+    let ours = from_to(door::write_line, frame, &pattern(length));
     let mut theirs = pattern(length);
     let their_answer = write_line(frame, &mut theirs);
     let their_answer = their_answer.map_or_else(|refusal| refusal.answer(), |()| [0; 4]);
-    count.same(frame, &(our_answer, ours), &(their_answer, theirs));
+    count.same(frame, &ours, &(their_answer, theirs));
 }

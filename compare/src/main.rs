@@ -5,11 +5,14 @@
 
 mod door;
 mod histories;
+mod lent;
 mod lines;
+mod meanings;
 mod measure;
 mod packed;
 mod parity;
 mod reading;
+mod store_lengths;
 mod writing;
 
 pub use reference::player::pattern;
@@ -58,6 +61,10 @@ fn main() {
     run("writing, bytes where no field stands", writing::stray_records);
     run("writing, no category", writing::no_category);
     run("written and read again", writing::there_and_back);
+    run("meanings, every depth", meanings::depths);
+    run("meanings, every magnitude", meanings::magnitudes);
+    run("meanings, every place and wider ones", meanings::places);
+    run("meanings, slots in record bytes of other lengths", meanings::record_lengths);
     run("lines of all kinds", lines::any_lines);
     run("lines, every byte at every place", lines::characters);
     run("lines of other lengths", lines::line_lengths);
@@ -65,7 +72,10 @@ fn main() {
     run("lines, written", lines::written);
     run("lines, written and read again", lines::there_and_back);
     run("stores, histories of all kinds", histories::any_histories);
-    run("stores, arguments of other lengths", histories::other_lengths);
+    run("stores, refused openings", histories::refused_openings);
+    run("stores, names and buffers of other lengths", store_lengths::openings);
+    run("stores of other lengths", store_lengths::stores);
+    run("stores, record bytes of other lengths", store_lengths::records);
     run("stores, record bytes that no record has", histories::stray_records);
     run("stores, document 004", histories::document_004);
 }

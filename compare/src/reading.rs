@@ -1,13 +1,15 @@
 //! Reading a frame into the bytes of a record, against the reference reader:
 //! answer, place and every field, and what a refusal leaves in the buffer.
 
+use crate::lent::{from_to, refused, Outcome};
+use crate::meanings::agree_on_slots;
 use crate::packed::{packed, Bytes, LENGTH, SLOTS, SLOT_LENGTH, TEXT};
 use crate::{door, pattern, Count};
 use reference::bits::Frame;
 use reference::generate::{any_frame, boundary_frames, slices, valid_frame};
 use reference::random::Random;
 use reference::read::read;
-use reference::record::{Category, Record};
+use reference::record::{Category, Record, Refusal};
 use reference::samples;
 use reference::write::write;
 
@@ -78,19 +80,28 @@ pub fn document_004(count: &mut Count) {
 }
 
 fn agree(count: &mut Count, frame: &[u8]) {
-    let mut buffer = pattern(LENGTH);
-    let answer = door::read(frame, &mut buffer);
-    let expected = match read(frame) {
-        Ok(record) => ([0; 4], packed(&record).to_vec()),
-        Err(refusal) => (refusal.answer(), pattern(LENGTH)),
-    };
-    count.same(frame, &(answer, buffer), &expected);
+    agree_on_record(count, frame, from_to(door::read, frame, &pattern(LENGTH)), read(frame));
+}
+
+/// What was read of a frame or of a line into a buffer of the pattern.
+pub fn agree_on_record(
+    count: &mut Count,
+    input: &[u8],
+    ours: Outcome,
+    theirs: Result<Record, Refusal>,
+) {
+    match theirs {
+        Ok(record) => {
+            count.same(input, &ours, &([0; 4], packed(&record).to_vec()));
+            agree_on_slots(count, &ours.1, &record);
+        }
+        Err(refusal) => count.same(input, &ours, &(refusal.answer(), pattern(LENGTH))),
+    }
 }
 
 fn refused_buffer(count: &mut Count, frame: &[u8], length: usize) {
-    let mut buffer = pattern(length);
-    let answer = door::read(frame, &mut buffer);
-    count.same(frame, &(answer, buffer), &([255, 0, 0, 0], pattern(length)));
+    let buffer = pattern(length);
+    count.same(frame, &from_to(door::read, frame, &buffer), &refused(255, &buffer));
 }
 
 /// The frame of a record that is valid.

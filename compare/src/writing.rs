@@ -1,8 +1,10 @@
 //! Writing the bytes of a record to a frame, against the reference writer:
 //! answer, place and all 32 bytes, and what a refusal leaves in the frame.
 
+use crate::lent::{from_to, resized, Outcome};
+use crate::meanings::agree_on_slots;
 use crate::packed::{packed, unused, Bytes, LENGTH};
-use crate::{door, pattern, Count};
+use crate::{door, lent, pattern, Count};
 use reference::generate::{any_record, boundary_records, valid_record};
 use reference::random::Random;
 use reference::record::{Category, Record};
@@ -12,9 +14,6 @@ use reference::write::write;
 const ANY_RECORDS: usize = 1_000_000;
 const STRAY_RECORDS: usize = 200_000;
 const FRAME_LENGTH: usize = 32;
-
-/// What a call answers, and the frame after it.
-type Outcome = ([u8; 4], Vec<u8>);
 
 /// Records of every kind that the reference builds, right ones and wrong ones.
 pub fn any_records(count: &mut Count) {
@@ -53,16 +52,15 @@ pub fn frame_lengths(count: &mut Count) {
     }
 }
 
-/// Record bytes of another length are 255, whatever the frame's length is.
+/// Record bytes of another length are a record of zeros: 1 or 3.
 pub fn record_lengths(count: &mut Count) {
     let mut random = Random::new(55);
     for category in Category::ALL {
-        let record = valid_record(&mut random, category);
-        for length in [0, LENGTH - 1, LENGTH + 1] {
-            let mut bytes = packed(&record).to_vec();
-            bytes.resize(length, 0);
-            for frame_length in [FRAME_LENGTH, 0, 31] {
-                let expected = refused(255, frame_length);
+        let record = packed(&valid_record(&mut random, category));
+        for length in (0..=300).filter(|&length| length != LENGTH) {
+            let bytes = resized(&record, length);
+            for frame_length in [FRAME_LENGTH, 0, 31, 33, 40] {
+                let expected = expected(&Record::default(), frame_length);
                 count.same(&bytes, &outcome(&bytes, frame_length), &expected);
             }
         }
@@ -130,9 +128,8 @@ fn back(count: &mut Count, record: &Record) {
     let bytes = packed(record);
     let (answer, frame) = outcome(&bytes, FRAME_LENGTH);
     if answer == [0; 4] {
-        let mut read = pattern(LENGTH);
-        let answer = door::read(&frame, &mut read);
-        count.same(&bytes, &(answer, read), &([0; 4], bytes.to_vec()));
+        let read = from_to(door::read, &frame, &pattern(LENGTH));
+        count.same(&bytes, &read, &([0; 4], bytes.to_vec()));
     }
 }
 
@@ -144,12 +141,12 @@ fn all_boundary_records() -> Vec<Record> {
 fn agree(count: &mut Count, record: &Record, length: usize) {
     let bytes = packed(record);
     count.same(&bytes, &outcome(&bytes, length), &expected(record, length));
+    agree_on_slots(count, &bytes, record);
 }
 
 /// What the proved writer does.
 fn outcome(bytes: &[u8], length: usize) -> Outcome {
-    let mut frame = pattern(length);
-    (door::write(bytes, &mut frame), frame)
+    from_to(door::write, bytes, &pattern(length))
 }
 
 /// What the reference writer does.
@@ -161,9 +158,9 @@ fn expected(record: &Record, length: usize) -> Outcome {
     }
 }
 
-/// A refusal that names no bit leaves the frame as it was.
+/// What a refusal that names no bit leaves of a frame of this length.
 fn refused(number: u8, length: usize) -> Outcome {
-    ([number, 0, 0, 0], pattern(length))
+    lent::refused(number, &pattern(length))
 }
 
 /// The bytes of a record with something in one place or more where its

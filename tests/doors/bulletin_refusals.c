@@ -1,4 +1,4 @@
-/* Refused calls on stores: each number in its turn, and the buffer as it was. */
+/* Refused calls on stores: each number in its turn, and every buffer as it was. */
 #include "groups.h"
 
 #include "bulletin_samples.h"
@@ -11,20 +11,33 @@
 /* lz_take and lz_merge: a store, and what goes into it. */
 typedef uint32_t (*into_store)(uint8_t *, size_t, const uint8_t *, size_t);
 
+struct bytes {
+    const uint8_t *first;
+    size_t length;
+};
+
+/* A copy of the bytes is lent, so that they can be compared with it afterwards. */
 static void refused_is(int line, const char *name, into_store call, uint32_t expected,
-                       const uint8_t *store, const uint8_t *lent, size_t length)
+                       struct bytes store, struct bytes other)
 {
-    uint8_t after[LZ_STORE_BYTES];
-    memcpy(after, store, sizeof after);
-    same_word(__FILE__, line, name, expected, call(after, sizeof after, lent, length));
-    same_bytes(__FILE__, line, "store", store, after, sizeof after);
+    uint8_t lent[LZ_STORE_BYTES + 1], lent_beside[LZ_STORE_BYTES + 1];
+    memcpy(lent, store.first, store.length);
+    memcpy(lent_beside, other.first, other.length);
+    same_word(__FILE__, line, name, expected,
+              call(lent, store.length, lent_beside, other.length));
+    same_bytes(__FILE__, line, "store", store.first, lent, store.length);
+    same_bytes(__FILE__, line, "lent beside it", other.first, lent_beside, other.length);
 }
 
+#define BYTES(first, length) ((struct bytes){(first), (length)})
+
 #define TAKING_IS(expected, store, record) \
-    refused_is(__LINE__, "lz_take", lz_take, (expected), (store), (record), LZ_RECORD_BYTES)
+    refused_is(__LINE__, "lz_take", lz_take, (expected), BYTES(store, LZ_STORE_BYTES), \
+               BYTES(record, LZ_RECORD_BYTES))
 
 #define MERGING_IS(expected, store, other) \
-    refused_is(__LINE__, "lz_merge", lz_merge, (expected), (store), (other), LZ_STORE_BYTES)
+    refused_is(__LINE__, "lz_merge", lz_merge, (expected), BYTES(store, LZ_STORE_BYTES), \
+               BYTES(other, LZ_STORE_BYTES))
 
 /* 14, what writing refuses, 12, 13. */
 void check_taking_refused(void)
@@ -81,36 +94,47 @@ void check_merging_refused(void)
     }
 }
 
-/* A refused report leaves zeros, a refused text nothing. */
-static void telling_is_unsound(int line, const uint8_t *store)
+static void telling_is_unsound(int line, struct bytes store)
 {
-    static const uint8_t zeros[LZ_COUNT_BYTES] = {0};
     uint32_t unsound = refused(LZ_REFUSED_UNSOUND);
-    uint8_t lent[LZ_TEXT_MOST];
-    fill(lent, sizeof lent);
+    uint8_t lent[LZ_STORE_BYTES + 1], text[LZ_TEXT_MOST];
+    memcpy(lent, store.first, store.length);
+    fill(text, sizeof text);
     same_word(__FILE__, line, "lz_text", unsound,
-              lz_text(store, LZ_STORE_BYTES, lent, sizeof lent));
-    same_word(__FILE__, line, "lz_text", unsound, lz_text(store, LZ_STORE_BYTES, lent, 0));
-    untouched(__FILE__, line, "text", lent, 0, sizeof lent);
-    same_word(__FILE__, line, "lz_count", unsound,
-              lz_count(store, LZ_STORE_BYTES, lent, LZ_COUNT_BYTES));
-    same_bytes(__FILE__, line, "counts", zeros, lent, LZ_COUNT_BYTES);
-    untouched(__FILE__, line, "counts", lent, LZ_COUNT_BYTES, sizeof lent);
+              lz_text(lent, store.length, text, sizeof text));
+    same_word(__FILE__, line, "lz_text", unsound, lz_text(lent, store.length, text, 0));
+    untouched(__FILE__, line, "text", text, 0, sizeof text);
+    same_word(__FILE__, line, "lz_count", unsound, lz_count(lent, store.length));
+    same_bytes(__FILE__, line, "store", store.first, lent, store.length);
 }
 
-/* One byte of a full store makes it unsound, for each function that is lent a store. */
-static void unsound_with(int line, size_t at, uint8_t value)
+/* Whatever is lent beside the store, even what would be refused by itself. */
+static void unsound_in_each_call(int line, struct bytes store)
 {
     uint32_t unsound = refused(LZ_REFUSED_UNSOUND);
-    uint8_t store[LZ_STORE_BYTES], sound[LZ_STORE_BYTES], record[LZ_RECORD_BYTES];
-    open_full_store(sound);
-    memcpy(store, sound, sizeof store);
-    store[at] = value;
-    page_record(record, 1, page_texts[0]);
-    refused_is(line, "lz_take", lz_take, unsound, store, record, LZ_RECORD_BYTES);
-    refused_is(line, "lz_merge", lz_merge, unsound, store, sound, LZ_STORE_BYTES);
-    refused_is(line, "lz_merge", lz_merge, unsound, sound, store, LZ_STORE_BYTES);
+    uint8_t full[LZ_STORE_BYTES], page[LZ_RECORD_BYTES], zeros[LZ_RECORD_BYTES] = {0};
+    struct bytes sound = {full, sizeof full};
+    open_full_store(full);
+    page_record(page, 1, page_texts[0]);
+    refused_is(line, "lz_take", lz_take, unsound, store, BYTES(page, sizeof page));
+    refused_is(line, "lz_take", lz_take, unsound, store, BYTES(page, sizeof page - 1));
+    refused_is(line, "lz_take", lz_take, unsound, store, BYTES(zeros, sizeof zeros));
+    refused_is(line, "lz_merge", lz_merge, unsound, store, sound);
+    refused_is(line, "lz_merge", lz_merge, unsound, sound, store);
+    full[LZ_NAME_MINUTE]++;
+    refused_is(line, "lz_merge", lz_merge, unsound, store, sound);
+    refused_is(line, "lz_merge", lz_merge, unsound, sound, store);
+    refused_is(line, "lz_merge", lz_merge, unsound, store, store);
     telling_is_unsound(line, store);
+}
+
+/* One byte of a full store makes it unsound. */
+static void unsound_with(int line, size_t at, uint8_t value)
+{
+    uint8_t store[LZ_STORE_BYTES];
+    open_full_store(store);
+    store[at] = value;
+    unsound_in_each_call(line, BYTES(store, sizeof store));
 }
 
 #define UNSOUND_WITH(at, value) unsound_with(__LINE__, (at), (value))
@@ -128,37 +152,52 @@ void check_unsound(void)
     UNSOUND_WITH(LZ_STORE_BYTES - 1, 1);
 }
 
-/* 0, then one less, the length itself, one more. */
-static size_t length_near(size_t length, unsigned i)
+static const size_t other_lengths[] = {0, LZ_STORE_BYTES - 1, LZ_STORE_BYTES + 1};
+
+/* Full stores but for their length: pages past the total are zeros, and so is a byte more. */
+void check_stores_of_other_lengths(void)
 {
-    return i == 0 ? 0 : length - 2 + i;
+    uint8_t store[LZ_STORE_BYTES + 1] = {0};
+    open_full_store(store);
+    for (unsigned i = 0; i < 3; i++) {
+        unsound_in_each_call(__LINE__, BYTES(store, other_lengths[i]));
+    }
 }
 
-/* 255 wherever one of two lengths is wrong, and both buffers are then as they were. */
-void check_bulletin_calls_wrong(void)
+/* Pages but for their length are taken as a record of zeros is. */
+void check_takings_of_other_lengths(void)
 {
-    uint8_t lent[LZ_STORE_BYTES + 1];
-    uint8_t given[LZ_STORE_BYTES + 1];
-    fill(lent, sizeof lent);
-    fill(given, sizeof given);
-    for (unsigned i = 0; i < 16; i++) {
-        unsigned one = i / 4, other = i % 4;
-        size_t store = length_near(LZ_STORE_BYTES, one);
-        size_t name = length_near(LZ_NAME_BYTES, other);
-        size_t record = length_near(LZ_RECORD_BYTES, other);
-        size_t second = length_near(LZ_STORE_BYTES, other);
-        size_t counts = length_near(LZ_COUNT_BYTES, other);
-        if (one == 2 && other == 2) {
-            continue;
-        }
-        SAME_WORD(refused(LZ_WRONG_CALL), lz_open(given, name, lent, store));
-        SAME_WORD(refused(LZ_WRONG_CALL), lz_take(lent, store, given, record));
-        SAME_WORD(refused(LZ_WRONG_CALL), lz_merge(lent, store, given, second));
-        SAME_WORD(refused(LZ_WRONG_CALL), lz_count(given, store, lent, counts));
-        if (one != 2) {
-            SAME_WORD(refused(LZ_WRONG_CALL), lz_text(given, store, lent, LZ_TEXT_MOST));
+    uint8_t full[LZ_STORE_BYTES], record[LZ_RECORD_BYTES + 1] = {0};
+    struct bytes store = {full, sizeof full};
+    open_full_store(full);
+    page_record(record, 3, page_texts[2]);
+    for (unsigned i = 0; i < 3; i++) {
+        refused_is(__LINE__, "lz_take", lz_take, refused(LZ_REFUSED_PREAMBLE), store,
+                   BYTES(record, other_record_lengths[i]));
+    }
+    TAKING_IS(LZ_TAKEN_SAME, full, record);
+}
+
+/* Neither a good name nor one with a page total out of range is looked at. */
+static void opening_is_wrong(size_t name_length, size_t store_length)
+{
+    uint8_t name[LZ_NAME_BYTES + 1] = {0}, store[LZ_STORE_BYTES + 1];
+    memcpy(name, bulletin_name, LZ_NAME_BYTES);
+    fill(store, sizeof store);
+    SAME_WORD(refused(LZ_WRONG_CALL), lz_open(name, name_length, store, store_length));
+    name[LZ_NAME_TOTAL] = 64;
+    SAME_WORD(refused(LZ_WRONG_CALL), lz_open(name, name_length, store, store_length));
+    UNTOUCHED(store, 0, sizeof store);
+}
+
+void check_openings_of_other_lengths(void)
+{
+    static const size_t names[] = {0, LZ_NAME_BYTES - 1, LZ_NAME_BYTES + 1};
+    for (unsigned i = 0; i < 3; i++) {
+        opening_is_wrong(names[i], LZ_STORE_BYTES);
+        opening_is_wrong(LZ_NAME_BYTES, other_lengths[i]);
+        for (unsigned j = 0; j < 3; j++) {
+            opening_is_wrong(names[i], other_lengths[j]);
         }
     }
-    UNTOUCHED(lent, 0, sizeof lent);
-    UNTOUCHED(given, 0, sizeof given);
 }

@@ -7,20 +7,8 @@
 
 #include <string.h>
 
-static void same_counts(int line, const uint8_t *store, uint8_t held, uint8_t disputed,
-                        uint8_t lowest)
-{
-    const uint8_t expected[LZ_COUNT_BYTES] = {held, disputed, lowest};
-    uint8_t lent[LZ_COUNT_BYTES + 1];
-    fill(lent, sizeof lent);
-    same_word(__FILE__, line, "lz_count", LZ_FINE,
-              lz_count(store, LZ_STORE_BYTES, lent, LZ_COUNT_BYTES));
-    same_bytes(__FILE__, line, "held, disputed, lowest", expected, lent, LZ_COUNT_BYTES);
-    untouched(__FILE__, line, "counts", lent, LZ_COUNT_BYTES, sizeof lent);
-}
-
 #define SAME_COUNTS(store, held, disputed, lowest) \
-    same_counts(__LINE__, (store), (held), (disputed), (lowest))
+    SAME_WORD(counted((held), (disputed), (lowest)), lz_count((store), LZ_STORE_BYTES))
 
 static void text_refused(int line, uint32_t expected, const uint8_t *store, size_t room)
 {
@@ -34,17 +22,15 @@ static void text_refused(int line, uint32_t expected, const uint8_t *store, size
 
 static void opening_refused(int line, unsigned at, uint8_t value, unsigned place)
 {
-    const uint8_t zeros[LZ_STORE_BYTES] = {0};
     uint8_t name[LZ_NAME_BYTES];
-    uint8_t store[LZ_STORE_BYTES + 1];
+    uint8_t store[LZ_STORE_BYTES];
     memcpy(name, bulletin_name, sizeof name);
     name[LZ_NAME_TOTAL] = 0;
     name[at] = value;
     fill(store, sizeof store);
     same_word(__FILE__, line, "lz_open", refused_at(LZ_REFUSED_RANGE, place),
-              lz_open(name, sizeof name, store, LZ_STORE_BYTES));
-    same_bytes(__FILE__, line, "store", zeros, store, LZ_STORE_BYTES);
-    untouched(__FILE__, line, "store", store, LZ_STORE_BYTES, sizeof store);
+              lz_open(name, sizeof name, store, sizeof store));
+    untouched(__FILE__, line, "store", store, 0, sizeof store);
 }
 
 #define OPENING_REFUSED(at, value, place) opening_refused(__LINE__, (at), (value), (place))
@@ -144,6 +130,7 @@ static void check_longest_text(void)
         record[LZ_NANKAI_TOTAL] = 63;
         SAME_WORD(LZ_TAKEN_NEW, lz_take(store, sizeof store, record, sizeof record));
     }
+    SAME_COUNTS(store, 63, 0, 0);
     TEXT_IS(expected, 1134, store, LZ_TEXT_MOST);
     TEXT_REFUSED(refused(LZ_REFUSED_SHORT), store, LZ_TEXT_MOST - 1);
 }
@@ -172,6 +159,23 @@ void check_text(void)
     SAME_COUNTS(store, 3, 0, 0);
     TEXT_IS(zeros, 0, store, 0);
     check_longest_text();
+}
+
+/* The live bulletin is lent to open another, whose name is refused: its pages are still there. */
+void check_live_store_kept(void)
+{
+    uint8_t name[LZ_NAME_BYTES], store[LZ_STORE_BYTES], before[LZ_STORE_BYTES];
+    memcpy(name, bulletin_name, sizeof name);
+    name[LZ_NAME_TOTAL] = 64;
+    open_full_store(store);
+    memcpy(before, store, sizeof before);
+    SAME_WORD(refused_at(LZ_REFUSED_RANGE, 207), lz_open(name, sizeof name, store, sizeof store));
+    SAME_BYTES(before, store, LZ_STORE_BYTES);
+    SAME_WORD(refused(LZ_WRONG_CALL), lz_open(name, sizeof name - 1, store, sizeof store));
+    SAME_BYTES(before, store, LZ_STORE_BYTES);
+    SAME_COUNTS(store, 3, 0, 0);
+    TEXT_IS(page_texts[0], BULLETIN_TEXT_BYTES, store, LZ_TEXT_MOST);
+    SAME_WORD(LZ_TAKEN_SAME, take_page(store, 1, page_texts[0]));
 }
 
 /* Merges b into a copy of a. */

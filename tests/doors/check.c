@@ -53,17 +53,32 @@ void untouched(const char *file, int line, const char *what,
     }
 }
 
+static uint32_t word(uint32_t first, uint32_t second, uint32_t third, uint32_t last)
+{
+    return first * 0x1000000u + second * 0x10000u + third * 0x100u + last;
+}
+
 uint32_t refused_page(unsigned number, unsigned page, unsigned mark)
 {
-    return (uint32_t)number * 0x1000000u + (uint32_t)page * 0x100u + mark;
+    return word(number, 0, page, mark);
 }
 
 uint32_t refused_at(unsigned number, unsigned place)
 {
-    return (uint32_t)number * 0x1000000u + (uint32_t)place * 0x10000u;
+    return word(number, place, 0, 0);
 }
 
 uint32_t refused(unsigned number)
 {
     return refused_at(number, 0);
+}
+
+uint32_t counted(unsigned held, unsigned disputed, unsigned lowest)
+{
+    return word(0, held, disputed, lowest);
+}
+
+uint32_t said(unsigned kind, uint32_t value)
+{
+    return word(0, kind, 0, value);
 }

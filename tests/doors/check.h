@@ -27,9 +27,11 @@ void untouched(const char *file, int line, const char *what,
 
 void fill(uint8_t *buffer, size_t length);
 
-/* The words of refusals, put together here and not by the header. */
+/* The words of answers, put together here and not by the header. */
 uint32_t refused(unsigned number);
 uint32_t refused_at(unsigned number, unsigned place);
 uint32_t refused_page(unsigned number, unsigned page, unsigned mark);
+uint32_t counted(unsigned held, unsigned disputed, unsigned lowest);
+uint32_t said(unsigned kind, uint32_t value);
 
 #endif

@@ -12,19 +12,29 @@ void check_all_samples(void);
 void check_reading_refused(void);
 void check_writing_refused(void);
 void check_lines_refused(void);
-void check_frame_calls_wrong(void);
+void check_records_lent_for_reading(void);
+void check_records_lent_for_writing(void);
+
+/* meanings.c */
+void check_depths(void);
+void check_magnitudes(void);
+void check_prefectures(void);
+void check_slots_used(void);
 
 /* bulletins.c */
 void check_opening(void);
 void check_taking(void);
 void check_as_many_frames_as_pages(void);
 void check_text(void);
+void check_live_store_kept(void);
 void check_merging(void);
 
 /* bulletin_refusals.c */
 void check_taking_refused(void);
 void check_merging_refused(void);
 void check_unsound(void);
-void check_bulletin_calls_wrong(void);
+void check_stores_of_other_lengths(void);
+void check_takings_of_other_lengths(void);
+void check_openings_of_other_lengths(void);
 
 #endif

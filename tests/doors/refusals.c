@@ -254,24 +254,39 @@ void check_lines_refused(void)
     LINE_WRITING_IS(refused(LZ_REFUSED_SHORT), frame, LZ_FRAME_BYTES, 0);
 }
 
-/* 255 comes before everything else. */
-void check_frame_calls_wrong(void)
+/* A buffer for a record: 255 comes before everything else. */
+void check_records_lent_for_reading(void)
 {
-    static const size_t lengths[3] = {0, LZ_RECORD_BYTES - 1, LZ_RECORD_BYTES + 1};
     const uint8_t *line = (const uint8_t *)hypocenter_line;
     uint8_t frame[LZ_FRAME_BYTES];
     uint8_t lent[LZ_RECORD_BYTES + 1];
-    uint8_t record[LZ_RECORD_BYTES + 1] = {0};
     frame_of(hypocenter_line, frame);
-    hypocenter_record(record);
     fill(lent, sizeof lent);
     for (unsigned i = 0; i < 3; i++) {
-        SAME_WORD(refused(LZ_WRONG_CALL), lz_read(frame, LZ_FRAME_BYTES, lent, lengths[i]));
-        SAME_WORD(refused(LZ_WRONG_CALL), lz_read(frame, 0, lent, lengths[i]));
-        SAME_WORD(refused(LZ_WRONG_CALL), lz_read_line(line, LZ_LINE_DIGITS, lent, lengths[i]));
-        SAME_WORD(refused(LZ_WRONG_CALL), lz_read_line(line, 2, lent, lengths[i]));
-        SAME_WORD(refused(LZ_WRONG_CALL), lz_write(record, lengths[i], lent, LZ_FRAME_BYTES));
-        SAME_WORD(refused(LZ_WRONG_CALL), lz_write(record, lengths[i], lent, 0));
+        size_t length = other_record_lengths[i];
+        SAME_WORD(refused(LZ_WRONG_CALL), lz_read(frame, LZ_FRAME_BYTES, lent, length));
+        SAME_WORD(refused(LZ_WRONG_CALL), lz_read(frame, 0, lent, length));
+        SAME_WORD(refused(LZ_WRONG_CALL), lz_read_line(line, LZ_LINE_DIGITS, lent, length));
+        SAME_WORD(refused(LZ_WRONG_CALL), lz_read_line(line, 2, lent, length));
     }
     UNTOUCHED(lent, 0, sizeof lent);
+}
+
+/* A good record but for its length, which ends in zeros, is written as one of zeros is. */
+void check_records_lent_for_writing(void)
+{
+    uint8_t record[LZ_RECORD_BYTES + 1] = {0}, before[LZ_RECORD_BYTES + 1];
+    uint8_t lent[LZ_FRAME_BYTES + 1];
+    hypocenter_record(record);
+    memcpy(before, record, sizeof before);
+    fill(lent, sizeof lent);
+    for (unsigned i = 0; i < 3; i++) {
+        size_t length = other_record_lengths[i];
+        SAME_WORD(refused(LZ_REFUSED_PREAMBLE), lz_write(record, length, lent, LZ_FRAME_BYTES));
+        SAME_WORD(refused(LZ_REFUSED_LENGTH), lz_write(record, length, lent, LZ_FRAME_BYTES - 1));
+        SAME_WORD(refused(LZ_REFUSED_LENGTH), lz_write(record, length, lent, LZ_FRAME_BYTES + 1));
+        SAME_WORD(refused(LZ_REFUSED_LENGTH), lz_write(record, length, lent, 0));
+    }
+    UNTOUCHED(lent, 0, sizeof lent);
+    SAME_BYTES(before, record, sizeof before);
 }

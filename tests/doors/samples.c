@@ -13,6 +13,8 @@ const char nankai_line[] =
 const char ash_fall_line[] =
     "53AFC9ACA50002CA523EE4C1F078261220813091810000000000001024FECDC";
 
+const size_t other_record_lengths[3] = {0, LZ_RECORD_BYTES - 1, LZ_RECORD_BYTES + 1};
+
 /* A training report of 11 March. */
 static void issued(uint8_t *record, uint8_t category, uint8_t hour,
                    uint8_t minute)

@@ -5,6 +5,7 @@
 #ifndef SAMPLES_H
 #define SAMPLES_H
 
+#include <stddef.h>
 #include <stdint.h>
 
 extern const char hypocenter_line[];
@@ -16,6 +17,9 @@ void hypocenter_record(uint8_t *record);
 void intensity_record(uint8_t *record);
 void nankai_record(uint8_t *record);
 void ash_fall_record(uint8_t *record);
+
+/* Lengths that no record has, up to one byte more than it. */
+extern const size_t other_record_lengths[3];
 
 /* The frame of 63 digits with capital letters. */
 void frame_of(const char *line, uint8_t *frame);

@@ -3,11 +3,11 @@
 //! plainness before speed, so that another implementation can be compared
 //! with it on as many inputs as one likes.
 //!
-//! `read` and `write` work on frames, `line` on lines of digits; `listing` is
-//! the listing of a file of frames. `store` is the page store, `history` a
-//! second account of it, and `player` drives both, and any other, through the
-//! same steps. `generate` builds inputs for all of them, `samples` holds the
-//! values of document 004.
+//! `read` and `write` work on frames, `line` on lines of digits; `meaning` says
+//! what numbers of a record mean; `listing` is the listing of a file of frames.
+//! `store` is the page store, `history` a second account of it, and `player`
+//! drives both, and any other, through the same steps. `generate` builds inputs
+//! for all of them, `samples` holds the values of document 004.
 
 pub mod bits;
 pub mod check;
@@ -16,6 +16,7 @@ pub mod generate;
 pub mod history;
 pub mod line;
 pub mod listing;
+pub mod meaning;
 pub mod parity;
 pub mod player;
 pub mod random;

@@ -1,7 +1,8 @@
 //! The listing of a file of frames: a heading and one row a line.
 
 use crate::line::read_line;
-use crate::record::{Category, Record, Refusal, Slot};
+use crate::meaning::slots_used;
+use crate::record::{Category, Record, Refusal};
 use std::io::{BufRead, Result, Write};
 
 /// How many lines are read at most.
@@ -33,25 +34,18 @@ fn write_row(
 ) -> Result<()> {
     match answer {
         Ok(record) => {
-            let dc = record.body.category().map_or(0, Category::code);
-            match slots_used(&record) {
-                Some(slots) => writeln!(output, "{line} 0 - {dc} {slots}"),
-                None => writeln!(output, "{line} 0 - {dc} -"),
+            let category = record.body.category();
+            let dc = category.map_or(0, Category::code);
+            match category {
+                Some(Category::Intensity | Category::AshFall) => {
+                    writeln!(output, "{line} 0 - {dc} {}", slots_used(&record))
+                }
+                _ => writeln!(output, "{line} 0 - {dc} -"),
             }
         }
         Err(Refusal { number: number @ 8..=10, place, .. }) => {
             writeln!(output, "{line} {number} {place} - -")
         }
         Err(Refusal { number, .. }) => writeln!(output, "{line} {number} - - -"),
-    }
-}
-
-/// How many slots of a record that was read are used, in the two categories
-/// that have slots.
-fn slots_used(record: &Record) -> Option<usize> {
-    let used = record.slots.iter().filter(|&&slot| slot != Slot::default()).count();
-    match record.body.category() {
-        Some(Category::Intensity | Category::AshFall) => Some(used),
-        _ => None,
     }
 }

@@ -58,8 +58,9 @@ impl Step {
 }
 
 /// Number, place, page and mark of a refusal; else zeros, but for the last
-/// byte of a taking (1 new, 2 same, 3 disputed) and the last two bytes of a
-/// text, which are its length.
+/// byte of a taking (1 new, 2 same, 3 disputed), the last two bytes of a text,
+/// which are its length, and the last three of a report: held, disputed and
+/// lowest page.
 pub type Answer = [u8; 4];
 
 /// What a step answers, and the buffer that was lent to it, if any.
@@ -69,20 +70,19 @@ pub struct Outcome {
     pub lent: Vec<u8>,
 }
 
-/// An implementation with its stores.
+/// An implementation with its stores. What is refused changes none of them:
+/// the zeros of a refused opening are a store that is put nowhere.
 pub trait Player {
     fn open(&mut self, store: usize, name: &Name) -> Answer;
     fn take(&mut self, store: usize, record: &Record) -> Answer;
     fn merge(&mut self, store: usize, other: usize) -> Answer;
-    /// Held, disputed and lowest page go to the three bytes of the buffer.
-    fn report(&mut self, store: usize, counts: &mut [u8]) -> Answer;
+    fn report(&mut self, store: usize) -> Answer;
     fn text(&mut self, store: usize, buffer: &mut [u8]) -> Answer;
     fn bytes(&self, store: usize) -> StoreBytes;
     fn put(&mut self, store: usize, bytes: &StoreBytes);
 
     fn play(&mut self, step: &Step) -> Outcome {
         let mut lent = match *step {
-            Step::Report { .. } => pattern(3),
             Step::Text { length, .. } => pattern(length),
             _ => Vec::new(),
         };
@@ -90,7 +90,7 @@ pub trait Player {
             Step::Open { store, name } => self.open(*store, name),
             Step::Take { store, record } => self.take(*store, record),
             Step::Merge { store, other } => self.merge(*store, *other),
-            Step::Report { store } => self.report(*store, &mut lent),
+            Step::Report { store } => self.report(*store),
             Step::Text { store, .. } => self.text(*store, &mut lent),
             Step::Put { store, bytes } => {
                 self.put(*store, bytes);

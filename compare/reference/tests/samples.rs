@@ -1,8 +1,9 @@
 //! The samples of document 004 as frames.
 
 use reference::bits::Frame;
+use reference::meaning::{prefecture, slots_used};
 use reference::read::read;
-use reference::record::{Body, Record, Slot};
+use reference::record::{Body, Record};
 use reference::samples;
 use reference::write::write;
 
@@ -67,11 +68,9 @@ fn the_bulletin_has_27_pages_and_its_text_comes_back() {
 
 #[test]
 fn nine_prefectures_and_eighteen_places() {
-    let used =
-        |record: &Record| record.slots.iter().filter(|&&slot| slot != Slot::default()).count();
-    assert_eq!(samples::intensity().iter().map(used).collect::<Vec<_>>(), [9, 9]);
-    assert_eq!(samples::ash_fall_preliminary().iter().map(used).collect::<Vec<_>>(), [3, 3]);
-    let detailed: Vec<_> = samples::ash_fall_detailed().iter().map(used).collect();
-    assert_eq!(detailed, [4, 4, 4, 4, 2, 4, 4, 4, 4, 2]);
-    assert_eq!(samples::ash_fall_detailed()[0].slots[0].place / 100_000, 43);
+    let used = |records: Vec<Record>| records.iter().map(slots_used).collect::<Vec<_>>();
+    assert_eq!(used(samples::intensity()), [9, 9]);
+    assert_eq!(used(samples::ash_fall_preliminary()), [3, 3]);
+    assert_eq!(used(samples::ash_fall_detailed()), [4, 4, 4, 4, 2, 4, 4, 4, 4, 2]);
+    assert_eq!(prefecture(samples::ash_fall_detailed()[0].slots[0].place), Some(43));
 }

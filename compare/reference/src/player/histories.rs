@@ -55,13 +55,8 @@ impl Histories {
 
 impl Player for Histories {
     fn open(&mut self, store: usize, name: &Name) -> Answer {
-        let opened = History::open(*name);
-        let answer = told(opened.as_ref().map_err(|refusal| *refusal), |_| 0);
-        self.0[store] = match opened {
-            Ok(history) => Kept::Sound(history),
-            Err(_) => Kept::of_bytes(&Store::ZEROS.to_bytes()),
-        };
-        answer
+        let opened = History::open(*name).map(|history| self.0[store] = Kept::Sound(history));
+        told(opened, |()| 0)
     }
 
     fn take(&mut self, store: usize, record: &Record) -> Answer {
@@ -72,14 +67,12 @@ impl Player for Histories {
         told(self.try_merge(store, other), |()| 0)
     }
 
-    fn report(&mut self, store: usize, counts: &mut [u8]) -> Answer {
-        let report = self.0[store].history().map(|history| history.report());
-        counts.copy_from_slice(&report.as_ref().map_or([0; 3], counts_of));
-        told(report, |_| 0)
+    fn report(&mut self, store: usize) -> Answer {
+        told(self.0[store].history().map(|history| history.report()), |report| counts_of(&report))
     }
 
     fn text(&mut self, store: usize, buffer: &mut [u8]) -> Answer {
-        told(self.try_text(store, buffer), |length| length as u16)
+        told(self.try_text(store, buffer), |length| length as u32)
     }
 
     fn bytes(&self, store: usize) -> StoreBytes {

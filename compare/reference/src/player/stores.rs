@@ -15,7 +15,9 @@ impl Default for Stores {
 impl Player for Stores {
     fn open(&mut self, store: usize, name: &Name) -> Answer {
         let (answer, opened) = Store::open(*name);
-        self.0[store] = opened;
+        if answer.is_ok() {
+            self.0[store] = opened;
+        }
         told(answer, |()| 0)
     }
 
@@ -28,14 +30,13 @@ impl Player for Stores {
         told(self.0[store].merge(&other), |()| 0)
     }
 
-    fn report(&mut self, store: usize, counts: &mut [u8]) -> Answer {
+    fn report(&mut self, store: usize) -> Answer {
         let (answer, report) = self.0[store].report();
-        counts.copy_from_slice(&counts_of(&report));
-        told(answer, |()| 0)
+        told(answer, |()| counts_of(&report))
     }
 
     fn text(&mut self, store: usize, buffer: &mut [u8]) -> Answer {
-        told(self.0[store].text(buffer), |length| length as u16)
+        told(self.0[store].text(buffer), |length| length as u32)
     }
 
     fn bytes(&self, store: usize) -> StoreBytes {
@@ -48,14 +49,14 @@ impl Player for Stores {
 }
 
 /// The answer of a call that gives a number where it is not refused.
-pub(super) fn told<T>(result: Result<T, Refusal>, number: impl Fn(T) -> u16) -> Answer {
+pub(super) fn told<T>(result: Result<T, Refusal>, number: impl Fn(T) -> u32) -> Answer {
     match result {
-        Ok(value) => u32::from(number(value)).to_be_bytes(),
+        Ok(value) => number(value).to_be_bytes(),
         Err(refusal) => refusal.answer(),
     }
 }
 
-pub(super) fn number_of(taken: Taken) -> u16 {
+pub(super) fn number_of(taken: Taken) -> u32 {
     match taken {
         Taken::New => 1,
         Taken::Same => 2,
@@ -63,6 +64,6 @@ pub(super) fn number_of(taken: Taken) -> u16 {
     }
 }
 
-pub(super) fn counts_of(report: &Report) -> [u8; 3] {
-    [report.held, report.disputed, report.lowest]
+pub(super) fn counts_of(report: &Report) -> u32 {
+    u32::from_be_bytes([0, report.held, report.disputed, report.lowest])
 }

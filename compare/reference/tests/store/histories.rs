@@ -27,6 +27,24 @@ fn by_states_and_by_texts_taken_they_answer_the_same() {
     }
 }
 
+/// Opening gives zeros by value where it is refused, and puts them nowhere.
+#[test]
+fn a_refused_opening_leaves_the_store_that_was_there() {
+    let mut random = Random::new(8);
+    for _ in 0..COUNT {
+        let bulletin = any_bulletin(&mut random);
+        let before = any_store(&mut random, &bulletin);
+        let put = Step::Put { store: 0, bytes: Box::new(before) };
+        let open = Step::Open { store: 0, name: bad_name(&mut random, &bulletin.name) };
+        let (mut stores, mut histories) = (Stores::default(), Histories::default());
+        for player in [&mut stores as &mut dyn Player, &mut histories] {
+            player.play(&put);
+            assert_eq!(player.play(&open).answer[0], 8);
+            assert_eq!(player.bytes(0), before);
+        }
+    }
+}
+
 /// A store is sound exactly when some history gives it.
 #[test]
 fn sound_is_what_a_list_of_frames_gives() {

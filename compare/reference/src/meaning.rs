@@ -1,0 +1,51 @@
+//! What numbers of a record say: a code that says nothing gives nothing.
+
+use crate::record::{Record, Slot};
+
+#[derive(Clone, Copy, PartialEq, Eq, Debug)]
+pub enum Depth {
+    Kilometres(u16),
+    DeeperThan500,
+    Unknown,
+}
+
+/// "Depth 0 is a depth; 511 is unknown and 501 means deeper than 500 km."
+pub fn depth(code: u16) -> Option<Depth> {
+    match code {
+        0..=500 => Some(Depth::Kilometres(code)),
+        501 => Some(Depth::DeeperThan500),
+        511 => Some(Depth::Unknown),
+        _ => None,
+    }
+}
+
+#[derive(Clone, Copy, PartialEq, Eq, Debug)]
+pub enum Magnitude {
+    /// Document 001 has 101 for all that is more than 10.0.
+    Tenths(u8),
+    Above8,
+    Unknown,
+}
+
+/// "Magnitude in tenths", "127 is unknown, 126 is above 8.0 where no moment
+/// magnitude is known."
+pub fn magnitude(code: u8) -> Option<Magnitude> {
+    match code {
+        1..=101 => Some(Magnitude::Tenths(code)),
+        126 => Some(Magnitude::Above8),
+        127 => Some(Magnitude::Unknown),
+        _ => None,
+    }
+}
+
+/// "A place divided by 100000, remainder dropped, is its prefecture, 1 to 47."
+pub fn prefecture(place: u64) -> Option<u64> {
+    Some(place / 100_000).filter(|prefecture| (1..=47).contains(prefecture))
+}
+
+/// How many slots are used: "After an empty slot every slot is empty." In a
+/// record that is not valid, those in front of the first slot of zeros, even
+/// where that is the first of all.
+pub fn slots_used(record: &Record) -> usize {
+    record.slots.iter().take_while(|&&slot| slot != Slot::default()).count()
+}

@@ -1,0 +1,91 @@
+//! What numbers of a record say.
+
+use reference::fields::fields;
+use reference::generate::any_record;
+use reference::meaning::{depth, magnitude, prefecture, slots_used, Depth, Magnitude};
+use reference::random::Random;
+use reference::read::read;
+use reference::record::{Category, Record, Slot};
+use reference::write::write;
+
+/// Whether the field at a bit of category 2 may have this value.
+fn allowed(first: usize, value: u16) -> bool {
+    let fields = fields(Category::Hypocenter);
+    let field = fields.iter().find(|field| field.first == first).expect("a field begins there");
+    field.allows(value.into())
+}
+
+#[test]
+fn zero_is_a_depth_and_511_is_none() {
+    assert_eq!([0, 1, 500].map(depth), [0, 1, 500].map(|code| Some(Depth::Kilometres(code))));
+    assert_eq!(depth(501), Some(Depth::DeeperThan500));
+    assert_eq!([502, 510, 512, 1023, 65_535].map(depth), [None; 5]);
+    assert_eq!(depth(511), Some(Depth::Unknown));
+}
+
+#[test]
+fn magnitudes_126_and_127_are_no_tenths() {
+    assert_eq!([1, 64, 101].map(magnitude), [1, 64, 101].map(|code| Some(Magnitude::Tenths(code))));
+    assert_eq!([0, 102, 125, 128, 255].map(magnitude), [None; 5]);
+    assert_eq!([126, 127].map(magnitude), [Some(Magnitude::Above8), Some(Magnitude::Unknown)]);
+}
+
+#[test]
+fn a_code_says_something_exactly_where_its_field_may_have_it() {
+    for code in 0..=u16::MAX {
+        assert_eq!(depth(code).is_some(), allowed(96, code), "{code}");
+    }
+    for code in 0..=u8::MAX {
+        assert_eq!(magnitude(code).is_some(), allowed(105, code.into()), "{code}");
+    }
+}
+
+#[test]
+fn places_lie_in_47_prefectures_or_nowhere() {
+    let lying = [(100_000, 1), (199_999, 1), (200_000, 2), (4_321_400, 43), (4_799_999, 47)];
+    for (place, expected) in lying {
+        assert_eq!(prefecture(place), Some(expected));
+    }
+    let low_bits_alone = (1 << 32) + 4_321_400;
+    for place in [0, 1, 47, 99_999, 4_800_000, low_bits_alone, u64::MAX] {
+        assert_eq!(prefecture(place), None);
+    }
+}
+
+#[test]
+fn slots_are_used_up_to_the_first_of_zeros() {
+    let slot = Slot { strength: 1, place: 1, ..Slot::default() };
+    for used in 0..=16 {
+        let mut record = Record::default();
+        record.slots[..used].fill(slot);
+        assert_eq!(slots_used(&record), used);
+        if used < 15 {
+            record.slots[15] = slot;
+            assert_eq!(slots_used(&record), used);
+        }
+    }
+    for part in [[1, 0, 0], [0, 1, 0], [0, 0, 1]] {
+        let [day, hour, minute] = part;
+        let mut record = Record::default();
+        record.slots[0] = Slot { day, hour, minute, ..Slot::default() };
+        assert_eq!(slots_used(&record), 1);
+    }
+}
+
+/// In a record that is read no slot is used behind an empty one, and the first
+/// is used where the category has slots.
+#[test]
+fn slots_of_a_record_that_is_read() {
+    let mut random = Random::new(47);
+    for _ in 0..20_000 {
+        let mut frame = [0; 32];
+        if write(&any_record(&mut random), &mut frame).is_ok() {
+            let record = read(&frame).expect("what is written is read");
+            let filled = record.slots.iter().filter(|&&slot| slot != Slot::default()).count();
+            assert_eq!(slots_used(&record), filled);
+            let category = record.body.category();
+            let has_slots = matches!(category, Some(Category::Intensity | Category::AshFall));
+            assert_eq!(filled > 0, has_slots);
+        }
+    }
+}

@@ -1,0 +1,102 @@
+/* What numbers say: every depth and magnitude, places at their bounds, slots. */
+#include "groups.h"
+
+#include "check.h"
+#include "lavendelzug.h"
+#include "samples.h"
+
+#include <string.h>
+
+void check_depths(void)
+{
+    for (uint32_t code = 0; code <= UINT16_MAX; code++) {
+        uint32_t expected = said(LZ_NO_CODE, 0);
+        if (code <= 500) {
+            expected = said(LZ_KNOWN, code);
+        } else if (code == 501) {
+            expected = said(LZ_BEYOND, 0);
+        } else if (code == 511) {
+            expected = said(LZ_UNKNOWN, 0);
+        }
+        SAME_WORD(expected, lz_depth((uint16_t)code));
+    }
+}
+
+void check_magnitudes(void)
+{
+    for (uint32_t code = 0; code <= UINT8_MAX; code++) {
+        uint32_t expected = said(LZ_NO_CODE, 0);
+        if (code >= 1 && code <= 101) {
+            expected = said(LZ_KNOWN, code);
+        } else if (code == 126) {
+            expected = said(LZ_BEYOND, 0);
+        } else if (code == 127) {
+            expected = said(LZ_UNKNOWN, 0);
+        }
+        SAME_WORD(expected, lz_magnitude((uint8_t)code));
+    }
+}
+
+/* A place of more bits is nowhere, whatever its low bits say. */
+void check_prefectures(void)
+{
+    static const uint64_t nowhere[] = {0, 1, 47, 99999, 4800000, UINT32_MAX,
+                                       (UINT64_C(1) << 32) + 4321400, UINT64_MAX};
+    for (uint32_t prefecture = 1; prefecture <= 47; prefecture++) {
+        SAME_WORD(prefecture, lz_prefecture(UINT64_C(100000) * prefecture));
+        SAME_WORD(prefecture, lz_prefecture(UINT64_C(100000) * prefecture + 99999));
+    }
+    SAME_WORD(43, lz_prefecture(4321400));
+    for (size_t i = 0; i < sizeof nowhere / sizeof nowhere[0]; i++) {
+        SAME_WORD(0, lz_prefecture(nowhere[i]));
+    }
+}
+
+static void slots_used_are(int line, uint32_t expected, const uint8_t *record, size_t length)
+{
+    uint8_t lent[LZ_RECORD_BYTES + 1];
+    memcpy(lent, record, length);
+    same_word(__FILE__, line, "lz_slots_used", expected, lz_slots_used(lent, length));
+    same_bytes(__FILE__, line, "record", record, lent, length);
+}
+
+#define SLOTS_USED_ARE(expected, record, length) \
+    slots_used_are(__LINE__, (expected), (record), (length))
+
+/* The first slot of zeros ends them, be it the very first; one byte makes a slot used. */
+static void check_slots_up_to_a_gap(void)
+{
+    uint8_t record[LZ_RECORD_BYTES];
+    intensity_record(record);
+    for (unsigned i = 9; i < LZ_SLOTS; i++) {
+        SLOTS_USED_ARE(i, record, LZ_RECORD_BYTES);
+        record[LZ_RECORD_SLOT(i) + i % LZ_SLOT_BYTES] = 1;
+    }
+    SLOTS_USED_ARE(16, record, LZ_RECORD_BYTES);
+    memset(record + LZ_RECORD_SLOT(15), 0, LZ_SLOT_BYTES);
+    SLOTS_USED_ARE(15, record, LZ_RECORD_BYTES);
+    record[LZ_INTENSITY_SPARE2] = 1;
+    SLOTS_USED_ARE(16, record, LZ_RECORD_BYTES);
+    memset(record + LZ_RECORD_SLOT(2), 0, LZ_SLOT_BYTES);
+    SLOTS_USED_ARE(2, record, LZ_RECORD_BYTES);
+    memset(record + LZ_RECORD_SLOT(0), 0, LZ_SLOT_BYTES);
+    SLOTS_USED_ARE(0, record, LZ_RECORD_BYTES);
+}
+
+void check_slots_used(void)
+{
+    uint8_t record[LZ_RECORD_BYTES + 1] = {0};
+    SLOTS_USED_ARE(0, record, LZ_RECORD_BYTES);
+    hypocenter_record(record);
+    SLOTS_USED_ARE(0, record, LZ_RECORD_BYTES);
+    nankai_record(record);
+    SLOTS_USED_ARE(0, record, LZ_RECORD_BYTES);
+    ash_fall_record(record);
+    SLOTS_USED_ARE(3, record, LZ_RECORD_BYTES);
+    intensity_record(record);
+    SLOTS_USED_ARE(9, record, LZ_RECORD_BYTES);
+    for (unsigned i = 0; i < 3; i++) {
+        SLOTS_USED_ARE(0, record, other_record_lengths[i]);
+    }
+    check_slots_up_to_a_gap();
+}
