@@ -1,16 +1,14 @@
 -- A frame through `lz_read` and `lz_write`, and a record's bytes through `lz_write` and `lz_read`.
 use mathlib.Core.Path.{_≡_, refl, sym, ap, _∙_, subst}
 use mathlib.Core.Bool.{Bool, true, false, cond}
-use Prim.Native.Nat.{ℕ, _^_, _≤_}
-use native.Mathlib.Omega.{arith}
+use Prim.Native.Nat.{ℕ}
 use mathlib.Core.List.{List}
 use lib.ListN.{length}
 use lib.Dec.{eqb}
 use borrow.Author.Tests.{eq-eqb, eqb-true}
 use Rattle.bits.specs.Frame.{Bytes}
-use Rattle.rows.specs.declared.refusal.Verdict.{Verdict}
-use Rattle.rows.specs.declared.refusal.Verdict.the-variants.{Fine, Refused}
-use Rattle.rows.specs.Refusals.{says, answers}
+use Rattle.rows.specs.declared.refusal.Verdict.the-variants.{Fine}
+use Rattle.rows.specs.Refusals.{answers}
 use Rattle.rows.specs.Runs.Questions.{_then_}
 use Rattle.rows.specs.Runs.Verdict.{allowed}
 use Rattle.rows.proofs.Rules.Outcomes.{false-not-true}
@@ -29,8 +27,9 @@ use Rattle.record_bytes.specs.Packed.{packed}
 use Rattle.record_bytes.specs.Unpacked.{recordFrom, unpacked}
 use Rattle.record_bytes.proofs.Claims.{accepted-bytes-are-given-back, packed-has-251-bytes, packed-then-unpacked, valid-records-fit-their-bytes}
 use Rattle.record_bytes.proofs.Accepted.{unpacked-shaped}
-use Rattle.inserter.specs.Answers.{answerWord, callResult, ifLengthsFit, readInto, readingByAnswer, readingInto, writeInto, writeResult}
-use Rattle.inserter.proofs.Claims.{zero-is-told-of-success, a-refusal-is-told-as-one}
+use Rattle.inserter.specs.Answers.{answerWord, callResult, readInto, readingInto, writeInto, writeResult}
+use Rattle.inserter.proofs.HandedOver.{zero-tells}
+use Rattle.inserter.proofs.Claims.{zero-is-told-of-success}
 
 -- ---- a record's 251 bytes
 
@@ -40,15 +39,9 @@ record-whole l e = rw (eq-eqb (length l) 251 e)
 
 -- ---- what an answer of 0 tells of a reading and of a writing
 
-by-answer : (b : Bool) (v : Verdict) (r : Record) (buffer : List ℕ) → ifLengthsFit b (readingByAnswer v r buffer) buffer .answer ≡ 0
-    → (v ≡ Fine) × (ifLengthsFit b (readingByAnswer v r buffer) buffer .buffer ≡ packed r)
-by-answer false v r buffer e = absurd (omega (arith, e))
-by-answer true Fine r buffer e = (refl, refl)
-by-answer true (Refused x) r buffer e = let high : 2 ^ 24 ≤ answerWord (says x) = a-refusal-is-told-as-one x in absurd (omega (arith, high, e))
-
 read-zero : (got : Reading) (buffer : List ℕ) → readingInto got buffer .answer ≡ 0 → (got .answer ≡ Fine) × (readingInto got buffer .buffer ≡ packed (got .«record»))
 unfolding readingInto
-read-zero got buffer e = by-answer (eqb (length buffer) 251) (got .answer) (got .«record») buffer e
+read-zero got buffer e = zero-tells (eqb (length buffer) 251) (got .answer) (packed (got .«record»)) buffer e
 
 read-whole : (r : Record) (buffer : List ℕ) → length buffer ≡ 251 → readingInto (record { answer = Fine; «record» = r }) buffer ≡ callResult 0 (packed r)
 unfolding readingInto

@@ -1,15 +1,12 @@
 -- A store opened by `lz_open`, and passed to any list of `lz_take`, has the bytes of the store that took those frames.
 use mathlib.Core.Path.{_≡_, refl, sym, ap, _∙_}
-use mathlib.Core.Bool.{Bool, true, false, _&&_}
-use Prim.Native.Nat.{ℕ, _^_, _≤_}
+use mathlib.Core.Bool.{_&&_}
+use Prim.Native.Nat.{ℕ}
 use native.Mathlib.Omega.{arith}
 use mathlib.Core.List.{List, [], _∷_, _++_, map, append-assoc, append-nil}
 use lib.ListN.{length}
 use lib.Dec.{eqb}
 use borrow.Author.Tests.{eq-eqb}
-use Rattle.rows.specs.declared.refusal.Verdict.{Verdict}
-use Rattle.rows.specs.declared.refusal.Verdict.the-variants.{Fine, Refused}
-use Rattle.rows.specs.Refusals.{says}
 use Rattle.report.specs.declared.record.Record.{Record}
 use Rattle.pages.specs.declared.name.Name.{Name}
 use Rattle.bulletin.specs.declared.store.Store.{Store}
@@ -26,8 +23,8 @@ use Rattle.record_bytes.specs.Unpacked.{recordFrom}
 use Rattle.record_bytes.proofs.Accepted.{record-shaped}
 use Rattle.store_bytes.specs.Stores.{nameFrom, storeBytes, storeOrZeros}
 use Rattle.store_bytes.proofs.Claims.{a-store-has-1205-bytes, store-to-bytes-and-back}
-use Rattle.inserter.specs.Answers.{answerWord, callResult, ifLengthsFit, mergeInto, mergeResult, openInto, openingByAnswer, takeInto}
-use Rattle.inserter.proofs.Claims.{a-refusal-is-told-as-one}
+use Rattle.inserter.specs.Answers.{callResult, mergeInto, mergeResult, openInto, takeInto}
+use Rattle.inserter.proofs.HandedOver.{zero-tells}
 use Rattle.inserter.proofs.StoreDoors.{into-whole}
 use Rattle.calls.specs.Calls.{takesInto}
 
@@ -85,17 +82,11 @@ module _ (n : Name) (range : InRange n) where
 
 -- ---- from the opening on
 
-by-answer : (b : Bool) (v : Verdict) (s : Store) (buffer : List ℕ) → ifLengthsFit b (openingByAnswer v s buffer) buffer .answer ≡ 0
-    → (v ≡ Fine) × (ifLengthsFit b (openingByAnswer v s buffer) buffer .buffer ≡ storeBytes s)
-by-answer false v s buffer e = absurd (omega (arith, e))
-by-answer true Fine s buffer e = (refl, refl)
-by-answer true (Refused x) s buffer e = let high : 2 ^ 24 ≤ answerWord (says x) = a-refusal-is-told-as-one x in absurd (omega (arith, high, e))
-
 opened : (name buffer : List ℕ) → openInto name buffer .answer ≡ 0 → (InRange (nameFrom name)) × (openInto name buffer .buffer ≡ storeBytes (openOf (nameFrom name) .store))
 unfolding openInto
 opened name buffer e =
     let n = nameFrom name in
-    let o = by-answer (eqb (length name) 8 && eqb (length buffer) 1205) (openOf n .answer) (openOf n .store) buffer e in
+    let o = zero-tells (eqb (length name) 8 && eqb (length buffer) 1205) (openOf n .answer) (storeBytes (openOf n .store)) buffer e in
     (opened-exactly-when-in-range n .0 (o .0), o .1)
 
 pub opened-and-taken : (name buffer : List ℕ) (bs : List (List ℕ)) → openInto name buffer .answer ≡ 0

@@ -23,22 +23,18 @@ use Rattle.bulletin.specs.Merges.{mergeVerdict, merging}
 use Rattle.bulletin.specs.Text.{bytesInOrder, textAnswerBy, textBufferBy, textLengthOf, textVerdict, withRoom}
 use Rattle.bulletin.proofs.Claims.{an-answered-refusal-leaves-the-store}
 use Rattle.record_bytes.specs.Unpacked.{recordFrom}
-use Rattle.store_bytes.specs.Stores.{storeInto, storeOrZeros, nameFrom}
+use Rattle.store_bytes.specs.Stores.{storeBytes, storeInto, storeOrZeros, nameFrom}
 use Rattle.store_bytes.proofs.Claims.{bytes-to-store-and-back}
-use Rattle.inserter.specs.Answers.{answerWord, ifLengthsFit, lengthOrRefusal, IsRefusal, mergeInto, openInto, openingByAnswer, readingByAnswer, readingInto, takeInto, takenWord, textInto, textResult, writeInto, writeLineInto, writeResult}
+use Rattle.inserter.specs.Answers.{answerWord, lengthOrRefusal, IsRefusal, mergeInto, openInto, readingInto, takeInto, takenWord, textInto, textResult, writeInto, writeLineInto, writeResult}
+use Rattle.record_bytes.specs.Packed.{packed}
+use Rattle.inserter.proofs.HandedOver.{kept}
 use Rattle.inserter.proofs.StoreDoors.{text-is-small}
 
 -- ---- records and frames
 
-reading-kept : (b : Bool) (v : Verdict) (r : Record) (buffer : List ℕ) → IsRefusal (ifLengthsFit b (readingByAnswer v r buffer) buffer .answer)
-    → ifLengthsFit b (readingByAnswer v r buffer) buffer .buffer ≡ buffer
-reading-kept false v r buffer h = refl
-reading-kept true Fine r buffer h = absurd (omega (arith, h))
-reading-kept true (Refused x) r buffer h = refl
-
 pub reading-leaves : (got : Reading) (buffer : List ℕ) → IsRefusal (readingInto got buffer .answer) → readingInto got buffer .buffer ≡ buffer
 unfolding readingInto
-reading-leaves got buffer h = reading-kept (eqb (length buffer) 251) (got .answer) (got .«record») buffer h
+reading-leaves got buffer h = kept (eqb (length buffer) 251) (got .answer) (packed (got .«record»)) buffer h
 
 writing-kept : (v : Verdict) (r : Record) (buffer : List ℕ) → IsRefusal (answerWord (answers v)) → written v r buffer ≡ buffer
 writing-kept Fine r buffer h = absurd (omega (arith, h))
@@ -57,15 +53,9 @@ line-leaves frame buffer h = line-kept (lineAnswer frame (length buffer)) frame 
 
 -- ---- stores
 
-opening-kept : (b : Bool) (v : Verdict) (s : Store) (buffer : List ℕ) → IsRefusal (ifLengthsFit b (openingByAnswer v s buffer) buffer .answer)
-    → ifLengthsFit b (openingByAnswer v s buffer) buffer .buffer ≡ buffer
-opening-kept false v s buffer h = refl
-opening-kept true Fine s buffer h = absurd (omega (arith, h))
-opening-kept true (Refused x) s buffer h = refl
-
 pub opening-leaves : (name buffer : List ℕ) → IsRefusal (openInto name buffer .answer) → openInto name buffer .buffer ≡ buffer
 unfolding openInto
-opening-leaves name buffer h = opening-kept (eqb (length name) 8 && eqb (length buffer) 1205) (openOf (nameFrom name) .answer) (openOf (nameFrom name) .store) buffer h
+opening-leaves name buffer h = kept (eqb (length name) 8 && eqb (length buffer) 1205) (openOf (nameFrom name) .answer) (storeBytes (openOf (nameFrom name) .store)) buffer h
 
 -- the store that a buffer holds is its bytes, whatever its length
 pub same-bytes : (buffer : List ℕ) → storeInto (storeOrZeros buffer) buffer ≡ buffer

@@ -4,6 +4,7 @@ pub mod Writing
 pub mod StoreDoors
 pub mod Settled
 pub mod Refusing
+pub mod HandedOver
 pub mod Kept
 pub mod Counting
 pub mod Meant

@@ -29,7 +29,8 @@ use Rattle.bulletin.proofs.Stores.Sound.{sound-parts}
 use Rattle.bulletin.proofs.Telling.TextOutcomes.{fine-sound}
 use Rattle.record_bytes.specs.Unpacked.{recordFrom}
 use Rattle.store_bytes.specs.Stores.{storeBytes, storeInto, nameFrom, nameOrZeros, storeOrZeros}
-use Rattle.inserter.specs.Answers.{callResult, answerWord, ifLengthsFit, openingByAnswer, openInto, takenWord, takeResult, takeInto, mergeResult, mergeInto, lengthOrRefusal, textResult}
+use Rattle.inserter.proofs.HandedOver.{fits, handed, withheld}
+use Rattle.inserter.specs.Answers.{callResult, answerWord, handedOver, openInto, takenWord, takeResult, takeInto, mergeResult, mergeInto, lengthOrRefusal, textResult}
 
 -- ---- opening
 
@@ -44,21 +45,21 @@ pub into-whole : (s : Store) (l : List ℕ) → length l ≡ 1205 → storeInto 
 unfolding storeInto
 into-whole s l e = rw (eq-eqb (length l) 1205 e)
 
+pub opening-whole : (name buffer : List ℕ) → length name ≡ 8 → length buffer ≡ 1205
+    → openInto name buffer ≡ handedOver (openOf (nameFrom name) .answer) (storeBytes (openOf (nameFrom name) .store)) buffer
+unfolding openInto
+opening-whole name buffer e f = fits (eqb (length name) 8 && eqb (length buffer) 1205) _ buffer (both e f)
+
 -- where both buffers have their lengths, what is left goes by the answer
 module _ (name buffer : List ℕ) (n : Name) (o : Opening) (e : length name ≡ 8) (f : length buffer ≡ 1205) (named : n ≡ nameOrZeros name) (is : o ≡ openOf n) where
-  by-answer : (v : Verdict) → o .answer ≡ v → openInto name buffer ≡ openingByAnswer v (o .store) buffer
-  unfolding openInto
-  by-answer v h =
-      let whole : o ≡ openOf (nameFrom name) = is ∙ ap openOf (named ∙ name-whole name e) in
-      ap (λ (b : Bool). ifLengthsFit b (openingByAnswer (openOf (nameFrom name) .answer) (openOf (nameFrom name) .store) buffer) buffer) (both e f)
-      ∙ ap (λ (w : Opening). openingByAnswer (w .answer) (w .store) buffer) (sym whole)
-      ∙ ap (λ (w : Verdict). openingByAnswer w (o .store) buffer) h
+  opening-fits : openInto name buffer ≡ handedOver (o .answer) (storeBytes (o .store)) buffer
+  opening-fits = opening-whole name buffer e f ∙ ap (λ (w : Opening). handedOver (w .answer) (storeBytes (w .store)) buffer) (sym (is ∙ ap openOf (named ∙ name-whole name e)))
 
   pub opened : (out : List ℕ) → o .answer ≡ Fine → out ≡ storeInto (o .store) buffer → callResult 0 out ≡ openInto name buffer
-  opened out h put = ap (callResult 0) (put ∙ into-whole (o .store) buffer f) ∙ sym (by-answer Fine h)
+  opened out h put = handed (o .answer) _ buffer out h (put ∙ into-whole (o .store) buffer f) ∙ sym opening-fits
 
   pub not-opened : (x : Refusal) (answer : ℕ) → o .answer ≡ Refused x → answer ≡ answerWord (says x) → callResult answer buffer ≡ openInto name buffer
-  not-opened x answer h said = ap (λ (a : ℕ). callResult a buffer) said ∙ sym (by-answer (Refused x) h)
+  not-opened x answer h said = withheld (o .answer) _ buffer x answer h said ∙ sym opening-fits
 
 -- ---- taking, merging: what is left in a store's buffer
 

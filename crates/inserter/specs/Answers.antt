@@ -63,15 +63,15 @@ callResult a b = record { answer = a; buffer = b }
 abbrev pub ifLengthsFit : Bool → CallResult → List ℕ → CallResult
 ifLengthsFit right l buffer = cond right l (callResult (answerWord (plain 255)) buffer)
 
+-- what is handed over goes into the buffer; a refusal leaves the buffer as it was
+abbrev pub handedOver : Verdict → List ℕ → List ℕ → CallResult
+handedOver Fine bytes buffer = callResult (answerWord (answers Fine)) bytes
+handedOver (Refused x) bytes buffer = callResult (answerWord (answers (Refused x))) buffer
+
 -- ---- reading
 
--- a record that was read goes into the buffer; a refusal leaves the buffer as it was
-abbrev pub readingByAnswer : Verdict → Record → List ℕ → CallResult
-readingByAnswer Fine r buffer = callResult (answerWord (answers Fine)) (packed r)
-readingByAnswer (Refused x) r buffer = callResult (answerWord (answers (Refused x))) buffer
-
 unfoldable pub readingInto : Reading → List ℕ → CallResult
-readingInto r buffer = ifLengthsFit (eqb (length buffer) 251) (readingByAnswer (r .answer) (r .«record») buffer) buffer
+readingInto r buffer = ifLengthsFit (eqb (length buffer) 251) (handedOver (r .answer) (packed (r .«record»)) buffer) buffer
 
 abbrev pub readInto : List ℕ → List ℕ → CallResult
 readInto frame buffer = readingInto (readOf frame) buffer
@@ -93,14 +93,10 @@ writeLineInto frame buffer = callResult (answerWord (answers (lineAnswer frame (
 -- ---- the page store: a refusal leaves its bytes as they were. Bytes of another length are a store of zeros, which is not
 -- sound, and a record of zeros.
 
-abbrev pub openingByAnswer : Verdict → Store → List ℕ → CallResult
-openingByAnswer Fine s buffer = callResult (answerWord (answers Fine)) (storeBytes s)
-openingByAnswer (Refused x) s buffer = callResult (answerWord (answers (Refused x))) buffer
-
 unfoldable pub openInto : List ℕ → List ℕ → CallResult
 openInto name buffer =
     let o = openOf (nameFrom name) in
-    ifLengthsFit (eqb (length name) 8 && eqb (length buffer) 1205) (openingByAnswer (o .answer) (o .store) buffer) buffer
+    ifLengthsFit (eqb (length name) 8 && eqb (length buffer) 1205) (handedOver (o .answer) (storeBytes (o .store)) buffer) buffer
 
 -- "new where it was absent, same where it was held with those 18 bytes, and disputed otherwise"
 abbrev pub takenWord : Taken → ℕ
