@@ -1,20 +1,29 @@
 -- What calls through the doors come to, one behind the other, over the bytes that a program in C sees.
 use mathlib.Core.Path.{_≡_}
-use mathlib.Core.List.{List, _++_, map}
-use Prim.Native.Nat.{ℕ}
-use lib.ListN.{length}
+use mathlib.Core.List.{List, [], _∷_, _++_, map}
+use Prim.Native.Nat.{ℕ, _≤_}
+use lib.ListN.{length, drop}
 use Rattle.bits.specs.Frame.{Bytes}
 use Rattle.pages.specs.declared.name.Name.{Name}
 use Rattle.histories.specs.Soundness.{InRange}
+use Rattle.histories.specs.Reports.{Reports, Tells}
+use Rattle.bulletin.specs.declared.count.Count.{Count}
+use Rattle.report.specs.Conforms.{Conforms}
+use Rattle.report.specs.Records.{recordOf}
+use Rattle.record_bytes.specs.Packed.{packed}
 use Rattle.histories.specs.Frames.{Frame, storeAfter}
 use Rattle.record_bytes.specs.Unpacked.{recordFrom}
 use Rattle.store_bytes.specs.Stores.{nameFrom, storeBytes}
-use Rattle.inserter.specs.Answers.{callResult, mergeInto, openInto, readInto, writeInto}
+use Rattle.inserter.specs.Answers.{callResult, countAnswer, mergeInto, openInto, readInto, readLineInto, textInto, wordBytes, writeInto, writeLineInto}
 use Rattle.calls.specs.Calls.{takesInto}
 use Rattle.calls.proofs.RoundTrip as RoundTrip
 use Rattle.calls.proofs.Takings as Takings
 
--- "the record written again is the same 250 bits": what `lz_read` answers 0 to, `lz_write` gives back, all 32 bytes ..
+-- "a conforming frame is read": `lz_read` answers 0 and hands over its record ..
+pub a-conforming-frame-is-read : (frame bytes : List ℕ) → Conforms frame → length bytes ≡ 251 → readInto frame bytes ≡ callResult 0 (packed (recordOf frame))
+a-conforming-frame-is-read = RoundTrip.conforming-read
+
+-- .. "the record written again is the same 250 bits": what `lz_read` answers 0 to, `lz_write` gives back, all 32 bytes ..
 pub read-then-written-is-the-frame : (frame bytes buffer : List ℕ) → Bytes frame → length buffer ≡ 32 → readInto frame bytes .answer ≡ 0
     → writeInto (readInto frame bytes .buffer) buffer ≡ callResult 0 frame
 read-then-written-is-the-frame = RoundTrip.read-then-written
@@ -23,6 +32,16 @@ read-then-written-is-the-frame = RoundTrip.read-then-written
 pub written-then-read-is-the-record : (bytes buffer again : List ℕ) → Bytes bytes → length again ≡ 251 → writeInto bytes buffer .answer ≡ 0
     → readInto (writeInto bytes buffer .buffer) again ≡ callResult 0 bytes
 written-then-read-is-the-record = RoundTrip.written-then-read
+
+-- "As text it is 63 hexadecimal digits": what `lz_write_line` wrote, `lz_read_line` reads as `lz_read` does the frame
+pub a-printed-line-is-read-as-its-frame : (frame line bytes : List ℕ) → Bytes frame → length line ≡ 63 → writeLineInto frame line .answer ≡ 0
+    → readLineInto (writeLineInto frame line .buffer) bytes ≡ readInto frame bytes
+a-printed-line-is-read-as-its-frame = RoundTrip.printed-then-read
+
+-- "every name in range is opened": `lz_open` answers 0 and leaves the store that took no frame yet
+pub a-name-in-range-is-opened : (name buffer : List ℕ) → length name ≡ 8 → length buffer ≡ 1205 → InRange (nameFrom name)
+    → openInto name buffer ≡ callResult 0 (storeBytes (storeAfter (nameFrom name) []))
+a-name-in-range-is-opened = Takings.in-range-opened
 
 -- Condition 3 holds of the bytes in a C program: a store that `lz_open` opened, and to which any records' bytes were then passed by `lz_take`, is the
 -- store after those frames, of which `histories` speaks
@@ -36,3 +55,13 @@ an-opened-store-has-the-bytes-of-its-frames = Takings.opened-and-taken
 pub merged-stores-have-the-bytes-of-both : (n : Name) (a b : List Frame) → InRange n
     → mergeInto (storeBytes (storeAfter n a)) (storeBytes (storeAfter n b)) ≡ callResult 0 (storeBytes (storeAfter n (a ++ b)))
 merged-stores-have-the-bytes-of-both n a b r = Takings.merged-bytes n r a b
+
+-- Of such a store `lz_count` answers what the frames tell ..
+pub such-a-store-reports-its-frames : (n : Name) (frames : List Frame) → InRange n
+    → (c : Count) × Reports n frames c × (wordBytes (countAnswer (storeBytes (storeAfter n frames))) ≡ 0 ∷ c .held ∷ c .disputed ∷ c .lowest ∷ [])
+such-a-store-reports-its-frames n frames r = Takings.reported-bytes n r frames
+
+-- .. and `lz_text` the text that it tells, with "the bytes after its length untouched"
+pub such-a-store-tells-its-text : (n : Name) (frames : List Frame) (text buffer : List ℕ) → InRange n → Tells (storeAfter n frames) text → length text ≤ length buffer
+    → textInto (storeBytes (storeAfter n frames)) buffer ≡ callResult (length text) (text ++ drop (length text) buffer)
+such-a-store-tells-its-text n frames text buffer r t h = Takings.told-bytes n r frames text buffer t h

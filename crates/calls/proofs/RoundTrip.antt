@@ -1,14 +1,16 @@
 -- A frame through `lz_read` and `lz_write`, and a record's bytes through `lz_write` and `lz_read`.
 use mathlib.Core.Path.{_≡_, refl, sym, ap, _∙_, subst}
 use mathlib.Core.Bool.{Bool, true, false, cond}
-use Prim.Native.Nat.{ℕ}
-use mathlib.Core.List.{List}
-use lib.ListN.{length}
+use Prim.Native.Nat.{ℕ, _^_, _≤_}
+use native.Mathlib.Omega.{arith}
+use mathlib.Core.List.{List, _++_, append-nil}
+use lib.ListN.{length, drop-of-length-le}
 use lib.Dec.{eqb}
 use borrow.Author.Tests.{eq-eqb, eqb-true}
 use Rattle.bits.specs.Frame.{Bytes}
-use Rattle.rows.specs.declared.refusal.Verdict.the-variants.{Fine}
-use Rattle.rows.specs.Refusals.{answers}
+use Rattle.rows.specs.declared.refusal.Verdict.{Verdict}
+use Rattle.rows.specs.declared.refusal.Verdict.the-variants.{Fine, Refused}
+use Rattle.rows.specs.Refusals.{says, answers}
 use Rattle.rows.specs.Runs.Questions.{_then_}
 use Rattle.rows.specs.Runs.Verdict.{allowed}
 use Rattle.rows.proofs.Rules.Outcomes.{false-not-true}
@@ -20,16 +22,19 @@ use Rattle.report.specs.declared.record.Record.{Record}
 use Rattle.report.specs.declared.read.Reading.{Reading}
 use Rattle.report.specs.Records.{recordOf, zeros}
 use Rattle.report.specs.Runs.Reading.{readOf}
+use Rattle.report.specs.Conforms.{Conforms}
+use Rattle.line.specs.Lines.{lineAnswer, lineOf, lineWritten}
+use Rattle.line.proofs.Claims.{a-frame-has-a-line, a-line-reads-as-its-frame, frame-to-line-to-frame, no-padding-no-digit-lost, printed-exactly-when-nothing-is-wrong}
 use Rattle.report.specs.Runs.Writing.{writeAnswer, writeOf, Valid}
-use Rattle.report.proofs.Claims.{read-again-is-the-record, read-records-are-shaped, written-again-is-the-frame}
+use Rattle.report.proofs.Claims.{conforming-gives-its-record, read-again-is-the-record, read-records-are-shaped, written-again-is-the-frame}
 use Rattle.report.proofs.RoundTrips.ReadThenWritten.{frame-valid, reads, record-read}
 use Rattle.record_bytes.specs.Packed.{packed}
 use Rattle.record_bytes.specs.Unpacked.{recordFrom, unpacked}
 use Rattle.record_bytes.proofs.Claims.{accepted-bytes-are-given-back, packed-has-251-bytes, packed-then-unpacked, valid-records-fit-their-bytes}
 use Rattle.record_bytes.proofs.Accepted.{unpacked-shaped}
-use Rattle.inserter.specs.Answers.{answerWord, callResult, readInto, readingInto, writeInto, writeResult}
+use Rattle.inserter.specs.Answers.{answerWord, callResult, readingInto, readInto, readLineInto, writeInto, writeLineInto, writeResult}
 use Rattle.inserter.proofs.HandedOver.{zero-tells}
-use Rattle.inserter.proofs.Claims.{zero-is-told-of-success}
+use Rattle.inserter.proofs.Claims.{a-refusal-is-told-as-one, zero-is-told-of-success}
 
 -- ---- a record's 251 bytes
 
@@ -105,3 +110,24 @@ written-then-read l buffer bytes b n e =
     ∙ ap (λ (g : Reading). readingInto g bytes) (read-again-is-the-record r buffer (unpacked-shaped l) valid room)
     ∙ read-whole r bytes n
     ∙ ap (callResult 0) (accepted-bytes-are-given-back l long b valid)
+
+-- ---- a frame that is read
+
+pub conforming-read : (s bytes : List ℕ) → Conforms s → length bytes ≡ 251 → readInto s bytes ≡ callResult 0 (packed (recordOf s))
+conforming-read s bytes c n = ap (λ (g : Reading). readingInto g bytes) (conforming-gives-its-record s c) ∙ read-whole (recordOf s) bytes n
+
+-- ---- a line
+
+line-by : (v : Verdict) (s line : List ℕ) → length line ≡ 63 → answerWord (answers v) ≡ 0 → (v ≡ Fine) × (lineWritten v s line ≡ lineOf s)
+line-by Fine s line n e = (refl, ap (λ (l : List ℕ). lineOf s ++ l) (drop-of-length-le line {i = 63} (omega (arith, n))) ∙ append-nil (lineOf s))
+line-by (Refused x) s line n e = let high : 2 ^ 24 ≤ answerWord (says x) = a-refusal-is-told-as-one x in absurd (omega (arith, high, e))
+
+pub printed-then-read : (s line bytes : List ℕ) → Bytes s → length line ≡ 63 → writeLineInto s line .answer ≡ 0
+    → readLineInto (writeLineInto s line .buffer) bytes ≡ readInto s bytes
+printed-then-read s line bytes b n e =
+    let p = line-by (lineAnswer s (length line)) s line n e in
+    let m = printed-exactly-when-nothing-is-wrong s (length line) .0 (p .0) in
+    ap (λ (l : List ℕ). readLineInto l bytes) (p .1)
+    ∙ ap (λ (g : Reading). readingInto g bytes)
+    (a-line-reads-as-its-frame (lineOf s) (a-frame-has-a-line s (m .0) b)
+    ∙ ap readOf (frame-to-line-to-frame s (m .0) b (no-padding-no-digit-lost s (m .1 .0))))

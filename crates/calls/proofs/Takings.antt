@@ -1,31 +1,36 @@
 -- A store opened by `lz_open`, and passed to any list of `lz_take`, has the bytes of the store that took those frames.
 use mathlib.Core.Path.{_≡_, refl, sym, ap, _∙_}
 use mathlib.Core.Bool.{_&&_}
-use Prim.Native.Nat.{ℕ}
+use Prim.Native.Nat.{ℕ, _≤_}
 use native.Mathlib.Omega.{arith}
 use mathlib.Core.List.{List, [], _∷_, _++_, map, append-assoc, append-nil}
-use lib.ListN.{length}
+use lib.ListN.{length, drop}
 use lib.Dec.{eqb}
 use borrow.Author.Tests.{eq-eqb}
+use Rattle.rows.specs.declared.refusal.Verdict.{Verdict}
 use Rattle.report.specs.declared.record.Record.{Record}
 use Rattle.pages.specs.declared.name.Name.{Name}
 use Rattle.bulletin.specs.declared.store.Store.{Store}
 use Rattle.bulletin.specs.Stores.{openOf, ShapedStore}
 use Rattle.bulletin.specs.Takings.{takeOf}
 use Rattle.bulletin.specs.declared.merge.Merging.{Merging}
+use Rattle.bulletin.specs.declared.count.Count.{Count}
+use Rattle.bulletin.specs.Counts.{countOf}
 use Rattle.bulletin.specs.Merges.{mergeOf}
 use Rattle.bulletin.proofs.Telling.PageBytes.{Eighteen}
 use Rattle.histories.specs.Soundness.{InRange}
+use Rattle.histories.specs.Reports.{Reports, Tells}
 use Rattle.histories.specs.Frames.{Frame, storeAfter}
-use Rattle.histories.proofs.Claims.{merging-takes-the-frames-of-both, opened-exactly-when-in-range, what-frames-give-is-sound}
+use Rattle.histories.proofs.Claims.{merging-takes-the-frames-of-both, opened-exactly-when-in-range, the-report-is-told-by-the-frames, what-frames-give-is-sound}
 use Rattle.histories.proofs.Histories.StoresOfHistories.{takes-append}
 use Rattle.record_bytes.specs.Unpacked.{recordFrom}
 use Rattle.record_bytes.proofs.Accepted.{record-shaped}
 use Rattle.store_bytes.specs.Stores.{nameFrom, storeBytes, storeOrZeros}
 use Rattle.store_bytes.proofs.Claims.{a-store-has-1205-bytes, store-to-bytes-and-back}
-use Rattle.inserter.specs.Answers.{callResult, mergeInto, mergeResult, openInto, takeInto}
+use Rattle.inserter.specs.Answers.{callResult, countAnswer, handedOver, lengthOrRefusal, mergeInto, mergeResult, openInto, takeInto, textInto, textResult, wordBytes}
 use Rattle.inserter.proofs.HandedOver.{zero-tells}
-use Rattle.inserter.proofs.StoreDoors.{into-whole}
+use Rattle.inserter.proofs.Claims.{a-report-has-held-disputed-and-lowest}
+use Rattle.inserter.proofs.StoreDoors.{into-whole, opening-whole}
 use Rattle.calls.specs.Calls.{takesInto}
 
 -- ---- the frame of a record's bytes, whatever they are
@@ -80,6 +85,26 @@ module _ (n : Name) (range : InRange n) where
       ∙ ap (λ (m : Merging). mergeResult m first) (merging-takes-the-frames-of-both n a b range)
       ∙ ap (callResult 0) (into-whole (storeAfter n (a ++ b)) first (long (storeAfter n a) (what-frames-give-is-sound n a range .1)))
 
+  -- ---- what it reports and tells
+
+  pub reported-bytes : (fs : List Frame) → (c : Count) × Reports n fs c × (wordBytes (countAnswer (storeBytes (storeAfter n fs))) ≡ 0 ∷ c .held ∷ c .disputed ∷ c .lowest ∷ [])
+  reported-bytes fs =
+      let bytes : List ℕ = storeBytes (storeAfter n fs) in
+      let reports = the-report-is-told-by-the-frames n fs range in
+      let same : countOf (storeOrZeros bytes) ≡ countOf (storeAfter n fs) = ap countOf (after-whole fs) in (
+        countOf (storeAfter n fs),
+        reports,
+        a-report-has-held-disputed-and-lowest bytes (ap (λ (c : Count). c .answer) same ∙ reports .answer)
+            ∙ ap (λ (c : Count). 0 ∷ c .held ∷ c .disputed ∷ c .lowest ∷ []) same,
+      )
+
+  pub told-bytes : (fs : List Frame) (text buffer : List ℕ) → Tells (storeAfter n fs) text → length text ≤ length buffer
+      → textInto (storeBytes (storeAfter n fs)) buffer ≡ callResult (length text) (text ++ drop (length text) buffer)
+  unfolding textResult
+  told-bytes fs text buffer t h =
+      ap (λ (s : Store). textResult s buffer) (after-whole fs)
+      ∙ (λ i. callResult (lengthOrRefusal (t .answer buffer h i .answer) (t .answer buffer h i .length)) (t .written buffer h i))
+
 -- ---- from the opening on
 
 opened : (name buffer : List ℕ) → openInto name buffer .answer ≡ 0 → (InRange (nameFrom name)) × (openInto name buffer .buffer ≡ storeBytes (openOf (nameFrom name) .store))
@@ -95,3 +120,9 @@ pub opened-and-taken : (name buffer : List ℕ) (bs : List (List ℕ)) → openI
 opened-and-taken name buffer bs e =
     let o = opened name buffer e in
     (map frameOf bs, frames-came bs, o .0, ap (λ (l : List ℕ). takesInto l bs) (o .1) ∙ walk (nameFrom name) (o .0) [] bs)
+
+pub in-range-opened : (name buffer : List ℕ) → length name ≡ 8 → length buffer ≡ 1205 → InRange (nameFrom name)
+    → openInto name buffer ≡ callResult 0 (storeBytes (storeAfter (nameFrom name) []))
+in-range-opened name buffer e f r =
+    let n = nameFrom name in
+    opening-whole name buffer e f ∙ ap (λ (v : Verdict). handedOver v (storeBytes (openOf n .store)) buffer) (opened-exactly-when-in-range n .1 r)

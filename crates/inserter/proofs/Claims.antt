@@ -1,23 +1,30 @@
 -- What is claimed of one call, over the words and bytes that a program in C sees. What calls in a row come to is claimed in `calls`.
-use mathlib.Core.Path.{_≡_}
+use mathlib.Core.Path.{_≡_, refl}
 use mathlib.Core.List.{List, [], _∷_}
+use lib.ListN.{length}
 use Prim.Native.Nat.{ℕ, _+_, _*_, _/_, _^_, _≤_, _<_}
 use Rattle.rows.specs.declared.refusal.Refusal.{Refusal}
 use Rattle.rows.specs.declared.refusal.Said.{Said}
 use Rattle.rows.specs.declared.refusal.Verdict.{Verdict}
-use Rattle.rows.specs.declared.refusal.Verdict.the-variants.{Fine}
+use Rattle.rows.specs.declared.refusal.Verdict.the-variants.{Fine, Refused}
 use Rattle.rows.specs.Refusals.{plain, says, answers}
-use Rattle.report.specs.Runs.Reading.{readOf}
-use Rattle.line.specs.Lines.{lineReading}
+use Rattle.report.specs.Runs.Reading.{readOf, readSays}
+use Rattle.report.specs.Runs.Writing.{writeSays}
+use Rattle.line.specs.Lines.{lineReading, lineSays, lineWriteSays}
+use Rattle.pages.specs.Names.{nameSays}
 use Rattle.bulletin.specs.declared.take.Taken.{Taken}
-use Rattle.bulletin.specs.declared.take.Taken.the-variants.{Refused as NotTaken}
+use Rattle.bulletin.specs.declared.take.Taken.the-variants.{New, Same, Disputed, Refused as NotTaken}
+use Rattle.bulletin.specs.Takings.{takeOf}
+use Rattle.bulletin.specs.Merges.{mergeSays}
+use Rattle.record_bytes.specs.Unpacked.{recordFrom}
 use Rattle.bulletin.specs.Counts.{countOf}
 use Rattle.bulletin.specs.Text.{textAnswer}
-use Rattle.store_bytes.specs.Stores.{storeOrZeros}
+use Rattle.store_bytes.specs.Stores.{nameFrom, storeOrZeros}
 use Rattle.parity.specs.Parity.{parityOf}
-use Rattle.inserter.specs.Answers.{answerWord, countAnswer, InBytes, IsRefusal, mergeInto, openInto, readInto, readLineInto, takeInto, takenWord, textInto, wordBytes, writeInto, writeLineInto}
+use Rattle.inserter.specs.Answers.{answerWord, countAnswer, InBytes, IsRefusal, mergeInto, openInto, parityAnswer, readInto, readLineInto, takeInto, takenWord, textInto, wordBytes, writeInto, writeLineInto}
 use Rattle.inserter.specs.Meanings.{depthAnswer, magnitudeAnswer, prefectureAnswer, slotsAnswer}
 use Rattle.inserter.proofs.Meant as Meant
+use Rattle.inserter.proofs.Said as Said
 use Rattle.inserter.proofs.Kept as Kept
 use Rattle.inserter.proofs.Refusing as Refusing
 use Rattle.inserter.proofs.Counting as Counting
@@ -71,7 +78,37 @@ a-wrong-call-is-told-as-a-refusal = Refusing.wrong-call-is-high
 pub zero-is-told-of-success : (v : Verdict) → (v ≡ Fine → answerWord (answers v) ≡ 0) × (answerWord (answers v) ≡ 0 → v ≡ Fine)
 zero-is-told-of-success v = (Refusing.low-word v, Refusing.fine-word v)
 
--- .. 1, 2 or 3 of a taking ..
+-- .. and each call that answers with a verdict says the number of its function there, with place, page and mark ..
+pub reading-says-its-number : (frame buffer : List ℕ) → length buffer ≡ 251 → readInto frame buffer .answer ≡ answerWord (readSays frame)
+reading-says-its-number = Said.read-told
+
+pub a-line-says-its-number : (line buffer : List ℕ) → length buffer ≡ 251 → readLineInto line buffer .answer ≡ answerWord (lineSays line)
+a-line-says-its-number = Said.line-told
+
+pub writing-says-its-number : (bytes buffer : List ℕ) → writeInto bytes buffer .answer ≡ answerWord (writeSays (recordFrom bytes) (length buffer))
+writing-says-its-number = Said.write-told
+
+pub writing-a-line-says-its-number : (frame buffer : List ℕ) → writeLineInto frame buffer .answer ≡ answerWord (lineWriteSays frame (length buffer))
+writing-a-line-says-its-number frame buffer = refl
+
+pub opening-says-its-number : (name buffer : List ℕ) → length name ≡ 8 → length buffer ≡ 1205 → openInto name buffer .answer ≡ answerWord (nameSays (nameFrom name))
+opening-says-its-number = Said.open-told
+
+pub merging-says-its-number : (buffer other : List ℕ) → mergeInto buffer other .answer ≡ answerWord (mergeSays (storeOrZeros buffer) (storeOrZeros other))
+merging-says-its-number = Said.merge-told
+
+-- .. but 255 where a buffer for an answer has another length ..
+pub a-record-of-another-length-is-255 : (frame buffer : List ℕ) → (length buffer ≡ 251 → ⊥) → readInto frame buffer .answer ≡ answerWord (plain 255)
+a-record-of-another-length-is-255 frame buffer n = Said.no-room (readOf frame) buffer n
+
+-- .. 1, 2 or 3 of a taking, or why it is refused ..
+pub a-taking-is-told : (buffer bytes : List ℕ)
+    → (takeOf (storeOrZeros buffer) (recordFrom bytes) .answer ≡ New → takeInto buffer bytes .answer ≡ 1)
+    × (takeOf (storeOrZeros buffer) (recordFrom bytes) .answer ≡ Same → takeInto buffer bytes .answer ≡ 2)
+    × (takeOf (storeOrZeros buffer) (recordFrom bytes) .answer ≡ Disputed → takeInto buffer bytes .answer ≡ 3)
+    × ((x : Refusal) → takeOf (storeOrZeros buffer) (recordFrom bytes) .answer ≡ NotTaken x → takeInto buffer bytes .answer ≡ answerWord (says x))
+a-taking-is-told buffer bytes = (Said.take-told buffer bytes New, Said.take-told buffer bytes Same, Said.take-told buffer bytes Disputed, λ x. Said.take-told buffer bytes (NotTaken x))
+
 pub a-taking-is-no-refusal : (t : Taken) → ((x : Refusal) → t ≡ NotTaken x → ⊥) → takenWord t ≤ 3
 a-taking-is-no-refusal = Refusing.taken-is-low
 
@@ -85,11 +122,28 @@ pub a-report-has-held-disputed-and-lowest : (store : List ℕ) → countOf (stor
     → wordBytes (countAnswer store) ≡ 0 ∷ countOf (storeOrZeros store) .held ∷ countOf (storeOrZeros store) .disputed ∷ countOf (storeOrZeros store) .lowest ∷ []
 a-report-has-held-disputed-and-lowest = Counting.report-in-bytes
 
+pub a-refused-report-says-why : (store : List ℕ) (x : Refusal) → countOf (storeOrZeros store) .answer ≡ Refused x → countAnswer store ≡ answerWord (says x)
+a-refused-report-says-why = Said.count-refused
+
 -- .. and the length of a text, which is "at most 1,134 bytes"
 pub a-length-is-no-refusal : (store : List ℕ) (size : ℕ) → textAnswer (storeOrZeros store) size .length ≤ 1134
 a-length-is-no-refusal store size = Counting.text-is-low store size
 
--- a parity has 24 bits
+pub a-text-is-told-by-its-length : (store buffer : List ℕ) → textAnswer (storeOrZeros store) (length buffer) .answer ≡ Fine
+    → textInto store buffer .answer ≡ textAnswer (storeOrZeros store) (length buffer) .length
+a-text-is-told-by-its-length = Said.text-told
+
+pub a-refused-text-says-why : (store buffer : List ℕ) (x : Refusal) → textAnswer (storeOrZeros store) (length buffer) .answer ≡ Refused x
+    → textInto store buffer .answer ≡ answerWord (says x)
+a-refused-text-says-why = Said.text-refused
+
+-- a parity is told as it is, and has 24 bits; a slice that is no frame is 1
+pub a-frame-is-told-its-parity : (frame : List ℕ) → length frame ≡ 32 → parityAnswer frame ≡ parityOf frame
+a-frame-is-told-its-parity = Said.parity-told
+
+pub no-frame-has-a-parity : (frame : List ℕ) → (length frame ≡ 32 → ⊥) → parityAnswer frame ≡ answerWord (plain 1)
+no-frame-has-a-parity = Said.no-parity
+
 pub a-parity-is-no-refusal : (frame : List ℕ) → parityOf frame < 2 ^ 24
 a-parity-is-no-refusal = Counting.parity-is-low
 

@@ -8,3 +8,4 @@ pub mod HandedOver
 pub mod Kept
 pub mod Counting
 pub mod Meant
+pub mod Said
