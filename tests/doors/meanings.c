@@ -7,33 +7,29 @@
 
 #include <string.h>
 
+/* Codes from low to high are known, one is beyond them, one is unknown, and no other says anything. */
+static uint32_t told(uint32_t code, uint32_t low, uint32_t high, uint32_t beyond, uint32_t unknown)
+{
+    if (code >= low && code <= high) {
+        return said(LZ_KNOWN, code);
+    }
+    if (code == beyond) {
+        return said(LZ_BEYOND, 0);
+    }
+    return code == unknown ? said(LZ_UNKNOWN, 0) : said(LZ_NO_CODE, 0);
+}
+
 void check_depths(void)
 {
     for (uint32_t code = 0; code <= UINT16_MAX; code++) {
-        uint32_t expected = said(LZ_NO_CODE, 0);
-        if (code <= 500) {
-            expected = said(LZ_KNOWN, code);
-        } else if (code == 501) {
-            expected = said(LZ_BEYOND, 0);
-        } else if (code == 511) {
-            expected = said(LZ_UNKNOWN, 0);
-        }
-        SAME_WORD(expected, lz_depth((uint16_t)code));
+        SAME_WORD(told(code, 0, 500, 501, 511), lz_depth((uint16_t)code));
     }
 }
 
 void check_magnitudes(void)
 {
     for (uint32_t code = 0; code <= UINT8_MAX; code++) {
-        uint32_t expected = said(LZ_NO_CODE, 0);
-        if (code >= 1 && code <= 101) {
-            expected = said(LZ_KNOWN, code);
-        } else if (code == 126) {
-            expected = said(LZ_BEYOND, 0);
-        } else if (code == 127) {
-            expected = said(LZ_UNKNOWN, 0);
-        }
-        SAME_WORD(expected, lz_magnitude((uint8_t)code));
+        SAME_WORD(told(code, 1, 101, 126, 127), lz_magnitude((uint8_t)code));
     }
 }
 
