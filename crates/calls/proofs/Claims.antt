@@ -14,6 +14,8 @@ use Rattle.record_bytes.specs.Packed.{packed}
 use Rattle.histories.specs.Frames.{Frame, storeAfter}
 use Rattle.record_bytes.specs.Unpacked.{recordFrom}
 use Rattle.store_bytes.specs.Stores.{nameFrom, storeBytes}
+use Rattle.report.specs.Meaning.{usedOf}
+use Rattle.inserter.specs.Meanings.{slotsAnswer}
 use Rattle.inserter.specs.Answers.{callResult, countAnswer, mergeInto, openInto, readInto, readLineInto, textInto, wordBytes, writeInto, writeLineInto}
 use Rattle.calls.specs.Calls.{takesInto}
 use Rattle.calls.proofs.RoundTrip as RoundTrip
@@ -22,6 +24,10 @@ use Rattle.calls.proofs.Takings as Takings
 -- "a conforming frame is read": `lz_read` answers 0 and hands over its record ..
 pub a-conforming-frame-is-read : (frame bytes : List ℕ) → Conforms frame → length bytes ≡ 251 → readInto frame bytes ≡ callResult 0 (packed (recordOf frame))
 a-conforming-frame-is-read = RoundTrip.conforming-read
+
+-- .. of which `lz_slots_used` says how many slots are used ..
+pub a-read-record-tells-its-used-slots : (frame bytes : List ℕ) → Conforms frame → length bytes ≡ 251 → slotsAnswer (readInto frame bytes .buffer) ≡ usedOf (recordOf frame)
+a-read-record-tells-its-used-slots = RoundTrip.slots-told
 
 -- .. "the record written again is the same 250 bits": what `lz_read` answers 0 to, `lz_write` gives back, all 32 bytes ..
 pub read-then-written-is-the-frame : (frame bytes buffer : List ℕ) → Bytes frame → length buffer ≡ 32 → readInto frame bytes .answer ≡ 0

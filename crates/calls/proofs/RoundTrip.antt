@@ -32,7 +32,9 @@ use Rattle.record_bytes.specs.Packed.{packed}
 use Rattle.record_bytes.specs.Unpacked.{recordFrom, unpacked}
 use Rattle.record_bytes.proofs.Claims.{accepted-bytes-are-given-back, packed-has-251-bytes, packed-then-unpacked, valid-records-fit-their-bytes}
 use Rattle.record_bytes.proofs.Accepted.{unpacked-shaped}
-use Rattle.inserter.specs.Answers.{answerWord, callResult, readingInto, readInto, readLineInto, writeInto, writeLineInto, writeResult}
+use Rattle.inserter.specs.Answers.{answerWord, CallResult, callResult, readingInto, readInto, readLineInto, writeInto, writeLineInto, writeResult}
+use Rattle.report.specs.Meaning.{usedOf}
+use Rattle.inserter.specs.Meanings.{slotsAnswer}
 use Rattle.inserter.proofs.HandedOver.{zero-tells}
 use Rattle.inserter.proofs.Claims.{a-refusal-is-told-as-one, zero-is-told-of-success}
 
@@ -115,6 +117,11 @@ written-then-read l buffer bytes b n e =
 
 pub conforming-read : (s bytes : List ℕ) → Conforms s → length bytes ≡ 251 → readInto s bytes ≡ callResult 0 (packed (recordOf s))
 conforming-read s bytes c n = ap (λ (g : Reading). readingInto g bytes) (conforming-gives-its-record s c) ∙ read-whole (recordOf s) bytes n
+
+pub slots-told : (s bytes : List ℕ) → Conforms s → length bytes ≡ 251 → slotsAnswer (readInto s bytes .buffer) ≡ usedOf (recordOf s)
+slots-told s bytes c n =
+    ap (λ (l : CallResult). slotsAnswer (l .buffer)) (conforming-read s bytes c n)
+    ∙ ap usedOf (given-back (recordOf s) (read-records-are-shaped s) (frame-valid s c))
 
 -- ---- a line
 

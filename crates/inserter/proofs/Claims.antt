@@ -97,7 +97,10 @@ opening-says-its-number = Said.open-told
 pub merging-says-its-number : (buffer other : List ℕ) → mergeInto buffer other .answer ≡ answerWord (mergeSays (storeOrZeros buffer) (storeOrZeros other))
 merging-says-its-number = Said.merge-told
 
--- .. but 255 where a buffer for an answer has another length ..
+-- .. but 255 where a name, or a buffer for an answer, has another length ..
+pub a-name-of-another-length-is-255 : (name buffer : List ℕ) → (length name ≡ 8 → ⊥) → openInto name buffer .answer ≡ answerWord (plain 255)
+a-name-of-another-length-is-255 = Said.no-name
+
 pub a-record-of-another-length-is-255 : (frame buffer : List ℕ) → (length buffer ≡ 251 → ⊥) → readInto frame buffer .answer ≡ answerWord (plain 255)
 a-record-of-another-length-is-255 frame buffer n = Said.no-room (readOf frame) buffer n
 
@@ -112,7 +115,7 @@ a-taking-is-told buffer bytes = (Said.take-told buffer bytes New, Said.take-told
 pub a-taking-is-no-refusal : (t : Taken) → ((x : Refusal) → t ≡ NotTaken x → ⊥) → takenWord t ≤ 3
 a-taking-is-no-refusal = Refusing.taken-is-low
 
--- .. held, disputed and lowest of a report, "each at most 63" ..
+-- .. held, disputed and lowest of a report, each at most 63 ..
 pub a-report-is-no-refusal : (store : List ℕ) → countOf (storeOrZeros store) .answer ≡ Fine
     → (countOf (storeOrZeros store) .held ≤ 63) × (countOf (storeOrZeros store) .disputed ≤ 63) × (countOf (storeOrZeros store) .lowest ≤ 63) × (countAnswer store < 2 ^ 24)
 a-report-is-no-refusal = Counting.report-is-low

@@ -1,7 +1,7 @@
 -- Each door answers what its function says.
-use mathlib.Core.Path.{_≡_, refl, sym, ap, _∙_}
-use mathlib.Core.Bool.{Bool, cond}
-use Prim.Native.Nat.{ℕ, _^_}
+use mathlib.Core.Path.{_≡_, refl, ap, _∙_}
+use mathlib.Core.Bool.{Bool, _&&_}
+use Prim.Native.Nat.{ℕ}
 use mathlib.Core.List.{List}
 use lib.ListN.{length}
 use lib.Dec.{eqb}
@@ -30,7 +30,7 @@ use Rattle.bulletin.proofs.Merging.MergingOutcomes.{merged-said}
 use Rattle.record_bytes.specs.Packed.{packed}
 use Rattle.record_bytes.specs.Unpacked.{recordFrom}
 use Rattle.store_bytes.specs.Stores.{nameFrom, storeBytes, storeOrZeros}
-use Rattle.inserter.specs.Answers.{CallResult, answerWord, countAnswer, countWordBy, handedOver, lengthOrRefusal, mergeInto, openInto, parityAnswer, readInto, readLineInto, readingInto, takeInto, takenWord, textInto, textResult, writeInto, writeResult}
+use Rattle.inserter.specs.Answers.{CallResult, answerWord, countAnswer, countWordBy, handedOver, ifLengthsFit, lengthOrRefusal, mergeInto, openInto, parityAnswer, readInto, readLineInto, readingInto, takeInto, takenWord, textInto, textResult, writeInto, writeResult}
 use Rattle.inserter.proofs.HandedOver.{fits-not, word-of}
 use Rattle.inserter.proofs.Reading.{reading-fits}
 use Rattle.inserter.proofs.StoreDoors.{opening-whole}
@@ -71,6 +71,12 @@ open-told name buffer e f =
     ap (λ (l : CallResult). l .answer) (opening-whole name buffer e f)
     ∙ word-of (o .answer) (storeBytes (o .store)) buffer
     ∙ ap answerWord (opened-said (nameFrom name) o refl .1)
+
+pub no-name : (name buffer : List ℕ) → (length name ≡ 8 → ⊥) → openInto name buffer .answer ≡ answerWord (plain 255)
+unfolding openInto
+no-name name buffer n =
+    let o = openOf (nameFrom name) in
+    ap (λ (b : Bool). ifLengthsFit (b && eqb (length buffer) 1205) (handedOver (o .answer) (storeBytes (o .store)) buffer) buffer .answer) (ne-eqb (length name) 8 n)
 
 pub take-told : (buffer bytes : List ℕ) (t : Taken) → takeOf (storeOrZeros buffer) (recordFrom bytes) .answer ≡ t → takeInto buffer bytes .answer ≡ takenWord t
 take-told buffer bytes t e = ap takenWord e
