@@ -7,7 +7,7 @@ use lib.Dec.{leb, eqb}
 use Rattle.rows.specs.declared.refusal.Refusal.the-variants.{Range, Spare}
 use Rattle.hypocenter.specs.declared.Quake.{Quake}
 use Rattle.rows.specs.Runs.Questions.{_then_, unless}
-use Rattle.rows.specs.Layout.{_to_, time}
+use Rattle.rows.specs.Layout.{_to_, notified, time}
 use Rattle.hypocenter.specs.Hypocenter.{angle, hypocenter, angleValues, quakeValues}
 use Rattle.rows.specs.Runs.Verdict.{allowed, judge, walk}
 use Rattle.rows.specs.Values.{timeValues}
@@ -18,9 +18,9 @@ use Rattle.rows.proofs.Rules.Spans.{allowed-one}
 pub quake-walk : (q : Quake) (x : ℕ)
     → walk [] (hypocenter .front) (quakeValues q x 0 .front)
     ≡ unless (eqb x 0) (Spare 43)
-    then unless (allowed (0 to 0 ∷ 101 to 500 ∷ []) (q .notification1)) (Range 53)
-    then unless (allowed (0 to 0 ∷ 101 to 500 ∷ []) (q .notification2)) (Range 62)
-    then unless (allowed (0 to 0 ∷ 101 to 500 ∷ []) (q .notification3)) (Range 71)
+    then unless (allowed notified (q .notification1)) (Range 53)
+    then unless (allowed notified (q .notification2)) (Range 62)
+    then unless (allowed notified (q .notification3)) (Range 71)
     then walk [] (time 80) (timeValues (q .time))
     then unless (allowed (0 to 501 ∷ 511 to 511 ∷ []) (q .depth)) (Range 96)
     then unless (allowed (1 to 101 ∷ 126 to 126 ∷ 127 to 127 ∷ []) (q .magnitude)) (Range 105)

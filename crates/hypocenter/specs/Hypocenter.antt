@@ -6,15 +6,12 @@ use lib.Dec.{eqb, leb}
 use lib.ListN.{getD}
 use Rattle.hypocenter.specs.declared.angle.Angle.{Angle}
 use Rattle.hypocenter.specs.declared.Quake.{Quake}
-use Rattle.rows.specs.Layout.{_to_, time, within, among, spare, twoOrSeven, uncorrected, spare1, noSlots, row, Rule, Row, Layout}
+use Rattle.rows.specs.Layout.{_to_, time, notifications, within, among, spare, twoOrSeven, uncorrected, spare1, noSlots, row, Rule, Row, Layout}
 use Rattle.hypocenter.specs.declared.meaning.Depth.{Depth}
 use Rattle.hypocenter.specs.declared.meaning.Depth.the-variants.{Kilometres, Deeper, Unknown, OutOfRange}
 use Rattle.hypocenter.specs.declared.meaning.Magnitude.{Magnitude}
 use Rattle.rows.specs.Values.{timeFrom, timeValues, Sides}
 use Rattle.hypocenter.specs.declared.meaning.Magnitude.the-variants.{InRange, UnknownAboveEight, Unknown as NoMagnitude, OutOfRange as NotAMagnitude}
-
-abbrev pub notification : Rule
-notification = among (0 to 0 ∷ 101 to 500 ∷ [])
 
 abbrev pub depth : Rule
 depth = among (0 to 501 ∷ 511 to 511 ∷ [])
@@ -34,10 +31,8 @@ hypocenter = record {
   types = uncorrected;
   front =
       spare1
-      ∷ row 53 9 notification
-      ∷ row 62 9 notification
-      ∷ row 71 9 notification
-      ∷ time 80
+      ∷ notifications
+      ++ time 80
       ++ row 96 9 depth
       ∷ row 105 7 magnitude
       ∷ row 112 10 (within 11 1000)  -- epicenter

@@ -6,15 +6,6 @@ ghost use Rattle.rows.specs.Runs.Verdict.{allowed};
 use crate::meaning::Depth;
 use crate::meaning::Magnitude;
 
-pub(crate) fn is_notification(v: u16) -> bool
-    ensures { λ r. ⌜ r ≡ allowed (0 to 0 ∷ 101 to 500 ∷ []) v ⌝ }
-{
-    match v {
-        0 | 101..=500 => true,
-        _ => false,
-    }
-}
-
 pub(crate) fn is_depth(v: u16) -> bool
     ensures { λ r. ⌜ r ≡ allowed (0 to 501 ∷ 511 to 511 ∷ []) v ⌝ }
 {

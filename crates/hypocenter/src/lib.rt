@@ -14,7 +14,7 @@ pub mod angle; // a latitude or a longitude
 use crate::angle::Angle;
 use crate::codes::is_depth;
 use crate::codes::is_magnitude;
-use crate::codes::is_notification;
+use rows::codes::is_notification;
 use rows::codes::is_two_or_seven;
 use rows::codes::is_uncorrected;
 use rows::common::Common;

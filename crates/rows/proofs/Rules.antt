@@ -1,6 +1,7 @@
 pub mod Outcomes
 pub mod Spans
 pub mod Kinds
+pub mod Groups
 pub mod Tests
 pub mod Judged
 pub mod JudgedRows

@@ -53,3 +53,9 @@ Time-of-values-is-settled κs a x y = answer
 
 pub Common-of-zeros-is-settled : Settled rows.common.Common.of_zeros.ended rows.common.Common.of_zeros.Reads.Post
 Common-of-zeros-is-settled κs a x y = answer
+
+pub Verdict-in-group-is-settled : Settled rows.refusal.Verdict.in_group.ended rows.refusal.Verdict.in_group.Reads.Post
+Verdict-in-group-is-settled κs a x y = answer
+
+pub is-notification-is-settled : Settled rows.codes.is_notification.ended rows.codes.is_notification.Reads.Post
+is-notification-is-settled κs a x y = answer

@@ -3,7 +3,7 @@ use Prim.Native.Nat.{ℕ, _+_, _≤_}
 use mathlib.Core.Path.{_≡_}
 use mathlib.Core.Logic.{_⊎_}
 use mathlib.Core.List.{List, _∷_, []}
-use Rattle.rows.specs.Layout.{Span, _to_, Ask, inSpans, fromLast, Rule, asks, spare, Row, Slots, Layout, common, ending, slotRows}
+use Rattle.rows.specs.Layout.{Span, _to_, Codes, Member, Ask, inSpans, fromLast, inGroup, Rule, asks, spare, Row, Slots, Layout, common, ending, slotRows}
 use Rattle.rows.specs.Values.{Values}
 
 -- the value lies in one of the spans
@@ -16,10 +16,21 @@ abbrev pub latest : List ℕ → ℕ
 latest [] = 0
 latest (b ∷ past) = b
 
+-- the values start with the codes
+abbrev pub StartsWith : List ℕ → List ℕ → Type 0
+StartsWith [] vs = Unit
+StartsWith (c ∷ cs) [] = ⊥
+StartsWith (c ∷ cs) (v ∷ vs) = (v ≡ c) × StartsWith cs vs
+
+-- each field of a group has its code
+abbrev pub Together : Codes → List ℕ → ℕ → List ℕ → Type 0
+Together c past v next = StartsWith (c .before) past × ((v ≡ c .own) × StartsWith (c .behind) next)
+
 -- the value is what is asked for; `past` are the values before it, the latest first, and `next` those behind it
 abbrev pub Asked : Ask → List ℕ → ℕ → List ℕ → Type 0
 Asked (inSpans ss) past v next = In ss v
 Asked (fromLast hi) past v next = (latest past ≤ v) × (v ≤ hi)
+Asked (inGroup ss c) past v next = In ss v ⊎ Together c past v next
 
 -- the value keeps the rule
 abbrev pub Keeps : Rule → List ℕ → ℕ → List ℕ → Type 0
@@ -31,6 +42,12 @@ abbrev pub Kept : List ℕ → List Row → List ℕ → Type 0
 Kept past [] vs = Unit
 Kept past (r ∷ rs) [] = Unit
 Kept past (r ∷ rs) (v ∷ vs) = Keeps (r .rule) past v vs × Kept (v ∷ past) rs vs
+
+-- each value of a group lies in its normal range
+abbrev pub AllNormal : List Member → List ℕ → Type 0
+AllNormal [] vs = Unit
+AllNormal (m ∷ ms) [] = Unit
+AllNormal (m ∷ ms) (v ∷ vs) = In (m .normal) v × AllNormal ms vs
 
 abbrev pub Empty : List ℕ → Type 0
 Empty [] = Unit

@@ -10,10 +10,19 @@ infixl 70 _to_
 pub data Span : Type 0 where
   _to_ : ℕ → ℕ → Span
 
--- what may be asked of a value: that it lies in one of these spans; that it lies between the value before it and this one
+-- codes that speak for a group of fields at once, as one of the fields sees them: those of the fields before it, the latest first,
+-- its own, and those of the fields behind it
+pub record Codes : Type 0 where
+  pub before : List ℕ
+  pub own : ℕ
+  pub behind : List ℕ
+
+-- what may be asked of a value: that it lies in one of these spans; that it lies between the value before it and this one; that it
+-- lies in one of these spans, or all fields of its group have their codes
 pub data Ask : Type 0 where
   inSpans : List Span → Ask
   fromLast : ℕ → Ask
+  inGroup : List Span → Codes → Ask
 
 -- what a field may hold: a value of which something is asked; nothing
 pub data Rule : Type 0 where
@@ -39,6 +48,36 @@ within lo hi = among (lo to hi ∷ [])
 
 abbrev pub only : ℕ → Rule
 only v = within v v
+
+-- ---- groups: "a code that speaks for hour and minute together must have both"
+
+-- a field of a group: its bits, its normal range, and its code
+pub record Member : Type 0 where
+  pub width : ℕ
+  pub normal : List Span
+  pub code : ℕ
+
+abbrev pub member : ℕ → ℕ → ℕ → ℕ → Member
+member w lo hi code = record { width = w; normal = lo to hi ∷ []; code = code }
+
+abbrev pub codesOf : List Member → List ℕ
+codesOf [] = []
+codesOf (m ∷ ms) = m .code ∷ codesOf ms
+
+-- the rows of the fields from the bit a on, behind fields of the same group with the codes `past`, the latest first
+abbrev pub grouped : ℕ → List ℕ → List Member → List Row
+grouped a past [] = []
+grouped a past (m ∷ ms) =
+    row a (m .width) (asks (inGroup (m .normal) (record { before = past; own = m .code; behind = codesOf ms })))
+    ∷ grouped (a + m .width) (m .code ∷ past) ms
+
+abbrev pub group : ℕ → List Member → List Row
+group a ms = grouped a [] ms
+
+-- the same fields without their codes
+abbrev pub ungrouped : ℕ → List Member → List Row
+ungrouped a [] = []
+ungrouped a (m ∷ ms) = row a (m .width) (among (m .normal)) ∷ ungrouped (a + m .width) ms
 
 -- which of its fields a slot of the record has in a category
 pub record Parts : Type 0 where
@@ -93,6 +132,13 @@ ending =
 -- "Rc: 2 or 7"
 abbrev pub twoOrSeven : List Span
 twoOrSeven = 2 to 2 ∷ 7 to 7 ∷ []
+
+-- "Three notifications at 53, 62, 71, 9 bits each: 0 or 101-500"
+abbrev pub notified : List Span
+notified = 0 to 0 ∷ 101 to 500 ∷ []
+
+abbrev pub notifications : List Row
+notifications = row 53 9 (among notified) ∷ row 62 9 (among notified) ∷ row 71 9 (among notified) ∷ []
 
 -- "It: 0 or 2; in category 9 also 1": issue, cancellation, and correction
 abbrev pub uncorrected : List Span
@@ -158,6 +204,7 @@ allBelow n ((lo to hi) ∷ ss) = leb lo hi && (ltb hi n && allBelow n ss)
 abbrev pub bounded : Ask → ℕ → Bool
 bounded (inSpans ss) n = allBelow n ss
 bounded (fromLast hi) n = ltb hi n
+bounded (inGroup ss c) n = allBelow n ss && ltb (c .own) n
 
 abbrev pub fitting : Rule → ℕ → Bool
 fitting (asks a) w = bounded a (2 ^ w)

@@ -1,6 +1,6 @@
-// Which values of Rc and It several categories have, one value at a time.
+// Which values several categories have in Rc, in It and in a notification, one value at a time.
 ghost use mathlib.Core.Path.{_≡_};
-ghost use Rattle.rows.specs.Layout.{twoOrSeven, uncorrected, corrected};
+ghost use Rattle.rows.specs.Layout.{twoOrSeven, uncorrected, corrected, notified};
 ghost use Rattle.rows.specs.Runs.Verdict.{allowed};
 
 pub fn is_two_or_seven(v: u8) -> bool
@@ -27,4 +27,14 @@ pub fn is_corrected(v: u8) -> bool
     ensures { λ r. ⌜ r ≡ allowed corrected v ⌝ }
 {
     v <= 2
+}
+
+// None, or the code of a notification.
+pub fn is_notification(v: u16) -> bool
+    ensures { λ r. ⌜ r ≡ allowed notified v ⌝ }
+{
+    match v {
+        0 | 101..=500 => true,
+        _ => false,
+    }
 }

@@ -1,6 +1,6 @@
 // One question after another; the first refusal is the answer.
 ghost use mathlib.Core.Path.{_≡_};
-ghost use mathlib.Core.Bool.{_&&_};
+ghost use mathlib.Core.Bool.{_&&_, _||_};
 ghost use lib.Dec.{leb, eqb};
 ghost use Rattle.rows.specs.Runs.Questions.{_then_, unless};
 ghost use Rattle.rows.specs.Runs.Verdict.{ranged};
@@ -40,6 +40,17 @@ impl Verdict {
         ensures { λ r. ⌜ r ≡ self then ranged (leb lo v && leb v hi) at ⌝ }
     {
         self.ranged(at, between(v, lo, hi))
+    }
+
+    // A field of a group, whose codes speak for all of its fields: 8, unless the value lies in its normal range or
+    // all fields of the group have their codes.
+    pub fn in_group(self, at: u8, v: u64, lo: u64, hi: u64, together: bool) -> Verdict
+        ensures { λ r. ⌜ r ≡ self then ranged (leb lo v && leb v hi || together) at ⌝ }
+    {
+        if together {
+            return self;
+        }
+        self.within(at, v, lo, hi)
     }
 
     pub fn spare(self, at: u8, v: u64) -> Verdict

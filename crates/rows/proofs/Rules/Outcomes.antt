@@ -97,3 +97,7 @@ left-or a b e = rw e
 pub right-or : (a b : Bool) → b ≡ true → a || b ≡ true
 right-or true b e = refl
 right-or false b e = e
+
+pub or-none : (a b : Bool) → b ≡ false → a || b ≡ a
+or-none true b e = refl
+or-none false b e = e

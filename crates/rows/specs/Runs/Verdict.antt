@@ -8,7 +8,7 @@ use Rattle.rows.specs.declared.refusal.Verdict.{Verdict}
 use Rattle.rows.specs.declared.refusal.Verdict.the-variants.{Fine}
 use Rattle.rows.specs.declared.refusal.Refusal.the-variants.{Range, Spare, Gap}
 use Rattle.rows.specs.Runs.Questions.{_then_, unless}
-use Rattle.rows.specs.Layout.{Span, _to_, Ask, inSpans, fromLast, Rule, asks, spare, Row, Slots, Layout, common, ending, slotRows}
+use Rattle.rows.specs.Layout.{Span, _to_, Codes, Ask, inSpans, fromLast, inGroup, Rule, asks, spare, Row, Slots, Layout, common, ending, slotRows}
 use Rattle.rows.specs.Kept.{latest}
 use Rattle.rows.specs.Values.{Values, Sides}
 use Rattle.rows.specs.declared.common.Common.{Common}
@@ -23,10 +23,21 @@ allowed ((lo to hi) ∷ ss) v = leb lo v && leb v hi || allowed ss v
 abbrev pub ranged : Bool → ℕ → Verdict
 ranged met at = unless met (Range at)
 
+-- the values start with the codes
+abbrev pub startsWith : List ℕ → List ℕ → Bool
+startsWith [] vs = true
+startsWith (c ∷ cs) [] = false
+startsWith (c ∷ cs) (v ∷ vs) = eqb v c && startsWith cs vs
+
+-- each field of a group has its code
+abbrev pub together : Codes → List ℕ → ℕ → List ℕ → Bool
+together c past v next = startsWith (c .before) past && (eqb v (c .own) && startsWith (c .behind) next)
+
 -- the value v is what is asked for, behind the values `past`, the latest first, and before the values `next`
 abbrev pub meets : Ask → List ℕ → ℕ → List ℕ → Bool
 meets (inSpans ss) past v next = allowed ss v
 meets (fromLast hi) past v next = leb (latest past) v && leb v hi
+meets (inGroup ss c) past v next = allowed ss v || together c past v next
 
 -- the value v at the bit `at`, behind the values `past`, the latest first, and before the values `next`
 unfoldable pub judge : Rule → ℕ → List ℕ → ℕ → List ℕ → Verdict
