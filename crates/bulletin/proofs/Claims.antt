@@ -28,7 +28,7 @@ use Rattle.bulletin.specs.declared.count.Count.{Count}
 use Rattle.rows.proofs.Rules.Outcomes.{not-both}
 use Rattle.report.proofs.Claims.{refusals-are-1-to-17}
 use Rattle.bulletin.proofs.Taking.TakingOutcomes.{of-bulletin, writable-record}
-use Rattle.pages.proofs.Ranges.{first-bad-value}
+use Rattle.pages.proofs.Ranges.{first-bad-value, name-rc}
 use Rattle.bulletin.proofs.Taking.TakenOrRefused.{put-answer}
 use Rattle.bulletin.proofs.Taking.HeldTexts.{taking-keeps}
 use Rattle.report.specs.declared.body.Body.the-variants.{Nankai}
@@ -44,6 +44,10 @@ every-name-in-range-is-opened n e = ap (λ (v : Verdict). opening v n) e
 -- "Opening: 8 at the first bad value in frame order": of the values of the bulletin's first page, by the table of category 4
 pub opening-is-refused-at-the-first-bad-value : (n : Name) (x : Refusal) → nameVerdict n ≡ Refused x → Lowest nankai (nameValues n) x
 opening-is-refused-at-the-first-bad-value = first-bad-value
+
+-- "Rc: 2 or 7": so it is in the name of a bulletin, though a category may have others
+pub a-name-in-range-has-rc-2-or-7 : (n : Name) → nameVerdict n ≡ Fine → (n .common .rc ≡ 2) ⊎ (n .common .rc ≡ 7)
+a-name-in-range-has-rc-2-or-7 = name-rc
 
 -- "a refused opening [gives] a store of zeros"
 pub a-refused-opening-gives-zeros : (n : Name) (x : Refusal) → nameVerdict n ≡ Refused x → openOf n .store ≡ zeroStore

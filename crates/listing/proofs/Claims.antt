@@ -1,9 +1,10 @@
 -- What is claimed of the listing (document 01, "The listing").
 use Rattle.report.specs.declared.record.Record.{Record}
 use Rattle.report.specs.declared.body.Body.{Body}
-use Rattle.report.specs.declared.body.Body.the-variants.{AshFall, Hypocenter, Intensity, Nankai}
+use Rattle.report.specs.declared.body.Body.the-variants.{AshFall, Hypocenter, Intensity, Nankai, Tsunami}
 use Rattle.intensity.specs.declared.Shaking.{Shaking}
 use Rattle.ash_fall.specs.declared.Eruption.{Eruption}
+use Rattle.tsunami.specs.declared.Warning.{Warning}
 use Rattle.hypocenter.specs.declared.Quake.{Quake}
 use Rattle.nankai.specs.declared.PageNumbers.{PageNumbers}
 use Rattle.report.specs.Meaning.{usedOf}
@@ -144,9 +145,13 @@ carriage-return-makes-17 n a b = other-byte-makes-17 n a b 13 refl
 pub empty-line-makes-17 : (n : ℕ) → lineRow n [] ≡ row17 n
 empty-line-makes-17 n = other-length-makes-17 n [] (λ e. omega arith)
 
--- "slots used in categories 3 and 9": the number of used slots there, and nothing in the others
+-- "slots used in categories 3 and 9", and of category 5 "the listing counts them as slots": the number of used slots there, and nothing
+-- in the others
 pub slots-are-shown-in-category-3 : (r : Record) (t : Shaking) → r .body ≡ Intensity t → rowFor Fine r .slots ≡ Number (usedOf r)
 slots-are-shown-in-category-3 r t e = ap (λ (b : Body). slotsEntry (layout b .slots .count) (usedOf r)) e
+
+pub slots-are-shown-in-category-5 : (r : Record) (w : Warning) → r .body ≡ Tsunami w → rowFor Fine r .slots ≡ Number (usedOf r)
+slots-are-shown-in-category-5 r w e = ap (λ (b : Body). slotsEntry (layout b .slots .count) (usedOf r)) e
 
 pub slots-are-shown-in-category-9 : (r : Record) (u : Eruption) → r .body ≡ AshFall u → rowFor Fine r .slots ≡ Number (usedOf r)
 slots-are-shown-in-category-9 r u e = ap (λ (b : Body). slotsEntry (layout b .slots .count) (usedOf r)) e

@@ -2,6 +2,8 @@
 use mathlib.Core.List.{[]}
 use mathlib.Core.Path.{_≡_, refl, _∙_}
 use mathlib.Core.Bool.{true}
+use mathlib.Core.Logic.{_⊎_, inl, inr, ⊎-elim}
+use native.Mathlib.Omega.{arith}
 use Prim.Native.Nat.{_≤_, ℕ, suc, zero}
 use Rattle.rows.specs.declared.refusal.Verdict.{Verdict}
 use Rattle.rows.specs.declared.refusal.Verdict.the-variants.{Fine, Refused}
@@ -35,6 +37,10 @@ judges n = judged nankai (nameValues n) refl refl
 fine-holds : (n : Name) → nameVerdict n ≡ Fine → Holds nankai (nameValues n)
 unfolding nameVerdict
 fine-holds n h = judges n .passed h
+
+-- its Rc is one of category 4, whatever other categories have
+pub name-rc : (n : Name) → nameVerdict n ≡ Fine → (n .common .rc ≡ 2) ⊎ (n .common .rc ≡ 7)
+name-rc n h = ⊎-elim (λ k. inl (omega arith)) (λ q. ⊎-elim (λ k. inr (omega arith)) (λ z. absurd z) q) (fine-holds n h .head .1 .0)
 
 -- and where it is not, no value that breaks its rule has a lower bit than the one that is named
 pub first-bad-value : (n : Name) (x : Refusal) → nameVerdict n ≡ Refused x → Lowest nankai (nameValues n) x

@@ -1,7 +1,7 @@
 -- A record as 251 bytes, for callers that know bytes only. Each number stands in its own width, the most significant byte
 -- first:
 --
---   0           the category: 2, 3, 4, 9, or 0 where there is none
+--   0           the category: 2, 3, 4, 5, 9, or 0 where there is none
 --   1           preamble
 --   2           Reserved
 --   3           Rc

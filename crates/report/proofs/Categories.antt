@@ -1,6 +1,6 @@
 -- What is known of each category: its table is listed, and a body and its values tell each other. A category that is added has its
 -- lines here; the other laws go by these.
-use Rattle.report.specs.declared.body.Body.the-variants.{AshFall, Hypocenter, Intensity, Nankai, NoCategory}
+use Rattle.report.specs.declared.body.Body.the-variants.{AshFall, Hypocenter, Intensity, Nankai, NoCategory, Tsunami}
 use Rattle.report.specs.declared.body.Body.{Body}
 use mathlib.Core.Bool.{Bool, _&&_, false, true, not}
 use lib.Dec.{eqb}
@@ -28,6 +28,7 @@ use lib.ListN.{getD, length, drop, replicate}
 use Rattle.hypocenter.specs.Hypocenter.{hypocenter, quakeFrom, quakeValues}
 use Rattle.intensity.specs.Intensity.{intensity, shakingFrom}
 use Rattle.nankai.specs.Nankai.{nankai, numbersFrom}
+use Rattle.tsunami.specs.Tsunami.{tsunami, warningFrom}
 use Rattle.report.specs.Categories.{bodyFrom, categories, layout, sidesOf, pagedOf}
 use Rattle.report.specs.declared.body.Paged.the-variants.{NoPages, Numbers}
 use Rattle.nankai.specs.declared.PageNumbers.{PageNumbers}
@@ -35,7 +36,7 @@ use Rattle.nankai.specs.declared.PageNumbers.{PageNumbers}
 -- ---- tables
 
 abbrev pub layouts : List Layout
-layouts = noCategory ∷ hypocenter ∷ intensity ∷ nankai ∷ ashFall ∷ []
+layouts = noCategory ∷ hypocenter ∷ intensity ∷ nankai ∷ tsunami ∷ ashFall ∷ []
 
 abbrev pub all : (Layout → Bool) → List Layout → Bool
 all test [] = true
@@ -47,13 +48,15 @@ placeOf NoCategory = 0
 placeOf (Hypocenter q) = 1
 placeOf (Intensity t) = 2
 placeOf (Nankai p) = 3
-placeOf (AshFall e) = 4
+placeOf (Tsunami w) = 4
+placeOf (AshFall e) = 5
 
 in-list : (b : Body) → getD layouts (placeOf b) noCategory ≡ layout b
 in-list NoCategory = refl
 in-list (Hypocenter q) = refl
 in-list (Intensity t) = refl
 in-list (Nankai p) = refl
+in-list (Tsunami w) = refl
 in-list (AshFall e) = refl
 
 one-of-all : (test : Layout → Bool) (ls : List Layout) (i : ℕ) (d : Layout) → all test ls ≡ true → test d ≡ true → test (getD ls i d) ≡ true
@@ -73,6 +76,7 @@ sides-filled NoCategory x y = (refl, refl)
 sides-filled (Hypocenter q) x y = (refl, refl)
 sides-filled (Intensity t) x y = (refl, refl)
 sides-filled (Nankai p) x y = (refl, refl)
+sides-filled (Tsunami w) x y = (refl, refl)
 sides-filled (AshFall e) x y = (refl, refl)
 
 -- a body is what its values say
@@ -82,6 +86,7 @@ body-again NoCategory x y v e = refl
 body-again (Hypocenter q) x y v e = ap (λ (s : Sides). Hypocenter (quakeFrom s)) e
 body-again (Intensity t) x y v e = ap (λ (s : Sides). Intensity (shakingFrom s)) e
 body-again (Nankai p) x y v e = ap (λ (s : Sides). Nankai (numbersFrom s)) e
+body-again (Tsunami w) x y v e = ap (λ (s : Sides). Tsunami (warningFrom s)) e
 body-again (AshFall u) x y v e = ap (λ (s : Sides). AshFall (eruptionFrom s)) e
 
 not-paged : (p : PageNumbers) → NoPages ≡ Numbers p → ⊥
@@ -96,7 +101,8 @@ told-apart NoCategory = inl refl
 told-apart (Hypocenter q) = inr (inl (omega arith, omega arith))
 told-apart (Intensity t) = inr (inr (inl (omega arith, omega arith)))
 told-apart (Nankai p) = inr (inr (inr (inl (omega arith, omega arith))))
-told-apart (AshFall e) = inr (inr (inr (inr (inl (omega arith, omega arith)))))
+told-apart (Tsunami w) = inr (inr (inr (inr (inl (omega arith, omega arith)))))
+told-apart (AshFall e) = inr (inr (inr (inr (inr (inl (omega arith, omega arith))))))
 
 -- category 4 alone brings a page
 pub page-or-none : (b : Body) → ((p : PageNumbers) × (b ≡ Nankai p)) ⊎ (pagedOf b ≡ NoPages)
@@ -104,6 +110,7 @@ page-or-none NoCategory = inr refl
 page-or-none (Hypocenter q) = inr refl
 page-or-none (Intensity t) = inr refl
 page-or-none (Nankai p) = inl (p, refl)
+page-or-none (Tsunami w) = inr refl
 page-or-none (AshFall e) = inr refl
 
 pub paged-back : (b : Body) (p : PageNumbers) → pagedOf b ≡ Numbers p → b ≡ Nankai p
@@ -118,16 +125,18 @@ text-apart NoCategory = inl refl
 text-apart (Hypocenter q) = inl refl
 text-apart (Intensity t) = inl refl
 text-apart (Nankai p) = inr refl
+text-apart (Tsunami w) = inl refl
 text-apart (AshFall e) = inl refl
 
 -- ---- codes
 
 -- what holds of each category holds of all
-by-category : (P : ℕ → Type 0) → P 2 → P 3 → P 4 → P 9 → (dc : ℕ) → In categories dc → P dc
-by-category P two three four nine dc h =
+by-category : (P : ℕ → Type 0) → P 2 → P 3 → P 4 → P 5 → P 9 → (dc : ℕ) → In categories dc → P dc
+by-category P two three four five nine dc h =
     ⊎-elim (λ k. subst P (only 2 dc k) two)
     (λ h. ⊎-elim (λ k. subst P (only 3 dc k) three)
-    (λ h. ⊎-elim (λ k. subst P (only 4 dc k) four) (λ h. ⊎-elim (λ k. subst P (only 9 dc k) nine) (λ h. absurd h) h) h) h)
+    (λ h. ⊎-elim (λ k. subst P (only 4 dc k) four)
+    (λ h. ⊎-elim (λ k. subst P (only 5 dc k) five) (λ h. ⊎-elim (λ k. subst P (only 9 dc k) nine) (λ h. absurd h) h) h) h) h)
     h
   where
     only : (n dc : ℕ) → (n ≤ dc) × (dc ≤ n) → n ≡ dc
@@ -141,27 +150,28 @@ no-category v dc h = simp (
   ne-eqb dc 2 (λ e. h (inl (omega arith, omega arith))),
   ne-eqb dc 3 (λ e. h (inr (inl (omega arith, omega arith)))),
   ne-eqb dc 4 (λ e. h (inr (inr (inl (omega arith, omega arith))))),
-  ne-eqb dc 9 (λ e. h (inr (inr (inr (inl (omega arith, omega arith)))))),
+  ne-eqb dc 5 (λ e. h (inr (inr (inr (inl (omega arith, omega arith)))))),
+  ne-eqb dc 9 (λ e. h (inr (inr (inr (inr (inl (omega arith, omega arith))))))),
 )
 
 -- what holds of each category and of no category holds of every code
-by-code : (P : ℕ → Type 0) → P 2 → P 3 → P 4 → P 9 → ((dc : ℕ) → (In categories dc → ⊥) → P dc) → (dc : ℕ) → P dc
-by-code P two three four nine none dc = by (allowed categories dc) refl
+by-code : (P : ℕ → Type 0) → P 2 → P 3 → P 4 → P 5 → P 9 → ((dc : ℕ) → (In categories dc → ⊥) → P dc) → (dc : ℕ) → P dc
+by-code P two three four five nine none dc = by (allowed categories dc) refl
   where
     by : (b : Bool) → allowed categories dc ≡ b → P dc
-    by true e = by-category P two three four nine dc (allowed-in categories dc e)
+    by true e = by-category P two three four five nine dc (allowed-in categories dc e)
     by false e = none dc (λ h. false-not-true (sym e ∙ in-allowed categories dc h))
 
 -- it has a category exactly where the code is a category's
 pub known-code : (v : Layout → Sides) (dc : ℕ) → not (eqb (layout (bodyFrom v dc) .code) 0) ≡ allowed categories dc
 unfolding bodyFrom allowed
-known-code v = by-code (λ (dc : ℕ). not (eqb (layout (bodyFrom v dc) .code) 0) ≡ allowed categories dc) refl refl refl refl
+known-code v = by-code (λ (dc : ℕ). not (eqb (layout (bodyFrom v dc) .code) 0) ≡ allowed categories dc) refl refl refl refl refl
     (λ dc h. ap (λ (b : Body). not (eqb (layout b .code) 0)) (no-category v dc h) ∙ sym (not-allowed categories dc h))
 
 -- its table goes by the code alone, and it by the values that the table's rows have
 pub made-alike : (v w : Layout → Sides) (dc : ℕ) → layout (bodyFrom v dc) ≡ layout (bodyFrom w dc)
 unfolding bodyFrom
-made-alike v w = by-code (λ (dc : ℕ). layout (bodyFrom v dc) ≡ layout (bodyFrom w dc)) refl refl refl refl
+made-alike v w = by-code (λ (dc : ℕ). layout (bodyFrom v dc) ≡ layout (bodyFrom w dc)) refl refl refl refl refl
     (λ dc h. ap layout (no-category v dc h ∙ sym (no-category w dc h)))
 
 pub same-body : (v w : Layout → Sides) (dc : ℕ) → v (layout (bodyFrom v dc)) ≡ w (layout (bodyFrom v dc)) → bodyFrom v dc ≡ bodyFrom w dc
@@ -170,6 +180,7 @@ same-body v w = by-code (λ (dc : ℕ). v (layout (bodyFrom v dc)) ≡ w (layout
     (λ e. ap (λ (s : Sides). Hypocenter (quakeFrom s)) e)
     (λ e. ap (λ (s : Sides). Intensity (shakingFrom s)) e)
     (λ e. ap (λ (s : Sides). Nankai (numbersFrom s)) e)
+    (λ e. ap (λ (s : Sides). Tsunami (warningFrom s)) e)
     (λ e. ap (λ (s : Sides). AshFall (eruptionFrom s)) e)
     (λ dc h e. no-category v dc h ∙ sym (no-category w dc h))
 
@@ -181,7 +192,7 @@ pub record Suits (s : List ℕ) (dc : ℕ) : Type 0 where
 
 pub suits : (s : List ℕ) (dc : ℕ) → In categories dc → Suits s dc
 unfolding bodyFrom
-suits s = by-category (Suits s) (record { code = refl; sides = refl }) (record { code = refl; sides = refl }) (record { code = refl; sides = refl }) (record { code = refl; sides = refl })
+suits s = by-category (Suits s) (record { code = refl; sides = refl }) (record { code = refl; sides = refl }) (record { code = refl; sides = refl }) (record { code = refl; sides = refl }) (record { code = refl; sides = refl })
 
 -- ---- spares of zero
 
@@ -216,15 +227,17 @@ sides-spared NoCategory = search
 sides-spared (Hypocenter q) = ((refl, all-spared (drop 1 (hypocenter .front)) (drop 1 (quakeValues q 0 0 .front)) refl), (refl, tt))
 sides-spared (Intensity t) = search
 sides-spared (Nankai p) = search
+sides-spared (Tsunami w) = search
 sides-spared (AshFall e) = search
 
 -- ---- a record of each category, so that there is one
 
+-- 7, training, is an Rc of every category
 abbrev sample : Body → List Slot → List ℕ → Record
 sample b ss t = record {
   preamble = 0x53;
   reserved = 0;
-  common = record { rc = 2; month = 1; day = 1; hour = 0; minute = 0; it = 0 };
+  common = record { rc = 7; month = 1; day = 1; hour = 0; minute = 0; it = 0 };
   body = b;
   slots = ss ++ replicate (16 - length ss) noSlot;
   text = t;
@@ -251,4 +264,5 @@ samples =
     })) [] (replicate 18 0)
     ∷ sample (Intensity (record { time = midnight })) (record { day = 0; hour = 0; minute = 0; strength = 4; place = 44 } ∷ []) (replicate 18 0)
     ∷ sample (Nankai (record { serial = 1; number = 1; total = 1 })) [] (replicate 18 65)
+    ∷ sample (Tsunami (record { notification1 = 101; notification2 = 0; notification3 = 0; code = 3 })) (record { day = 0; hour = 31; minute = 63; strength = 3; place = 600 } ∷ []) (replicate 18 0)
     ∷ sample (AshFall (record { time = midnight; warning = 1; volcano = 101 })) (record { day = 0; hour = 1; minute = 0; strength = 1; place = 110000 } ∷ []) (replicate 18 0) ∷ []

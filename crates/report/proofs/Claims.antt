@@ -1,9 +1,10 @@
 -- What is proved of the definitions of this crate, each claim with the sentence of document 01 that it settles.
 use mathlib.Core.Path.{_≡_, ap, refl}
 use mathlib.Core.Bool.{true, false}
-use mathlib.Core.List.{List, [], map, _∷_}
+use mathlib.Core.Logic.{_⊎_, _↔_}
+use mathlib.Core.List.{List, [], map, _∷_, _++_}
 use Prim.Native.Nat.{ℕ, _≤_, _<_}
-use lib.ListN.{length, getD}
+use lib.ListN.{length, getD, drop}
 use types.Run.{OneOf}
 use Rattle.bits.specs.Frame.{Bytes, bytesOf, fieldOf}
 use Rattle.rows.specs.declared.refusal.Verdict.{Verdict}
@@ -12,10 +13,10 @@ use Rattle.rows.specs.declared.refusal.Refusal.{Refusal}
 use Rattle.rows.specs.declared.refusal.Refusal.the-variants.{Range, Gap}
 use Rattle.report.specs.declared.record.Record.{Record}
 use Rattle.rows.specs.Refusals.{says, answers}
-use Rattle.rows.specs.Layout.{allRows, tiles, allFit, lowest}
+use Rattle.rows.specs.Layout.{allRows, tiles, allFit, lowest, Row, Member, codesOf, group, ungrouped}
 use Rattle.report.specs.Records.{bodyOf, recordOf, zeros, values}
 use Rattle.rows.specs.Values.{valuesOf}
-use Rattle.rows.specs.Runs.Verdict.{empty}
+use Rattle.rows.specs.Runs.Verdict.{allowed, empty, walk}
 use Rattle.report.specs.Meaning.{usedOf}
 use Rattle.report.specs.Runs.Reading.{readAnswer, readSays, reading, readOf}
 use Rattle.report.specs.Conforms.{Conforms}
@@ -26,7 +27,7 @@ use Rattle.report.specs.Rules.{KeepsRules}
 use Rattle.report.proofs.Reading.Frames.{layoutOf, frameValues, conforming-fine, fine-conforming, reason, faulty, faultless, no-gap}
 use Rattle.rows.proofs.Layouts.Lengths.{Filled, frame-filled}
 use Rattle.slots.proofs.Used.{counted-used}
-use Rattle.report.proofs.Reading.Used.{others-empty, used-place, used-prefecture, used-slot-kept}
+use Rattle.report.proofs.Reading.Used.{others-empty, used-area, used-place, used-prefecture, used-slot-kept}
 use Rattle.rows.proofs.Rules.Numbers.{says-apart, says-numbered, zero-fine}
 use Rattle.report.proofs.Reading.ReadNumbers.{read-ten, refused-zeros}
 use Rattle.report.proofs.PaperValues.{found, expected, paperValues, every-row}
@@ -44,9 +45,15 @@ use Rattle.slots.specs.declared.slot.Slot.{Slot}
 use Rattle.ash_fall.specs.AshFall.{ashFall}
 use Rattle.ash_fall.specs.Meaning.{prefectureOf}
 use Rattle.ash_fall.specs.declared.meaning.Prefecture.the-variants.{Number}
-use Rattle.rows.specs.Kept.{Kept}
+use Rattle.rows.specs.Kept.{AllNormal, Kept}
+use Rattle.rows.proofs.Rules.Groups.{group-kept, group-of-codes, mixed-group, passed}
+use Rattle.tsunami.specs.Tsunami.{tsunami}
+use Rattle.tsunami.specs.Meaning.{arrivalOf, heightOf}
+use Rattle.tsunami.specs.declared.meaning.Arrival.the-variants.{At, Arrived}
+use Rattle.tsunami.specs.declared.meaning.Height.the-variants.{Code, Unknown}
+use Rattle.report.proofs.TsunamiValues.{tsunamiValues, every-row as every-tsunami-row}
 use Rattle.intensity.specs.Intensity.{intensity}
-use Rattle.report.proofs.Tables.{tables-tile as tiled, rules-fit as fit}
+use Rattle.report.proofs.Tables.{passing, tables-tile as tiled, rules-fit as fit}
 use Rattle.report.proofs.Writing.Validity.{recordLayout, recordValues, valid-keeps, keeps-valid, reason as write-reason, faulty as write-faulty, faultless as write-faultless, fault-free}
 use Rattle.report.proofs.Writing.WriteReasons.{reserving, no-gap as write-no-gap, above-63}
 
@@ -77,6 +84,40 @@ slots-of-category-3-are-intensity-and-prefecture s = refl
 
 pub slots-of-category-9-are-hour-strength-and-place : (s : Slot) → slotValues (ashFall .slots) s ≡ s .hour ∷ s .strength ∷ s .place ∷ []
 slots-of-category-9-are-hour-strength-and-place s = refl
+
+pub slots-of-category-5-are-day-hour-minute-height-and-region : (s : Slot) → slotValues (tsunami .slots) s ≡ s .day ∷ s .hour ∷ s .minute ∷ s .strength ∷ s .place ∷ []
+slots-of-category-5-are-day-hour-minute-height-and-region s = refl
+
+-- "Rc and It take the values which that table gives for this category": of the eight that Rc can hold and the four of It, each category
+-- lets these through.
+pub each-category-has-its-own-rc : map {B = ℕ × List ℕ} (λ l. (l .code, passing (allowed (l .rcs)) 0 8)) (drop 1 layouts)
+    ≡ (2, 2 ∷ 7 ∷ []) ∷ (3, 2 ∷ 7 ∷ []) ∷ (4, 2 ∷ 7 ∷ []) ∷ (5, 1 ∷ 3 ∷ 7 ∷ []) ∷ (9, 2 ∷ 7 ∷ []) ∷ []
+unfolding allowed
+each-category-has-its-own-rc = refl
+
+pub each-category-has-its-own-it : map {B = ℕ × List ℕ} (λ l. (l .code, passing (allowed (l .types)) 0 4)) (drop 1 layouts)
+    ≡ (2, 0 ∷ 2 ∷ []) ∷ (3, 0 ∷ 2 ∷ []) ∷ (4, 0 ∷ 2 ∷ []) ∷ (5, 0 ∷ 2 ∷ []) ∷ (9, 0 ∷ 1 ∷ 2 ∷ []) ∷ []
+unfolding allowed
+each-category-has-its-own-it = refl
+
+-- ---- groups: "An arrival code that speaks for hour and minute together must have both; a mixture is refused"
+
+-- A group of any number of fields, wherever it stands in a table, is kept exactly where all of its fields have their codes or each is in
+-- its normal range ..
+pub a-group-is-all-codes-or-all-in-range : (rs : List Row) (ws : List ℕ) (a : ℕ) (past : List ℕ) (ms : List Member) (vs : List ℕ) → length vs ≡ length ms
+    → Kept past (group a ms ++ rs) (vs ++ ws) ↔ ((vs ≡ codesOf ms) ⊎ AllNormal ms vs) × Kept (passed vs past) rs ws
+a-group-is-all-codes-or-all-in-range rs ws a past ms vs n = group-kept rs ws a past ms vs n
+
+-- .. with all codes nothing is refused in it ..
+pub a-group-of-codes-passes : (rs : List Row) (ws : List ℕ) (a : ℕ) (past : List ℕ) (ms : List Member)
+    → walk past (group a ms ++ rs) (codesOf ms ++ ws) ≡ walk (passed (codesOf ms) past) rs ws
+a-group-of-codes-passes rs ws a past ms = group-of-codes rs ws a past ms
+
+-- .. and "a mixed arrival time is 8 at its first field that is out of the normal range": any other values are refused where they would be
+-- if there were no codes.
+pub a-mixture-is-refused-by-the-normal-ranges : (rs : List Row) (ws : List ℕ) (a : ℕ) (past : List ℕ) (ms : List Member) (vs : List ℕ) → length vs ≡ length ms
+    → (vs ≡ codesOf ms → ⊥) → walk past (group a ms ++ rs) (vs ++ ws) ≡ walk past (ungrouped a ms ++ rs) (vs ++ ws)
+a-mixture-is-refused-by-the-normal-ranges rs ws a past ms vs n x = mixed-group rs ws a past ms vs n x
 
 -- ---- reading
 
@@ -134,6 +175,14 @@ pub used-places-lie-in-a-prefecture : (s : List ℕ) → Conforms s → fieldOf 
     → (p : ℕ) × ((prefectureOf (getD (recordOf s .slots) i noSlot .place) ≡ Number p) × ((1 ≤ p) × (p ≤ 47)))
 used-places-lie-in-a-prefecture s c e i u = used-place s c e i u
 
+-- .. and each used area of a tsunami report an arrival that is told, a height that is told or known to be unknown, and a region: "Five
+-- areas, each with arrival time, height code and forecast region".
+pub used-areas-are-told : (s : List ℕ) → Conforms s → fieldOf s 17 4 ≡ 5 → (i : ℕ) → i < usedOf (recordOf s)
+    → let a = getD (recordOf s .slots) i noSlot in
+    ((arrivalOf (a .hour) (a .minute) ≡ Arrived) ⊎ (arrivalOf (a .hour) (a .minute) ≡ At (a .hour) (a .minute)))
+    × (((heightOf (a .strength) ≡ Unknown) ⊎ (heightOf (a .strength) ≡ Code (a .strength))) × ((100 ≤ a .place) × (a .place ≤ 1000)))
+used-areas-are-told s c e i u = used-area s c e i u
+
 -- "After an empty slot every slot is empty": in a frame that is read, none behind the counted ones has.
 pub other-slots-are-empty : (s : List ℕ) → Conforms s → (i : ℕ) → usedOf (recordOf s) ≤ i → i < layoutOf s .slots .count
     → empty (getD (slotsValues (layoutOf s .slots) (recordOf s .slots)) i []) ≡ true
@@ -164,6 +213,10 @@ a-refused-reading-gives-zeros s x e = refused-zeros (readAnswer s) (recordOf s) 
 -- "All of these stand in one table over the definitions, with a single proved claim": P1 to P12.
 pub paper-values-hold : map found paperValues ≡ map expected paperValues
 paper-values-hold = every-row
+
+-- The same of category 5: its arrival codes and their mixtures, and every bound of its table.
+pub tsunami-values-hold : map found tsunamiValues ≡ map expected tsunamiValues
+tsunami-values-hold = every-tsunami-row
 
 -- ---- writing
 

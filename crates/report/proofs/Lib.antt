@@ -7,5 +7,6 @@ pub mod Reading
 pub mod Writing
 pub mod RoundTrips
 pub mod PaperValues
+pub mod TsunamiValues
 pub mod Claims
 pub mod Settled

@@ -2,8 +2,8 @@
 use Rattle.intensity.specs.Intensity.{prefectures}
 use mathlib.Core.Path.{_≡_, refl}
 use mathlib.Core.List.{List, [], _∷_, _++_, map}
-use Prim.Native.Nat.{ℕ}
-use lib.ListN.{replicate}
+use Prim.Native.Nat.{ℕ, _-_}
+use lib.ListN.{length, replicate}
 use Rattle.bits.specs.Layout.{encode}
 use Rattle.rows.specs.declared.time.Time.{Time}
 use Rattle.hypocenter.specs.declared.angle.Angle.{Angle}
@@ -31,16 +31,19 @@ sampleTime = record { day = 1; hour = 0; minute = 0 }
 abbrev pub angle : ℕ → Angle
 angle degrees = record { side = 0; degrees = degrees; minutes = 0; seconds = 0 }
 
--- what is found in a record: its number, and its place
-abbrev pub judged : Body → List Slot → Said
-judged body slots = answers (verdict (layout body) (values (record {
+-- what is found in a record with this Rc and this It: its number, and its place
+abbrev pub judgedAs : ℕ → ℕ → Body → List Slot → Said
+judgedAs rc it body slots = answers (verdict (layout body) (values (record {
   preamble = 0x53;
   reserved = 0;
-  common = record { rc = 2; month = 1; day = 1; hour = 0; minute = 0; it = 0 };
+  common = record { rc = rc; month = 1; day = 1; hour = 0; minute = 0; it = it };
   body = body;
-  slots = slots ++ replicate 14 noSlot;
+  slots = slots ++ replicate (16 - length slots) noSlot;
   text = replicate 18 0;
 }) 0 0))
+
+abbrev pub judged : Body → List Slot → Said
+judged body slots = judgedAs 2 0 body slots
 
 -- what a value is compared with
 pub data Outcome : Type 0 where

@@ -1,13 +1,13 @@
 -- What is computed over all tables, and what follows for the table of any body.
 use Rattle.report.specs.declared.body.Body.{Body}
-use mathlib.Core.Bool.{_&&_, _||_, true, Bool, not}
+use mathlib.Core.Bool.{_&&_, _||_, true, Bool, cond, not}
 use Rattle.rows.proofs.Rules.JudgedFrames.{JudgesAll, judged, ordered}
 use mathlib.Core.List.{List, _∷_, map, [], _++_}
 use Rattle.rows.specs.Layout.{allFit, allRows, row, spare, tiles, Layout, ending, slotsRows}
 use Rattle.slots.proofs.Tables.{Suited, is-suited, suited}
 use Rattle.rows.specs.Values.{Values, cut, lastValues, widths}
 use Rattle.rows.specs.Runs.Fields.{hasRows, firstBit}
-use Prim.Native.Nat.{_/_, _^_, ℕ, _*_, _+_}
+use Prim.Native.Nat.{_/_, _^_, ℕ, zero, suc, _*_, _+_}
 use mathlib.Core.Path.{_≡_, refl}
 use Rattle.report.proofs.Categories.{all, layouts, listed, ruled}
 use Rattle.bits.specs.Layout.{decode, total}
@@ -60,6 +60,11 @@ piecesFit l =
 
 pub pieces-fit : all piecesFit layouts ≡ true
 pieces-fit = refl
+
+-- the numbers from `from` on, n of them, that pass a test
+abbrev pub passing : (ℕ → Bool) → ℕ → ℕ → List ℕ
+passing test from zero = []
+passing test from (suc n) = cond (test from) (from ∷ passing test (suc from) n) (passing test (suc from) n)
 
 -- ---- of any body
 

@@ -1,6 +1,6 @@
 -- Which preambles and categories there are, and what each category has: its table, what its values say, and the values of what
 -- they say.
-use Rattle.report.specs.declared.body.Body.the-variants.{AshFall, Hypocenter, Intensity, Nankai, NoCategory}
+use Rattle.report.specs.declared.body.Body.the-variants.{AshFall, Hypocenter, Intensity, Nankai, NoCategory, Tsunami}
 use Rattle.report.specs.declared.body.Body.{Body}
 use Rattle.rows.specs.Layout.{Layout, Span, _to_, noCategory}
 use mathlib.Core.List.{List, [], _∷_}
@@ -11,6 +11,7 @@ use lib.Dec.{eqb}
 use Rattle.hypocenter.specs.Hypocenter.{hypocenter, quakeFrom, quakeValues}
 use Rattle.intensity.specs.Intensity.{intensity, shakingFrom, shakingValues}
 use Rattle.nankai.specs.Nankai.{nankai, numberValues, numbersFrom}
+use Rattle.tsunami.specs.Tsunami.{tsunami, warningFrom, warningValues}
 use Prim.Native.Nat.{ℕ}
 use Rattle.report.specs.declared.body.Paged.the-variants.{NoPages, Numbers}
 use Rattle.report.specs.declared.body.Paged.{Paged}
@@ -19,15 +20,16 @@ use Rattle.report.specs.declared.body.Paged.{Paged}
 abbrev pub preambles : List Span
 preambles = 0x53 to 0x53 ∷ 0x9A to 0x9A ∷ 0xC6 to 0xC6 ∷ []
 
--- "category not 2, 3, 4, 9"
+-- "category not 2, 3, 4, 9", and "7 no longer covers category 5"
 abbrev pub categories : List Span
-categories = 2 to 2 ∷ 3 to 3 ∷ 4 to 4 ∷ 9 to 9 ∷ []
+categories = 2 to 2 ∷ 3 to 3 ∷ 4 to 4 ∷ 5 to 5 ∷ 9 to 9 ∷ []
 
 abbrev pub layout : Body → Layout
 layout NoCategory = noCategory
 layout (Hypocenter q) = hypocenter
 layout (Intensity t) = intensity
 layout (Nankai p) = nankai
+layout (Tsunami w) = tsunami
 layout (AshFall e) = ashFall
 
 -- by the category's code, from the values of its rows in front of the slots and behind them
@@ -35,7 +37,8 @@ unfoldable pub bodyFrom : (Layout → Sides) → ℕ → Body
 bodyFrom v dc =
     cond (eqb dc 2) (Hypocenter (quakeFrom (v hypocenter)))
     (cond (eqb dc 3) (Intensity (shakingFrom (v intensity)))
-    (cond (eqb dc 4) (Nankai (numbersFrom (v nankai))) (cond (eqb dc 9) (AshFall (eruptionFrom (v ashFall))) NoCategory)))
+    (cond (eqb dc 4) (Nankai (numbersFrom (v nankai)))
+    (cond (eqb dc 5) (Tsunami (warningFrom (v tsunami))) (cond (eqb dc 9) (AshFall (eruptionFrom (v ashFall))) NoCategory))))
 
 -- those values, with the ones of the spares in front and behind, which are not in a record
 abbrev pub sidesOf : Body → ℕ → ℕ → Sides
@@ -43,6 +46,7 @@ sidesOf NoCategory x y = record { front = x ∷ []; behind = y ∷ [] }
 sidesOf (Hypocenter q) x y = quakeValues q x y
 sidesOf (Intensity t) x y = shakingValues t x y
 sidesOf (Nankai p) x y = numberValues p x y
+sidesOf (Tsunami w) x y = warningValues w x
 sidesOf (AshFall e) x y = eruptionValues e x y
 
 -- the page that a body brings: category 4 alone has pages
@@ -51,4 +55,5 @@ pagedOf NoCategory = NoPages
 pagedOf (Hypocenter q) = NoPages
 pagedOf (Intensity t) = NoPages
 pagedOf (Nankai p) = Numbers p
+pagedOf (Tsunami w) = NoPages
 pagedOf (AshFall e) = NoPages

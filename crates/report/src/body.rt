@@ -26,6 +26,8 @@ use rows::fields::Spares;
 use rows::fields::Table;
 use rows::refusal::Verdict;
 use slots::slot::Slot;
+use tsunami::Warning;
+use tsunami::areas::areas_of;
 
 // What the category of a record has beside slots and text. `NoCategory` is none: the record of
 // zeros has it.
@@ -34,6 +36,7 @@ pub enum Body {
     Hypocenter(Quake),
     Intensity(Shaking),
     Nankai(PageNumbers),
+    Tsunami(Warning),
     AshFall(Eruption),
 }
 
@@ -79,6 +82,12 @@ impl Content {
                 slots: [Slot::none(); 16],
                 text: nankai::page_text(f),
                 spares: nankai::spares(f),
+            },
+            5 => Content {
+                body: Body::Tsunami(Warning::of(f)),
+                slots: areas_of(f),
+                text: [0u8; 18],
+                spares: tsunami::spares(f),
             },
             9 => Content {
                 body: Body::AshFall(Eruption::of(f)),
@@ -140,6 +149,7 @@ impl Body {
             2 => Body::Hypocenter(Quake::of_values(front)),
             3 => Body::Intensity(Shaking::of_values(front)),
             4 => Body::Nankai(PageNumbers::of_values(front, behind)),
+            5 => Body::Tsunami(Warning::of_values(front)),
             9 => Body::AshFall(Eruption::of_values(front)),
             _ => Body::NoCategory,
         }
@@ -154,6 +164,7 @@ impl Body {
             Body::Hypocenter(_) => 2,
             Body::Intensity(_) => 3,
             Body::Nankai(_) => 4,
+            Body::Tsunami(_) => 5,
             Body::AshFall(_) => 9,
         }
     }
@@ -167,6 +178,7 @@ impl Body {
             Body::Hypocenter(_) => 0,
             Body::Intensity(_) => 16,
             Body::Nankai(_) => 0,
+            Body::Tsunami(_) => 5,
             Body::AshFall(_) => 4,
         }
     }
@@ -199,6 +211,10 @@ impl Body {
             Body::Nankai(p) => Told {
                 found: p.check(found, c, spare1, spare2),
                 fields: p.fields(spare1, spare2),
+            },
+            Body::Tsunami(w) => Told {
+                found: w.check(found, c, slots, spare1),
+                fields: w.fields(spare1),
             },
             Body::AshFall(e) => Told {
                 found: e.check(found, c, slots, spare1, spare2),

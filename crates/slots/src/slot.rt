@@ -5,8 +5,9 @@ ghost use Rattle.slots.specs.Slots.{noSlot, slotParts, vacant};
 ghost use mathlib.Core.Bool.{cond, true};
 ghost use lib.Dec.{eqb};
 
-// A place that a report names: when, how strong, and where. A category does not have all of it: in an
-// intensity report `strength` is the intensity and `place` the prefecture. What it does not have is zero.
+// A place that a report names: when, how strong, and where. A category need not have all of it: in an
+// intensity report `strength` is the intensity and `place` the prefecture, in a tsunami report they are height
+// and region. What a category does not have is zero.
 pub struct Slot {
     pub day: u8,
     pub hour: u8,

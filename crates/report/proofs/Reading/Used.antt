@@ -3,12 +3,12 @@ use Rattle.report.specs.declared.body.Body.{Body}
 use mathlib.Core.Bool.{Bool, _&&_, _||_, false, true}
 use Rattle.report.specs.Conforms.{Conforms}
 use mathlib.Core.List.{List, [], _∷_, map}
-use mathlib.Core.Logic.{⊎-elim}
+use mathlib.Core.Logic.{_⊎_, inl, inr, ⊎-elim}
 use Rattle.bits.specs.Frame.{fieldOf}
 use Rattle.rows.specs.Layout.{Layout, Slots, _to_, slotRows}
 use Rattle.rows.specs.Kept.{In, Kept, SlotsKept}
 use Prim.Native.Nat.{_*_, _+_, _/_, _<_, _≤_, ℕ}
-use mathlib.Core.Path.{_∙_, _≡_, ap, refl, subst, sym}
+use mathlib.Core.Path.{_∙_, _≡_, ap, ap₂, refl, subst, sym}
 use Rattle.rows.proofs.Rules.Outcomes.{and-both}
 use native.Mathlib.Omega.{arith}
 use Rattle.slots.proofs.Used.{behind-used, frame-used, names, used-at-most, used-kept}
@@ -16,7 +16,7 @@ use Rattle.report.specs.Records.{bodyBy, bodyOf, recordAs, recordOf}
 use Rattle.rows.specs.Values.{cut, each, valuesOf}
 use Rattle.rows.specs.Runs.Verdict.{empty}
 use lib.Dec.{eqb}
-use borrow.Author.Tests.{eqb-true}
+use borrow.Author.Tests.{eqb-true, eqb-false}
 use Rattle.rows.proofs.Layouts.Lengths.{each-at, frame-filled, length-each}
 use lib.ListN.{getD, length, length-map}
 use Rattle.ash_fall.specs.AshFall.{ashFall}
@@ -24,6 +24,11 @@ use Rattle.ash_fall.specs.Meaning.{prefectureOf}
 use Rattle.ash_fall.specs.declared.meaning.Prefecture.the-variants.{Number}
 use Rattle.ash_fall.proofs.Claims.{a-prefecture-is-1-to-47, each-place-has-a-prefecture}
 use Rattle.intensity.specs.Intensity.{intensity}
+use Rattle.tsunami.specs.Tsunami.{tsunami}
+use Rattle.tsunami.specs.Meaning.{arrivalOf, heightOf}
+use Rattle.tsunami.specs.declared.meaning.Arrival.the-variants.{At, Arrived}
+use Rattle.tsunami.specs.declared.meaning.Height.the-variants.{Code, Unknown}
+use Rattle.tsunami.proofs.Claims.{an-area-keeps-its-rules, each-height-is-told-by-its-code, each-time-is-told, height-14-is-unknown, hour-31-with-minute-63-has-arrived}
 use Rattle.report.specs.Categories.{bodyFrom, layout}
 use Rattle.report.proofs.Categories.{listed, ruled}
 use Rattle.slots.proofs.Tables.{slot-agrees, slots-agree}
@@ -100,3 +105,26 @@ used-place s c e i u =
     let inside : (110000 ≤ place) × (place ≤ 4799999) = one-span 110000 4799999 place (used-slot-of s c ashFall (table-by-code s 9 e) i u .1 .1 .0) in
     let named : prefectureOf place ≡ Number (place / 100000) = each-place-has-a-prefecture place (omega arith) (inside .1) in
     (place / 100000, (named, a-prefecture-is-1-to-47 place (place / 100000) named .1))
+
+-- what the arrival and the height of an area say, where it keeps its rules
+arrives : (hour minute : ℕ) → ((hour ≡ 31) × (minute ≡ 63)) ⊎ ((hour ≤ 23) × (minute ≤ 59))
+    → (arrivalOf hour minute ≡ Arrived) ⊎ (arrivalOf hour minute ≡ At hour minute)
+arrives hour minute (inl e) = inl (ap₂ arrivalOf (e .0) (e .1) ∙ hour-31-with-minute-63-has-arrived)
+arrives hour minute (inr h) = inr (each-time-is-told hour minute (h .0) (h .1))
+
+measured : (code : ℕ) → 1 ≤ code → code ≤ 15 → (heightOf code ≡ Unknown) ⊎ (heightOf code ≡ Code code)
+measured code low high = by (eqb code 14) refl
+  where
+    by : (b : Bool) → eqb code 14 ≡ b → (heightOf code ≡ Unknown) ⊎ (heightOf code ≡ Code code)
+    by true e = inl (ap heightOf (eqb-true code 14 e) ∙ height-14-is-unknown)
+    by false e = inr (each-height-is-told-by-its-code code low high (eqb-false code 14 e))
+
+pub used-area : (s : List ℕ) → Conforms s → fieldOf s 17 4 ≡ 5 → (i : ℕ) → i < usedOf (recordOf s)
+    → let a = getD (recordOf s .slots) i noSlot in
+    ((arrivalOf (a .hour) (a .minute) ≡ Arrived) ⊎ (arrivalOf (a .hour) (a .minute) ≡ At (a .hour) (a .minute)))
+    × (((heightOf (a .strength) ≡ Unknown) ⊎ (heightOf (a .strength) ≡ Code (a .strength))) × ((100 ≤ a .place) × (a .place ≤ 1000)))
+unfolding bodyFrom
+used-area s c e i u =
+    let a = getD (recordOf s .slots) i noSlot in
+    let k = an-area-keeps-its-rules (a .day) (a .hour) (a .minute) (a .strength) (a .place) .0 (used-slot-of s c tsunami (table-by-code s 5 e) i u) in
+    (arrives (a .hour) (a .minute) (k .1 .0), (measured (a .strength) (k .1 .1 .0 .0) (k .1 .1 .0 .1), k .1 .1 .1))

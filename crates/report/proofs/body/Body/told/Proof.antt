@@ -25,6 +25,10 @@ returns-5 : tie.Need-returns-5
 unfolding toldOf
 returns-5 c = let a = c .before .before .before .before .before .args in told-as (a .found) (a .c) (a .slots) (a .spare1) (a .spare2) (c .before .before .before .self4 .given .1) (c .before .check4 .ensures) (c .fields4 .ensures)
 
+returns-6 : tie.Need-returns-6
+unfolding toldOf
+returns-6 c = let a = c .before .before .before .before .before .args in told-as (a .found) (a .c) (a .slots) (a .spare1) (a .spare2) (c .before .before .before .self5 .given .1) (c .before .check5 .ensures) (c .fields5 .ensures)
+
 pub told-spec : {M : Type 1} → statement M
 told-spec =
-    tie.close (tie.spec (λ c. search needs) (λ c κs. search needs) (λ c κs. search needs) (λ c. search needs) (λ c κs. search needs) (λ c κs. search needs) (λ c. search needs) (λ c κs. search needs) (λ c κs. search needs) (λ c. search needs) (λ c κs. search needs) (λ c κs. search needs) (λ c. search needs) (λ c κs. search needs) (λ c κs. search needs) returns returns-2 returns-3 returns-4 returns-5)
+    tie.close (tie.spec (λ c. search needs) (λ c κs. search needs) (λ c κs. search needs) (λ c. search needs) (λ c κs. search needs) (λ c κs. search needs) (λ c. search needs) (λ c κs. search needs) (λ c κs. search needs) (λ c. search needs) (λ c κs. search needs) (λ c κs. search needs) (λ c. search needs) (λ c κs. search needs) (λ c κs. search needs) (λ c. search needs) (λ c κs. search needs) (λ c κs. search needs) returns returns-2 returns-3 returns-4 returns-5 returns-6)

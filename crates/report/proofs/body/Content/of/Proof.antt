@@ -41,21 +41,30 @@ unfolding bodyFrom slotsOf
 returns-4 c =
     let k = c .before .before .before .before in
     let f = k .before .args .f in
-    let code : fieldOf f 17 4 ≡ 9 = sym (k .field8 .ensures .0) ∙ c .before .before .before .match .keys4 in
-    _∙_ {b = contentAs f (bodyFrom (sidesAt f) 9)} (simp (c .spares4 .ensures, c .before .places-of .ensures, c .before .before .of4 .ensures)) (ap (λ (dc : ℕ). contentAs f (bodyFrom (sidesAt f) dc)) (sym code))
+    let code : fieldOf f 17 4 ≡ 5 = sym (k .field8 .ensures .0) ∙ c .before .before .before .match .keys4 in
+    _∙_ {b = contentAs f (bodyFrom (sidesAt f) 5)} (simp (c .spares4 .ensures, c .before .areas-of .ensures, c .before .before .of4 .ensures)) (ap (λ (dc : ℕ). contentAs f (bodyFrom (sidesAt f) dc)) (sym code))
 
 returns-5 : tie.Need-returns-5
 unfolding bodyFrom slotsOf
 returns-5 c =
+    let k = c .before .before .before .before in
+    let f = k .before .args .f in
+    let code : fieldOf f 17 4 ≡ 9 = sym (k .field8 .ensures .0) ∙ c .before .before .before .match .keys5 in
+    _∙_ {b = contentAs f (bodyFrom (sidesAt f) 9)} (simp (c .spares5 .ensures, c .before .places-of .ensures, c .before .before .of5 .ensures)) (ap (λ (dc : ℕ). contentAs f (bodyFrom (sidesAt f) dc)) (sym code))
+
+returns-6 : tie.Need-returns-6
+unfolding bodyFrom slotsOf
+returns-6 c =
     let m = c .before .before in
     let k = m .before in
     let f = k .before .args .f in
     let e = k .field8 .ensures .0 in
     let other = m .match .rest in
     let none : bodyFrom (sidesAt f) (fieldOf f 17 4) ≡ NoCategory = simp (
-      ne-eqb _ 2 (λ q. other .0 .0 .0 .1 (e ∙ q)),
-      ne-eqb _ 3 (λ q. other .0 .0 .1 (e ∙ q)),
-      ne-eqb _ 4 (λ q. other .0 .1 (e ∙ q)),
+      ne-eqb _ 2 (λ q. other .0 .0 .0 .0 .1 (e ∙ q)),
+      ne-eqb _ 3 (λ q. other .0 .0 .0 .1 (e ∙ q)),
+      ne-eqb _ 4 (λ q. other .0 .0 .1 (e ∙ q)),
+      ne-eqb _ 5 (λ q. other .0 .1 (e ∙ q)),
       ne-eqb _ 9 (λ q. other .1 (e ∙ q)),
     )
     in
@@ -63,4 +72,4 @@ returns-5 c =
 
 pub of-spec : {M : Type 1} → statement M
 of-spec =
-    tie.close (tie.spec (λ c κs. search needs) (λ c κs. search needs) (λ c κs. search needs) (λ c κs. search needs) (λ c κs. search needs) (λ c κs. search needs) (λ c κs. search needs) (λ c κs. search needs) (λ c κs. search needs) (λ c κs. search needs) (λ c κs. search needs) (λ c κs. search needs) (λ c κs. search needs) (λ c κs. search needs) (λ c κs. search needs) (λ c κs. search needs) returns returns-2 returns-3 returns-4 returns-5)
+    tie.close (tie.spec (λ c κs. search needs) (λ c κs. search needs) (λ c κs. search needs) (λ c κs. search needs) (λ c κs. search needs) (λ c κs. search needs) (λ c κs. search needs) (λ c κs. search needs) (λ c κs. search needs) (λ c κs. search needs) (λ c κs. search needs) (λ c κs. search needs) (λ c κs. search needs) (λ c κs. search needs) (λ c κs. search needs) (λ c κs. search needs) (λ c κs. search needs) (λ c κs. search needs) (λ c κs. search needs) returns returns-2 returns-3 returns-4 returns-5 returns-6)

@@ -1,0 +1,29 @@
+-- `tsunami::areas::fields` meets its contract.
+use borrow.Author.Needs.{needs}
+use native.Mathlib.Nat.{add-zero}
+use Rattle.rows.proofs.Rules.Spans.{allowed-one}
+use Rattle.rows.proofs.Rules.Outcomes.{and-true, fine-then, then-assoc, then-fine}
+use Rattle.rows.specs.Runs.Verdict.{judge, walk}
+use Rattle.tsunami.proofs.areas.fields.Statement.{statement}
+use Rattle.tsunami.proofs.areas.fields.Tie as tie
+
+returns : tie.Need-returns
+unfolding walk judge
+returns c = simp (
+  c .within3 .ensures,
+  c .before .within2 .ensures,
+  c .before .before .before .in-group2 .ensures,
+  c .before .before .before .before .before .in-group .ensures,
+  c .before .before .before .before .before .before .before .within .ensures,
+  c .before .before .before .before .before .before .before .before .before .has-arrived .ensures,
+  then-assoc,
+  then-fine,
+  fine-then,
+  allowed-one,
+  and-true,
+  add-zero,
+)
+
+pub fields-spec : {M : Type 1} → statement M
+fields-spec =
+    tie.close (tie.spec (λ c κs. search needs) (λ c. search needs) (λ c κs. search needs) (λ c. search needs) (λ c. search needs) (λ c κs. search needs) (λ c. search needs) (λ c. search needs) (λ c κs. search needs) (λ c. search needs) (λ c. search needs) (λ c κs. search needs) (λ c. search needs) (λ c κs. search needs) returns)

@@ -1,0 +1,2 @@
+pub mod Tsunami
+pub mod Meaning
