@@ -1,7 +1,8 @@
 /*
  * Lavendelzug for C and C++: reading and writing DC Report frames of message
  * type 43 in categories 2 (hypocenter), 3 (seismic intensity), 4 (Nankai
- * Trough) and 9 (ash fall), and gathering the pages of a Nankai bulletin.
+ * Trough), 5 (tsunami) and 9 (ash fall), and gathering the pages of a Nankai
+ * bulletin.
  *
  * Link target/staticlib/libinserter.a, which `rt staticlib inserter` writes for
  * x86-64; it needs memcpy and memset. The functions work on buffers lent as a
@@ -61,7 +62,7 @@ extern "C" {
 #define LZ_REFUSED_PARITY 4           /* the parity in the frame is not that of its bits */
 #define LZ_REFUSED_MESSAGE 5          /* the message type is not 43 */
 #define LZ_REFUSED_VERSION 6          /* the version is not 1 */
-#define LZ_REFUSED_CATEGORY 7         /* the category is not 2, 3, 4 or 9 */
+#define LZ_REFUSED_CATEGORY 7         /* the category is not 2, 3, 4, 5 or 9 */
 #define LZ_REFUSED_RANGE 8            /* a field is out of its range; place: its first bit */
 #define LZ_REFUSED_SPARE 9            /* a spare field is not zero; place: its first bit */
 #define LZ_REFUSED_GAP 10             /* a slot is used behind an empty one; place: its first bit */
@@ -85,10 +86,10 @@ extern "C" {
  * another length are taken for a record of zeros.
  *
  *   at   what                      range
- *    0   category                  2, 3, 4, 9
+ *    0   category                  2, 3, 4, 5, 9
  *    1   preamble                  53, 9A, C6 hexadecimal
  *    2   Reserved                  0-63
- *    3   Rc                        2, 7
+ *    3   Rc                        1, 3, 7 in category 5, else 2, 7
  *    4   month, day, hour, minute  1-12, 1-31, 0-23, 0-59: when it was issued
  *    8   It                        0, 2; in category 9 also 1
  *    9   32 bytes by category, zero where the category uses fewer
@@ -167,6 +168,17 @@ extern "C" {
 #define LZ_NANKAI_SPARE2 14
 
 /*
+ * Category 5. It has no spare behind its slots.
+ *
+ *    9   spare                     2 bytes: 0
+ *   11   three notifications       2 bytes each: 0 (none), 101-500
+ *   17   warning code              1-15
+ */
+#define LZ_TSUNAMI_SPARE1 9
+#define LZ_TSUNAMI_NOTIFICATIONS 11
+#define LZ_TSUNAMI_WARNING 17
+
+/*
  * Category 9.
  *
  *    9   spare                     2 bytes: 0
@@ -184,16 +196,24 @@ extern "C" {
 #define LZ_ASH_SPARE2 17
 
 /*
- * Slot number i, counted from 0, starts at LZ_RECORD_SLOT(i). The first slot is
- * used; a later one is empty where all of it is zero, and then so are those
- * behind it. An empty slot has no name in any table.
+ * Slot number i, counted from 0, starts at LZ_RECORD_SLOT(i). Of the slots that a
+ * category has, the first is used; a later one is empty where all of it is zero,
+ * and then so are those behind it. An empty slot has no name in any table.
  *
- * A category does not have all that a slot can hold. What it does not have is
- * zero: day and minute in both, and in category 3 the hour.
+ * Categories 2 and 4 have no slots, and not every other one has all of them, or
+ * all that a slot can hold. What a category does not have is zero, and anything
+ * else there is 11.
  *
- *              hour   strength         place (8 bytes)
- *   category 3    0   intensity 1-7    prefecture 1-47        16 slots
- *   category 9  1-6   1-7              place 110000-4799999    4 slots
+ *   category  slots  day  hour  minute  strength       place (8 bytes)
+ *      3         16    0     0       0  intensity 1-7  prefecture 1-47
+ *      5          5  0-1  0-23    0-59  height 1-15    region 100-1000
+ *      9          4    0   1-6       0  1-7            place 110000-4799999
+ *
+ * In category 5 a slot is an area, and day, hour and minute say when the wave is
+ * expected there, in UTC, day 0 being that of the issue and day 1 the next. Where
+ * it has arrived, hour 31 and minute 63 stand together, with either day. One of
+ * the two without the other is 8, at the first of them that is out of its range in
+ * the table.
  */
 #define LZ_RECORD_SLOT(i) (41 + LZ_SLOT_BYTES * (i))
 #define LZ_SLOTS 16
@@ -280,22 +300,40 @@ uint32_t lz_write_line(const uint8_t *frame, size_t frame_length,
 /*
  * ---- What numbers say ----
  *
- * These refuse nothing. A depth and a magnitude are told as a kind and a value,
- * the latter 0 unless the kind is LZ_KNOWN.
+ * These refuse nothing. A depth, a magnitude, an arrival and a height are told as
+ * a kind and a value, the latter 0 unless the kind is LZ_KNOWN.
  */
 #define LZ_KIND(answer) ((uint8_t)((uint32_t)(answer) >> 16))
 #define LZ_VALUE(answer) ((uint16_t)(uint32_t)(answer))
 
-#define LZ_NO_CODE 0  /* no depth, or no magnitude, has this code */
-#define LZ_KNOWN 1    /* value: kilometres, or tenths */
+#define LZ_NO_CODE 0  /* no depth, magnitude, arrival or height has this code */
+#define LZ_KNOWN 1    /* value: kilometres, tenths, hour and minute, or the code of a height */
 #define LZ_BEYOND 2   /* deeper than 500 km, or above 8.0 where no moment magnitude is known */
 #define LZ_UNKNOWN 3
+#define LZ_ARRIVED 4  /* the wave has arrived, and no time is given */
 
 /* What the depth of category 2 says: 0 to 500 are kilometres, 0 among them. */
 uint32_t lz_depth(uint16_t code);
 
 /* What the magnitude of category 2 says: 1 to 101 are tenths, and 101 is more than 10.0. */
 uint32_t lz_magnitude(uint8_t code);
+
+/*
+ * What hour and minute of an area of category 5 say: LZ_KNOWN for an hour of 0 to
+ * 23 with a minute of 0 to 59, LZ_ARRIVED for 31 with 63, LZ_NO_CODE for all else.
+ * The value of a time is 256 * hour + minute. The zeros of an empty slot would be
+ * told as 0:00, so ask lz_slots_used first.
+ */
+#define LZ_ARRIVAL_HOUR(answer) LZ_PAGE(answer)
+#define LZ_ARRIVAL_MINUTE(answer) LZ_MARK(answer)
+uint32_t lz_arrival(uint8_t hour, uint8_t minute);
+
+/*
+ * What the height of category 5 says: 14 is unknown, and 1 to 13 and 15 are told
+ * as they are. Such a code is no length; table 4.1.2-23 of IS-QZSS-DCR-010 says
+ * what it stands for, and leaves 7 to 13 open.
+ */
+uint32_t lz_height(uint8_t code);
 
 /*
  * Answers the prefecture, 1 to 47, that a place of category 9 lies in, or 0 where

@@ -22,7 +22,7 @@ use Rattle.bulletin.specs.Text.{textAnswer}
 use Rattle.store_bytes.specs.Stores.{nameFrom, storeOrZeros}
 use Rattle.parity.specs.Parity.{parityOf}
 use Rattle.inserter.specs.Answers.{answerWord, countAnswer, InBytes, IsRefusal, mergeInto, openInto, parityAnswer, readInto, readLineInto, takeInto, takenWord, textInto, wordBytes, writeInto, writeLineInto}
-use Rattle.inserter.specs.Meanings.{depthAnswer, magnitudeAnswer, prefectureAnswer, slotsAnswer}
+use Rattle.inserter.specs.Meanings.{arrivalAnswer, depthAnswer, heightAnswer, magnitudeAnswer, prefectureAnswer, slotsAnswer}
 use Rattle.inserter.proofs.Meant as Meant
 use Rattle.inserter.proofs.Said as Said
 use Rattle.inserter.proofs.Kept as Kept
@@ -184,6 +184,27 @@ a-prefecture-is-told-by-its-number = Meant.in-prefecture
 
 pub no-other-prefecture-is-told : (place : ℕ) → ((100000 ≤ place) × (place ≤ 4799999) → ⊥) → prefectureAnswer place ≡ 0
 no-other-prefecture-is-told = Meant.nowhere
+
+-- "values with names, not hours": 1 with hour and minute of the arrival, 4 where the wave has arrived, and 0 for "a mixture" and
+-- whatever else says nothing
+pub an-arrival-is-told-by-hour-and-minute : (hour minute : ℕ) → hour ≤ 23 → minute ≤ 59 → arrivalAnswer hour minute ≡ 2 ^ 16 + (hour * 2 ^ 8 + minute)
+an-arrival-is-told-by-hour-and-minute = Meant.at-a-time
+
+pub hour-31-with-minute-63-is-told-as-arrived : arrivalAnswer 31 63 ≡ 4 * 2 ^ 16
+hour-31-with-minute-63-is-told-as-arrived = Meant.has-arrived
+
+pub no-other-arrival-is-told : (hour minute : ℕ) → ((hour ≡ 31) × (minute ≡ 63) → ⊥) → ((hour ≤ 23) × (minute ≤ 59) → ⊥) → arrivalAnswer hour minute ≡ 0
+no-other-arrival-is-told = Meant.no-arrival
+
+-- a height is told by its code of table 4.1.2-23, 14 as unknown, and 0 is said of what is no height
+pub a-height-is-told-by-its-code : (code : ℕ) → 1 ≤ code → code ≤ 15 → (code ≡ 14 → ⊥) → heightAnswer code ≡ 2 ^ 16 + code
+a-height-is-told-by-its-code = Meant.by-code
+
+pub height-14-is-told-as-unknown : heightAnswer 14 ≡ 3 * 2 ^ 16
+height-14-is-told-as-unknown = Meant.height-unknown
+
+pub no-other-height-is-told : (code : ℕ) → ((1 ≤ code) × (code ≤ 15) → ⊥) → heightAnswer code ≡ 0
+no-other-height-is-told = Meant.no-height
 
 pub sixteen-slots-are-told-at-most : (bytes : List ℕ) → slotsAnswer bytes ≤ 16
 sixteen-slots-are-told-at-most = Meant.sixteen-at-most

@@ -4,10 +4,11 @@ use Prim.Native.Nat.{ℕ, _+_, _*_, _/_, _^_, _≤_, _<_}
 use mathlib.Core.List.{List}
 use Rattle.hypocenter.proofs.Claims.{depth-501-is-deeper, depth-511-is-unknown, each-depth-is-told-in-kilometres, each-magnitude-is-told-in-tenths, magnitude-126-is-above-8, magnitude-127-is-unknown, no-other-code-is-a-depth, no-other-code-is-a-magnitude}
 use Rattle.ash_fall.proofs.Claims.{each-place-has-a-prefecture, no-other-place-has-a-prefecture}
+use Rattle.tsunami.proofs.Claims.{each-height-is-told-by-its-code, each-time-is-told, height-14-is-unknown, hour-31-with-minute-63-has-arrived, no-other-code-is-a-height, nothing-else-is-an-arrival}
 use Rattle.report.proofs.Reading.Used.{few}
 use Rattle.record_bytes.specs.Unpacked.{recordFrom}
 use Rattle.record_bytes.proofs.Accepted.{record-shaped}
-use Rattle.inserter.specs.Meanings.{depthAnswer, depthWord, magnitudeAnswer, magnitudeWord, prefectureAnswer, prefectureWord, slotsAnswer}
+use Rattle.inserter.specs.Meanings.{arrivalAnswer, arrivalWord, depthAnswer, depthWord, heightAnswer, heightWord, magnitudeAnswer, magnitudeWord, prefectureAnswer, prefectureWord, slotsAnswer}
 
 -- ---- a depth
 
@@ -36,6 +37,26 @@ magnitude-unknown = ap magnitudeWord magnitude-127-is-unknown
 
 pub no-magnitude : (code : ℕ) → ((1 ≤ code) × (code ≤ 101) → ⊥) → (code ≡ 126 → ⊥) → (code ≡ 127 → ⊥) → magnitudeAnswer code ≡ 0
 no-magnitude code out n m = ap magnitudeWord (no-other-code-is-a-magnitude code out n m)
+
+-- ---- an area
+
+pub at-a-time : (hour minute : ℕ) → hour ≤ 23 → minute ≤ 59 → arrivalAnswer hour minute ≡ 2 ^ 16 + (hour * 2 ^ 8 + minute)
+at-a-time hour minute h m = ap arrivalWord (each-time-is-told hour minute h m)
+
+pub has-arrived : arrivalAnswer 31 63 ≡ 4 * 2 ^ 16
+has-arrived = ap arrivalWord hour-31-with-minute-63-has-arrived
+
+pub no-arrival : (hour minute : ℕ) → ((hour ≡ 31) × (minute ≡ 63) → ⊥) → ((hour ≤ 23) × (minute ≤ 59) → ⊥) → arrivalAnswer hour minute ≡ 0
+no-arrival hour minute n m = ap arrivalWord (nothing-else-is-an-arrival hour minute n m)
+
+pub by-code : (code : ℕ) → 1 ≤ code → code ≤ 15 → (code ≡ 14 → ⊥) → heightAnswer code ≡ 2 ^ 16 + code
+by-code code low high n = ap heightWord (each-height-is-told-by-its-code code low high n)
+
+pub height-unknown : heightAnswer 14 ≡ 3 * 2 ^ 16
+height-unknown = ap heightWord height-14-is-unknown
+
+pub no-height : (code : ℕ) → ((1 ≤ code) × (code ≤ 15) → ⊥) → heightAnswer code ≡ 0
+no-height code out = ap heightWord (no-other-code-is-a-height code out)
 
 -- ---- a prefecture, and slots
 

@@ -52,3 +52,9 @@ lz-prefecture-is-settled κs a x y = answer
 
 pub lz-slots-used-is-settled : Settled inserter.meanings.lz_slots_used.ended inserter.meanings.lz_slots_used.Reads.Post
 lz-slots-used-is-settled κs a x y = answer
+
+pub lz-arrival-is-settled : Settled inserter.meanings.lz_arrival.ended inserter.meanings.lz_arrival.Reads.Post
+lz-arrival-is-settled κs a x y = answer
+
+pub lz-height-is-settled : Settled inserter.meanings.lz_height.ended inserter.meanings.lz_height.Reads.Post
+lz-height-is-settled κs a x y = answer

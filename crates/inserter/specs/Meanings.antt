@@ -10,6 +10,11 @@ use Rattle.ash_fall.specs.declared.meaning.Prefecture.{Prefecture}
 use Rattle.ash_fall.specs.declared.meaning.Prefecture.the-variants.{Number, Nowhere}
 use Rattle.hypocenter.specs.Hypocenter.{depthOf, magnitudeOf}
 use Rattle.ash_fall.specs.Meaning.{prefectureOf}
+use Rattle.tsunami.specs.declared.meaning.Arrival.{Arrival}
+use Rattle.tsunami.specs.declared.meaning.Arrival.the-variants.{At, Arrived, OutOfRange as NoArrival}
+use Rattle.tsunami.specs.declared.meaning.Height.{Height}
+use Rattle.tsunami.specs.declared.meaning.Height.the-variants.{Code, Unknown as NoHeightKnown, OutOfRange as NotAHeight}
+use Rattle.tsunami.specs.Meaning.{arrivalOf, heightOf}
 use Rattle.report.specs.Meaning.{usedOf}
 use Rattle.record_bytes.specs.Unpacked.{recordFrom}
 
@@ -48,6 +53,23 @@ prefectureWord Nowhere = 0
 
 abbrev pub prefectureAnswer : ℕ → ℕ
 prefectureAnswer place = prefectureWord (prefectureOf place)
+
+-- a time has its hour in front of its minute
+abbrev pub arrivalWord : Arrival → ℕ
+arrivalWord (At hour minute) = known (hour * 2 ^ 8 + minute)
+arrivalWord Arrived = 4 * 2 ^ 16
+arrivalWord NoArrival = 0
+
+abbrev pub arrivalAnswer : ℕ → ℕ → ℕ
+arrivalAnswer hour minute = arrivalWord (arrivalOf hour minute)
+
+abbrev pub heightWord : Height → ℕ
+heightWord (Code n) = known n
+heightWord NoHeightKnown = unknown
+heightWord NotAHeight = 0
+
+abbrev pub heightAnswer : ℕ → ℕ
+heightAnswer code = heightWord (heightOf code)
 
 abbrev pub slotsAnswer : List ℕ → ℕ
 slotsAnswer bytes = usedOf (recordFrom bytes)

@@ -1,10 +1,12 @@
 // What a number of a record says. No table has a first row for a number that it does not know: such a
-// number is told as 0, and neither a depth, a magnitude nor a prefecture is.
+// number is told as 0, which is neither a depth, a magnitude, a prefecture, an arrival nor a height.
 ghost use mathlib.Core.Path.{_≡_};
-ghost use Rattle.inserter.specs.Meanings.{depthAnswer, magnitudeAnswer, prefectureAnswer, slotsAnswer};
+ghost use Rattle.inserter.specs.Meanings.{depthAnswer, magnitudeAnswer, prefectureAnswer, arrivalAnswer, heightAnswer, slotsAnswer};
 use ash_fall::meaning::Prefecture;
 use hypocenter::meaning::Depth;
 use hypocenter::meaning::Magnitude;
+use tsunami::meaning::Arrival;
+use tsunami::meaning::Height;
 
 // 1 in the second byte and the kilometres, 0 to 500, in the last two; 2 there for deeper than 500 km, 3 for
 // unknown; 0 for a code that no depth has.
@@ -42,6 +44,31 @@ pub extern "C" fn lz_prefecture(place: u64) -> u32
     match Prefecture::of(place) {
         Prefecture::Number(prefecture) => prefecture as u32,
         Prefecture::Nowhere => 0,
+    }
+}
+
+// 1 in the second byte, the hour, 0 to 23, in the third and the minute, 0 to 59, in the last; 4 there where the
+// wave has arrived; 0 for one code without the other, and for numbers that are neither.
+#[no_mangle]
+pub extern "C" fn lz_arrival(hour: u8, minute: u8) -> u32
+    ensures { λ r. ⌜ r ≡ arrivalAnswer hour minute ⌝ }
+{
+    match Arrival::of(hour, minute) {
+        Arrival::At { hour, minute } => 0x1_0000 + (hour as u32) * 0x100 + minute as u32,
+        Arrival::Arrived => 0x4_0000,
+        Arrival::OutOfRange => 0,
+    }
+}
+
+// 1 in the second byte and the code in the last; 3 there for unknown; 0 for a code that no height has.
+#[no_mangle]
+pub extern "C" fn lz_height(code: u8) -> u32
+    ensures { λ r. ⌜ r ≡ heightAnswer code ⌝ }
+{
+    match Height::of(code) {
+        Height::Code(code) => 0x1_0000 + code as u32,
+        Height::Unknown => 0x3_0000,
+        Height::OutOfRange => 0,
     }
 }
 
