@@ -66,6 +66,8 @@ mod raw {
         ) -> u32;
         pub fn lz_depth(code: u16) -> u32;
         pub fn lz_magnitude(code: u8) -> u32;
+        pub fn lz_arrival(hour: u8, minute: u8) -> u32;
+        pub fn lz_height(code: u8) -> u32;
         pub fn lz_prefecture(place: u64) -> u32;
         pub fn lz_slots_used(record_bytes: *const u8, record_length: usize) -> u32;
     }
@@ -137,13 +139,26 @@ pub fn depth(code: u16) -> u32 {
 
 /// What a magnitude says: 65536 times its kind, and the tenths.
 pub fn magnitude(code: u8) -> u32 {
-    // As above.
+    // As with a depth.
     unsafe { raw::lz_magnitude(code) }
+}
+
+/// What hour and minute of an area say: 65536 times their kind, and where they
+/// are a time, 256 times the hour and the minute.
+pub fn arrival(hour: u8, minute: u8) -> u32 {
+    // Two numbers are handed over and nothing else.
+    unsafe { raw::lz_arrival(hour, minute) }
+}
+
+/// What a height says: 65536 times its kind, and the code.
+pub fn height(code: u8) -> u32 {
+    // As with a depth.
+    unsafe { raw::lz_height(code) }
 }
 
 /// The prefecture of a place, or 0.
 pub fn prefecture(place: u64) -> u32 {
-    // As above.
+    // As with a depth.
     unsafe { raw::lz_prefecture(place) }
 }
 

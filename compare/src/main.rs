@@ -49,11 +49,13 @@ fn main() {
     run("parity", parity::compare);
     run("reading, frames of all kinds", reading::any_frames);
     run("reading, fields at their bounds", reading::boundaries);
+    run("reading, every arrival of every area", reading::arrivals);
     run("reading, slices of 0 to 40 bytes", reading::slice_lengths);
     run("reading, buffers of other lengths", reading::buffer_lengths);
     run("reading, document 004", reading::document_004);
     run("writing, records of all kinds", writing::any_records);
     run("writing, fields at their bounds", writing::boundaries);
+    run("writing, every arrival of every area", writing::arrivals);
     run("writing, document 004", writing::document_004);
     run("writing, frames of other lengths", writing::frame_lengths);
     run("writing, record bytes of other lengths", writing::record_lengths);
@@ -63,6 +65,8 @@ fn main() {
     run("written and read again", writing::there_and_back);
     run("meanings, every depth", meanings::depths);
     run("meanings, every magnitude", meanings::magnitudes);
+    run("meanings, every hour and minute of an arrival", meanings::arrivals);
+    run("meanings, every height", meanings::heights);
     run("meanings, every place and wider ones", meanings::places);
     run("meanings, slots in record bytes of other lengths", meanings::record_lengths);
     run("lines of all kinds", lines::any_lines);

@@ -4,7 +4,9 @@ use crate::lent::{only_read, resized};
 use crate::packed::{packed, LENGTH};
 use crate::{door, Count};
 use reference::generate::valid_record;
-use reference::meaning::{depth, magnitude, prefecture, slots_used, Depth, Magnitude};
+use reference::meaning::{
+    arrival, depth, height, magnitude, prefecture, slots_used, Arrival, Depth, Height, Magnitude,
+};
 use reference::random::Random;
 use reference::record::{Category, Record};
 
@@ -34,6 +36,32 @@ pub fn magnitudes(count: &mut Count) {
             Some(Magnitude::Unknown) => word(3, 0),
         };
         count.same(&[code], &door::magnitude(code), &expected);
+    }
+}
+
+/// Every two codes that 8 bits hold.
+pub fn arrivals(count: &mut Count) {
+    for hour in 0..=u8::MAX {
+        for minute in 0..=u8::MAX {
+            let expected = match arrival(hour, minute) {
+                None => 0,
+                Some(Arrival::At { hour, minute }) => word(1, u16::from_be_bytes([hour, minute])),
+                Some(Arrival::Arrived) => word(4, 0),
+            };
+            count.same(&[hour, minute], &door::arrival(hour, minute), &expected);
+        }
+    }
+}
+
+/// Every code that 8 bits hold.
+pub fn heights(count: &mut Count) {
+    for code in 0..=u8::MAX {
+        let expected = match height(code) {
+            None => 0,
+            Some(Height::Coded(code)) => word(1, code.into()),
+            Some(Height::Unknown) => word(3, 0),
+        };
+        count.same(&[code], &door::height(code), &expected);
     }
 }
 

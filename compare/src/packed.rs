@@ -58,7 +58,7 @@ pub fn unused(category: Option<Category>) -> Vec<usize> {
 /// the frame, one behind the other.
 fn rows(category: Category) -> Vec<Row> {
     let spares = spares(category);
-    let mut table = spares.to_vec();
+    let mut table = spares.clone();
     let fields = fields(category).into_iter().filter(|field| field.first > spares[0].0);
     table.extend(fields.map(|field| (field.first, field.width)));
     table.sort_unstable();

@@ -6,7 +6,10 @@ use crate::meanings::agree_on_slots;
 use crate::packed::{packed, Bytes, LENGTH, SLOTS, SLOT_LENGTH, TEXT};
 use crate::{door, pattern, Count};
 use reference::bits::Frame;
-use reference::generate::{any_frame, boundary_frames, slices, valid_frame};
+use reference::fields::slot_layout;
+use reference::generate::{
+    any_frame, boundary_frames, frame_with_slots, raw_frame, slices, valid_frame, RawValue,
+};
 use reference::random::Random;
 use reference::read::read;
 use reference::record::{Category, Record, Refusal};
@@ -15,8 +18,13 @@ use reference::write::write;
 
 const ANY_FRAMES: usize = 1_000_000;
 
-/// The number of a prefecture that the samples never name.
-const HOKKAIDO: u64 = 1;
+/// The first rows of tables 4.1.2-16 and 4.1.2-24, a prefecture and a forecast
+/// region that the samples never name.
+const FIRST_PREFECTURE: u64 = 1;
+const FIRST_REGION: u64 = 100;
+
+/// Day, hour and minute of an area together.
+const ARRIVAL_BITS: usize = 12;
 
 /// The byte of the page number in category 4.
 const PAGE_NUMBER: usize = 12;
@@ -35,6 +43,20 @@ pub fn boundaries(count: &mut Count) {
     for category in Category::ALL {
         for frame in boundary_frames(&mut random, category) {
             agree(count, &frame);
+        }
+    }
+}
+
+/// Every day, hour and minute that the bits of an area can hold.
+pub fn arrivals(count: &mut Count) {
+    let mut random = Random::new(47);
+    let layout = slot_layout(Category::Tsunami);
+    for area in 0..layout.count {
+        for value in 0..1 << ARRIVAL_BITS {
+            let base = frame_with_slots(&mut random, Category::Tsunami, layout.count);
+            let first = layout.slot_first(area);
+            let arrival = RawValue { first, width: ARRIVAL_BITS, value };
+            agree(count, &raw_frame(&base, &[arrival]));
         }
     }
 }
@@ -66,16 +88,24 @@ pub fn document_004(count: &mut Count) {
         agree(count, &frame);
         count.same(&frame, &bytes_of(&frame), &packed(&record));
     }
-    for record in samples::intensity() {
-        let frame = frame_of(&record);
-        let places = places(&bytes_of(&frame));
-        count.same(&frame, &places.len(), &9);
-        count.same(&frame, &places.contains(&HOKKAIDO), &false);
-    }
+    silent_slots(count, &samples::intensity(), 9, FIRST_PREFECTURE);
+    silent_slots(count, &samples::tsunami_warning(), 3, FIRST_REGION);
+    silent_slots(count, &samples::tsunami_update(), 4, FIRST_REGION);
+    silent_slots(count, &samples::tsunami_lifted(), 4, FIRST_REGION);
     let pages = samples::nankai();
     for delivery in pages.chunks(pages.len() / 2) {
         let text = joined(delivery);
         count.same(&text, &text.as_slice(), &samples::NANKAI_TEXT.as_bytes());
+    }
+}
+
+/// So many slots are used, and no empty one is named by a table's first row.
+fn silent_slots(count: &mut Count, records: &[Record], used: usize, first_row: u64) {
+    for record in records {
+        let frame = frame_of(record);
+        let places = places(&bytes_of(&frame));
+        count.same(&frame, &places.len(), &used);
+        count.same(&frame, &places.contains(&first_row), &false);
     }
 }
 

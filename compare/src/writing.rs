@@ -5,7 +5,7 @@ use crate::lent::{from_to, resized, Outcome};
 use crate::meanings::agree_on_slots;
 use crate::packed::{packed, unused, Bytes, LENGTH};
 use crate::{door, lent, pattern, Count};
-use reference::generate::{any_record, boundary_records, valid_record};
+use reference::generate::{any_record, boundary_records, slot_count, valid_record, valid_slot};
 use reference::random::Random;
 use reference::record::{Category, Record};
 use reference::samples;
@@ -27,6 +27,20 @@ pub fn any_records(count: &mut Count) {
 pub fn boundaries(count: &mut Count) {
     for record in all_boundary_records() {
         agree(count, &record, FRAME_LENGTH);
+    }
+}
+
+/// Every two numbers that a record can have for the hour and the minute of an
+/// area, with those behind it used or not.
+pub fn arrivals(count: &mut Count) {
+    let mut random = Random::new(60);
+    for area in 0..slot_count(Category::Tsunami) {
+        for (hour, minute) in (0..=u16::MAX).map(u16::to_be_bytes).map(<(u8, u8)>::from) {
+            let mut record = valid_record(&mut random, Category::Tsunami);
+            record.slots[..=area].fill(valid_slot(&mut random, Category::Tsunami));
+            (record.slots[area].hour, record.slots[area].minute) = (hour, minute);
+            agree(count, &record, FRAME_LENGTH);
+        }
     }
 }
 

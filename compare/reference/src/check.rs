@@ -29,8 +29,15 @@ pub fn reported(faults: &[Refusal]) -> Option<Refusal> {
     faults.iter().copied().min_by_key(|fault| (fault.place, fault.number != SLOT_AFTER_EMPTY))
 }
 
-fn out_of_range(fields: &[Field], value_of: &dyn Fn(&Field) -> u64) -> Vec<Refusal> {
-    let bad = fields.iter().filter(|field| !field.allows(value_of(field)));
+/// The values out of range in one table or one slot. The codes of a group are
+/// right where every field of it has its code; otherwise they are values like
+/// any other, and each field is judged for itself.
+pub fn out_of_range(fields: &[Field], value_of: &dyn Fn(&Field) -> u64) -> Vec<Refusal> {
+    let (group, single): (Vec<Field>, Vec<Field>) =
+        fields.iter().copied().partition(|field| field.group_code.is_some());
+    let has_code = |field: &Field| field.group_code.map(u64::from) == Some(value_of(field));
+    let judged = if group.iter().all(has_code) { single } else { fields.to_vec() };
+    let bad = judged.iter().filter(|field| !field.allows(value_of(field)));
     bad.map(|field| Refusal::at(OUT_OF_RANGE, field.first)).collect()
 }
 

@@ -1,5 +1,9 @@
 //! The tables of document 001 as rows: each field with its first bit, its
 //! width and the values it may take.
+//!
+//! Some fields have a code besides, which says that no value is given. It does
+//! not speak for its field alone: the fields of one table, or of one slot, that
+//! have a code form a group, and either all of them have their codes or none.
 
 use crate::record::Category;
 
@@ -11,10 +15,13 @@ pub struct Field {
     pub first: usize,
     pub width: usize,
     pub allowed: Allowed,
+    /// The value that stands here where the whole group has its codes.
+    pub group_code: Option<u32>,
 }
 
 impl Field {
-    /// The value may be wider than any field, as in a record it can be.
+    /// Whether a value is allowed for itself, codes of a group apart. It may be
+    /// wider than any field, as in a record it can be.
     pub fn allows(&self, value: u64) -> bool {
         let within = |&(lowest, highest): &(u32, u32)| {
             u64::from(lowest) <= value && value <= u64::from(highest)
@@ -24,7 +31,11 @@ impl Field {
 }
 
 const fn field(first: usize, width: usize, allowed: Allowed) -> Field {
-    Field { first, width, allowed }
+    Field { first, width, allowed, group_code: None }
+}
+
+const fn grouped(first: usize, width: usize, allowed: Allowed, code: u32) -> Field {
+    Field { first, width, allowed, group_code: Some(code) }
 }
 
 const DAY: Allowed = &[(1, 31)];
@@ -42,14 +53,14 @@ pub const RESERVED: Field = field(220, 6, &[(0, 63)]);
 pub const PAGE_NUMBER_FIRST: usize = 201;
 pub const PAGE_TOTAL_FIRST: usize = 207;
 
-/// Rc and the time of issue, the same in every category.
-const COMMON: [Field; 5] = [
-    field(14, 3, &[(2, 2), (7, 7)]),
-    field(21, 4, &[(1, 12)]),
-    field(25, 5, DAY),
-    field(30, 5, HOUR),
-    field(35, 6, MINUTE),
-];
+/// Tsunami reports are of maximum priority or regular, the others are of
+/// priority; all of them may be for training.
+const RC: Field = field(14, 3, &[(2, 2), (7, 7)]);
+const RC_OF_TSUNAMI: Field = field(14, 3, &[(1, 1), (3, 3), (7, 7)]);
+
+/// The time of issue, the same in every category.
+const ISSUE_TIME: [Field; 4] =
+    [field(21, 4, &[(1, 12)]), field(25, 5, DAY), field(30, 5, HOUR), field(35, 6, MINUTE)];
 
 /// Only ash fall knows a correction, which is 1.
 const IT: Field = field(41, 2, &[(0, 0), (2, 2)]);
@@ -89,6 +100,26 @@ const NANKAI: [Field; 3] = [
     field(PAGE_TOTAL_FIRST, 6, &[(1, 63)]),
 ];
 
+/// Table 4.1.2-21, without its areas. It prints the first and the third
+/// notification; the bits up to the version add up with a second one between.
+const TSUNAMI: [Field; 4] = [
+    field(53, 9, NOTIFICATION),
+    field(62, 9, NOTIFICATION),
+    field(71, 9, NOTIFICATION),
+    field(80, 4, &[(1, 15)]),
+];
+
+/// Table 4.1.2-21, one area: day, hour and minute of the arrival, height and
+/// region. Hour and minute have their codes where the wave has arrived. The day
+/// says this day or the next and has no code.
+const TSUNAMI_PARTS: [Field; 5] = [
+    field(0, 1, &[(0, 1)]),
+    grouped(1, 5, HOUR, 31),
+    grouped(6, 6, MINUTE, 63),
+    field(12, 4, &[(1, 15)]),
+    field(16, 10, &[(100, 1000)]),
+];
+
 /// Table 4.1.2-35, without its slots.
 const ASH_FALL: [Field; 5] = [
     field(53, 5, DAY),
@@ -104,16 +135,14 @@ const ASH_FALL_PARTS: [Field; 3] =
 
 /// Every field of a category outside its slots, by rising first bit.
 pub fn fields(category: Category) -> Vec<Field> {
-    let (it, own): (Field, &[Field]) = match category {
-        Category::Hypocenter => (IT, &HYPOCENTER),
-        Category::Intensity => (IT, &INTENSITY),
-        Category::Nankai => (IT, &NANKAI),
-        Category::AshFall => (IT_OF_ASH_FALL, &ASH_FALL),
+    let (rc, it, own): (Field, Field, &[Field]) = match category {
+        Category::Hypocenter => (RC, IT, &HYPOCENTER),
+        Category::Intensity => (RC, IT, &INTENSITY),
+        Category::Nankai => (RC, IT, &NANKAI),
+        Category::Tsunami => (RC_OF_TSUNAMI, IT, &TSUNAMI),
+        Category::AshFall => (RC, IT_OF_ASH_FALL, &ASH_FALL),
     };
-    let mut all = COMMON.to_vec();
-    all.push(it);
-    all.extend_from_slice(own);
-    all
+    [&[rc], &ISSUE_TIME[..], &[it], own].concat()
 }
 
 /// How the slots of a category lie; the bits of the parts are counted from
@@ -135,7 +164,7 @@ impl SlotLayout {
     /// The parts of a slot as fields of the frame.
     pub fn parts(&self, slot: usize) -> Vec<Field> {
         let start = self.slot_first(slot);
-        self.parts.iter().map(|part| field(start + part.first, part.width, part.allowed)).collect()
+        self.parts.iter().map(|part| Field { first: start + part.first, ..*part }).collect()
     }
 }
 
@@ -148,16 +177,19 @@ pub fn slot_layout(category: Category) -> SlotLayout {
         Category::Intensity => {
             SlotLayout { first: 69, width: 9, count: 16, parts: &INTENSITY_PARTS }
         }
+        Category::Tsunami => SlotLayout { first: 84, width: 26, count: 5, parts: &TSUNAMI_PARTS },
         Category::AshFall => SlotLayout { first: 83, width: 29, count: 4, parts: &ASH_FALL_PARTS },
     }
 }
 
-/// First bit and width of Spare1 and of the category's own spare.
-pub fn spares(category: Category) -> [(usize, usize); 2] {
-    let own = match category {
-        Category::Hypocenter => (163, 51),
-        Category::Intensity | Category::Nankai => (213, 1),
-        Category::AshFall => (199, 15),
+/// First bit and width of Spare1 and of the category's own spare. The areas of
+/// category 5 reach up to the version and leave no room for one.
+pub fn spares(category: Category) -> Vec<(usize, usize)> {
+    let own: &[(usize, usize)] = match category {
+        Category::Hypocenter => &[(163, 51)],
+        Category::Intensity | Category::Nankai => &[(213, 1)],
+        Category::Tsunami => &[],
+        Category::AshFall => &[(199, 15)],
     };
-    [(43, 10), own]
+    [&[(43, 10)], own].concat()
 }

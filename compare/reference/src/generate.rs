@@ -33,7 +33,7 @@ pub struct RawValue {
 }
 
 /// One stretch of allowed values of a field. A field that allows several
-/// stretches has several rows.
+/// stretches has several rows, and one more for the code of its group.
 #[derive(Clone, Copy, Debug)]
 pub struct Bounds {
     pub first: usize,
@@ -49,6 +49,11 @@ impl Bounds {
         values.extend(self.lowest.checked_sub(1));
         values.extend(Some(self.highest + 1).filter(|above| above >> self.width == 0));
         values
+    }
+
+    /// One of the edges, to be written to a frame.
+    pub fn any_edge(&self, random: &mut Random) -> RawValue {
+        RawValue { first: self.first, width: self.width, value: random.pick(&self.edges()) }
     }
 
     /// Values that no field of this width holds: a record may have them all
@@ -69,7 +74,16 @@ pub fn bounds(category: Category) -> Vec<Bounds> {
 fn field_bounds(field: &Field) -> Vec<Bounds> {
     let (first, width) = (field.first, field.width);
     let row = |&(lowest, highest): &(u32, u32)| Bounds { first, width, lowest, highest };
-    field.allowed.iter().map(row).collect()
+    let code = field.group_code.map(|code| (code, code));
+    field.allowed.iter().chain(&code).map(row).collect()
+}
+
+/// A zero for a part of a slot that must not be zero where the slot is used.
+fn part_of_zero(random: &mut Random, category: Category, slot: usize) -> RawValue {
+    let mut parts = slot_layout(category).parts(slot);
+    parts.retain(|part| !part.allows(0));
+    let Field { first, width, .. } = random.pick(&parts);
+    RawValue { first, width, value: 0 }
 }
 
 /// Gives a frame the parity of its first 226 bits.
@@ -105,7 +119,7 @@ pub fn any_category(random: &mut Random) -> Category {
 /// Bytes of any kind this module knows, for the reader.
 pub fn any_frame(random: &mut Random) -> Vec<u8> {
     let category = any_category(random);
-    let frame = match random.below(14) {
+    let frame = match random.below(15) {
         0 => valid_frame(random, category),
         1 => boundary_frame(random, category),
         2 => gap_frame(random),
@@ -118,7 +132,8 @@ pub fn any_frame(random: &mut Random) -> Vec<u8> {
         9 => envelope_fault_frame(random, category),
         10 => flipped_frame(random, category),
         11 => page_frame(random),
-        12 => return random_bytes(random, 32),
+        12 => arrival_frame(random),
+        13 => return random_bytes(random, 32),
         _ => {
             let length = random.below(41);
             return slice_of_length(random, length);
@@ -130,7 +145,7 @@ pub fn any_frame(random: &mut Random) -> Vec<u8> {
 /// A record of any kind this module knows, for the writer.
 pub fn any_record(random: &mut Random) -> Record {
     let category = any_category(random);
-    match random.below(10) {
+    match random.below(11) {
         0 => valid_record(random, category),
         1 => boundary_record(random, category),
         2 => unused_filled_record(random, category),
@@ -140,6 +155,7 @@ pub fn any_record(random: &mut Random) -> Record {
         6 => no_category_record(random),
         7 => many_faults_record(random, category),
         8 => page_record(random),
+        9 => arrival_record(random),
         _ => random_record(random, category),
     }
 }

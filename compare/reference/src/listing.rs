@@ -37,7 +37,7 @@ fn write_row(
             let category = record.body.category();
             let dc = category.map_or(0, Category::code);
             match category {
-                Some(Category::Intensity | Category::AshFall) => {
+                Some(Category::Intensity | Category::Tsunami | Category::AshFall) => {
                     writeln!(output, "{line} 0 - {dc} {}", slots_used(&record))
                 }
                 _ => writeln!(output, "{line} 0 - {dc} -"),

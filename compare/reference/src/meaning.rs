@@ -38,6 +38,39 @@ pub fn magnitude(code: u8) -> Option<Magnitude> {
     }
 }
 
+#[derive(Clone, Copy, PartialEq, Eq, Debug)]
+pub enum Arrival {
+    At { hour: u8, minute: u8 },
+    Arrived,
+}
+
+/// Table 4.1.2-21: an hour (UTC) and a minute, or their codes, which say
+/// together that the tsunami has arrived at the region.
+pub fn arrival(hour: u8, minute: u8) -> Option<Arrival> {
+    match (hour, minute) {
+        (0..=23, 0..=59) => Some(Arrival::At { hour, minute }),
+        (31, 63) => Some(Arrival::Arrived),
+        _ => None,
+    }
+}
+
+#[derive(Clone, Copy, PartialEq, Eq, Debug)]
+pub enum Height {
+    /// A code other than 14. Those that table 4.1.2-23 does not define are to
+    /// be told by their number.
+    Coded(u8),
+    Unknown,
+}
+
+/// Table 4.1.2-23.
+pub fn height(code: u8) -> Option<Height> {
+    match code {
+        14 => Some(Height::Unknown),
+        1..=15 => Some(Height::Coded(code)),
+        _ => None,
+    }
+}
+
 /// "A place divided by 100000, remainder dropped, is its prefecture, 1 to 47."
 pub fn prefecture(place: u64) -> Option<u64> {
     Some(place / 100_000).filter(|prefecture| (1..=47).contains(prefecture))

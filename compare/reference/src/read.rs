@@ -71,6 +71,9 @@ fn body(frame: &Frame, category: Category) -> Body {
             page: byte(frame, 201, 6),
             total: byte(frame, 207, 6),
         },
+        Category::Tsunami => {
+            Body::Tsunami { notifications: notifications(frame), warning: byte(frame, 80, 4) }
+        }
         Category::AshFall => Body::AshFall {
             time: time(frame, 53),
             warning: byte(frame, 69, 2),
@@ -81,7 +84,7 @@ fn body(frame: &Frame, category: Category) -> Body {
 
 fn hypocenter(frame: &Frame) -> Hypocenter {
     Hypocenter {
-        notifications: [short(frame, 53, 9), short(frame, 62, 9), short(frame, 71, 9)],
+        notifications: notifications(frame),
         time: time(frame, 80),
         depth: short(frame, 96, 9),
         magnitude: byte(frame, 105, 7),
@@ -101,6 +104,11 @@ fn hypocenter(frame: &Frame) -> Hypocenter {
     }
 }
 
+/// Categories 2 and 5 have their notifications at the same bits.
+fn notifications(frame: &Frame) -> [u16; 3] {
+    [short(frame, 53, 9), short(frame, 62, 9), short(frame, 71, 9)]
+}
+
 fn time(frame: &Frame, first: usize) -> Time {
     Time {
         day: byte(frame, first, 5),
@@ -113,22 +121,32 @@ fn slots(frame: &Frame, category: Category) -> [Slot; 16] {
     let mut slots = [Slot::default(); 16];
     let layout = slot_layout(category);
     for (number, slot) in slots.iter_mut().enumerate().take(layout.count) {
-        let first = layout.slot_first(number);
-        *slot = match category {
-            Category::AshFall => Slot {
-                hour: byte(frame, first, 3),
-                strength: byte(frame, first + 3, 3),
-                place: get(frame, first + 6, 23).into(),
-                ..Slot::default()
-            },
-            _ => Slot {
-                strength: byte(frame, first, 3),
-                place: get(frame, first + 3, 6).into(),
-                ..Slot::default()
-            },
-        };
+        *slot = slot_at(frame, category, layout.slot_first(number));
     }
     slots
+}
+
+fn slot_at(frame: &Frame, category: Category, first: usize) -> Slot {
+    match category {
+        Category::Tsunami => Slot {
+            day: byte(frame, first, 1),
+            hour: byte(frame, first + 1, 5),
+            minute: byte(frame, first + 6, 6),
+            strength: byte(frame, first + 12, 4),
+            place: get(frame, first + 16, 10).into(),
+        },
+        Category::AshFall => Slot {
+            hour: byte(frame, first, 3),
+            strength: byte(frame, first + 3, 3),
+            place: get(frame, first + 6, 23).into(),
+            ..Slot::default()
+        },
+        _ => Slot {
+            strength: byte(frame, first, 3),
+            place: get(frame, first + 3, 6).into(),
+            ..Slot::default()
+        },
+    }
 }
 
 fn text(frame: &Frame, category: Category) -> [u8; 18] {

@@ -4,18 +4,24 @@
 /// The three preambles of a frame.
 pub const PREAMBLES: [u8; 3] = [0x53, 0x9A, 0xC6];
 
-/// The four categories that are read and written.
+/// The categories that are read and written.
 #[derive(Clone, Copy, PartialEq, Eq, Debug)]
 pub enum Category {
     Hypocenter,
     Intensity,
     Nankai,
+    Tsunami,
     AshFall,
 }
 
 impl Category {
-    pub const ALL: [Category; 4] =
-        [Category::Hypocenter, Category::Intensity, Category::Nankai, Category::AshFall];
+    pub const ALL: [Category; 5] = [
+        Category::Hypocenter,
+        Category::Intensity,
+        Category::Nankai,
+        Category::Tsunami,
+        Category::AshFall,
+    ];
 
     /// The number that stands in Dc.
     pub fn code(self) -> u32 {
@@ -23,11 +29,12 @@ impl Category {
             Category::Hypocenter => 2,
             Category::Intensity => 3,
             Category::Nankai => 4,
+            Category::Tsunami => 5,
             Category::AshFall => 9,
         }
     }
 
-    /// The category of a Dc, if it is one of the four.
+    /// The category of a Dc, if it is one of these.
     pub fn of_code(code: u32) -> Option<Category> {
         Category::ALL.into_iter().find(|category| category.code() == code)
     }
@@ -74,6 +81,10 @@ pub enum Body {
         page: u8,
         total: u8,
     },
+    Tsunami {
+        notifications: [u16; 3],
+        warning: u8,
+    },
     AshFall {
         time: Time,
         warning: u8,
@@ -88,14 +99,17 @@ impl Body {
             Body::Hypocenter(_) => Some(Category::Hypocenter),
             Body::Intensity(_) => Some(Category::Intensity),
             Body::Nankai { .. } => Some(Category::Nankai),
+            Body::Tsunami { .. } => Some(Category::Tsunami),
             Body::AshFall { .. } => Some(Category::AshFall),
         }
     }
 }
 
 /// One place with its strength and when. In category 3 the strength is the
-/// intensity and the place is the prefecture. What a category does not have
-/// stays zero: in category 9 day and minute, in category 3 the hour as well.
+/// intensity and the place is the prefecture; in category 5, where a slot is an
+/// area, they are the height code and the forecast region. What a category does
+/// not have stays zero: in category 9 day and minute, in category 3 the hour as
+/// well.
 #[derive(Clone, Copy, PartialEq, Eq, Debug, Default)]
 pub struct Slot {
     pub day: u8,

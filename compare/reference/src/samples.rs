@@ -1,5 +1,5 @@
-//! The values of document 004 (training messages of March 2025) in the four
-//! categories, as records.
+//! The values of document 004 (training messages of March 2025) in the
+//! categories that are read, as records.
 //!
 //! What document 004 leaves open is filled plainly: the preamble is 53
 //! hexadecimal and Reserved is 0 throughout. Message type and version are not
@@ -33,9 +33,31 @@ const MINAMIASO: u64 = 4_343_300;
 /// Tables 2-4-2 and 2-5-1, row Vo: Mount Aso.
 const MOUNT_ASO: u16 = 503;
 
+/// Tables 2-1-4, 2-2-1 and 2-3-2, rows Pl: the forecast regions, which are the
+/// coast of Ehime on the Uwa Sea, Kochi, that of Oita on the Bungo Channel, and
+/// Miyazaki.
+const EHIME: u64 = 600;
+const KOCHI: u64 = 610;
+const OITA: u64 = 751;
+const MIYAZAKI: u64 = 760;
+
+/// The same, rows Th: 3 m in every area. Its code is that of table 4.1.2-23 of
+/// document 001; table 2-3-2 leaves the code of its first area blank.
+const THREE_METRES: u8 = 3;
+
 /// Every sample, in the order of document 004.
 pub fn all() -> Vec<Record> {
-    [hypocenter(), intensity(), nankai(), ash_fall_preliminary(), ash_fall_detailed()].concat()
+    let tables = [
+        hypocenter(),
+        intensity(),
+        tsunami_warning(),
+        tsunami_update(),
+        nankai(),
+        tsunami_lifted(),
+        ash_fall_preliminary(),
+        ash_fall_detailed(),
+    ];
+    tables.concat()
 }
 
 /// Section 2.1.2, table 2-1-2: one record for each delivery.
@@ -55,6 +77,28 @@ pub fn intensity() -> Vec<Record> {
     let issues = [issue(0, 0, 5), issue(1, 0, 5)];
     let filled = |issue| Record { body: Body::Intensity(same_time(&issue)), slots, ..issue };
     issues.map(filled).to_vec()
+}
+
+/// Section 2.1.4, table 2-1-4: three areas, for each delivery.
+pub fn tsunami_warning() -> Vec<Record> {
+    let body = Body::Tsunami { notifications: [122, 123, 124], warning: 3 };
+    let issues = [issue(0, 0, 5), issue(1, 0, 5)];
+    issues.map(|issue| tsunami(&issue, body, &[EHIME, KOCHI, MIYAZAKI])).to_vec()
+}
+
+/// Section 2.2.1, table 2-2-1: four areas, for each delivery.
+pub fn tsunami_update() -> Vec<Record> {
+    let body = Body::Tsunami { notifications: [122, 123, 124], warning: 3 };
+    let issues = [issue(0, 0, 25), issue(1, 0, 25)];
+    issues.map(|issue| tsunami(&issue, body, &[EHIME, KOCHI, OITA, MIYAZAKI])).to_vec()
+}
+
+/// Section 2.3.2, table 2-3-2: four areas, for each delivery. Its row Ta speaks
+/// of five regions, but rows Pl name four.
+pub fn tsunami_lifted() -> Vec<Record> {
+    let body = Body::Tsunami { notifications: [103, 0, 0], warning: 2 };
+    let issues = [issue(0, 0, 35), issue(1, 0, 35)];
+    issues.map(|issue| tsunami(&issue, body, &[EHIME, KOCHI, OITA, MIYAZAKI])).to_vec()
 }
 
 /// Section 2.3.1, table 2-3-1: the pages of the bulletin, for each delivery.
@@ -153,6 +197,17 @@ fn hyuganada(issue: &Record) -> Hypocenter {
         latitude: Angle { side: 0, degrees: 32, minutes: 42, seconds: 0 },
         longitude: Angle { side: 0, degrees: 132, minutes: 6, seconds: 0 },
     }
+}
+
+/// A tsunami message. Row Ta gives one arrival for all areas: the time of issue,
+/// which is on the same day.
+fn tsunami(issue: &Record, body: Body, regions: &[u64]) -> Record {
+    let Time { hour, minute, .. } = same_time(issue);
+    let mut slots = [Slot::default(); 16];
+    for (slot, &place) in slots.iter_mut().zip(regions) {
+        *slot = Slot { day: 0, hour, minute, strength: THREE_METRES, place };
+    }
+    Record { body, slots, ..*issue }
 }
 
 /// An ash fall message with its places as hour, strength and place.

@@ -53,7 +53,11 @@ fn has_something_unused(record: &Record, category: Category) -> bool {
 
 /// Whether something stands in a part that the category's slots do not have.
 fn has_unused_part(slot: &Slot, category: Category) -> bool {
-    slot.day != 0 || slot.minute != 0 || (category != Category::AshFall && slot.hour != 0)
+    match category {
+        Category::Tsunami => false,
+        Category::AshFall => slot.day != 0 || slot.minute != 0,
+        _ => slot.day != 0 || slot.hour != 0 || slot.minute != 0,
+    }
 }
 
 /// The value that the record gives a field. Every field of the tables is
@@ -99,6 +103,10 @@ pub fn placed(record: &Record, category: Category) -> Vec<Placed> {
             all.push(place(201, 6, *page));
             all.push(place(207, 6, *total));
         }
+        Body::Tsunami { notifications, warning } => {
+            all.extend(place_notifications(notifications));
+            all.push(place(80, 4, *warning));
+        }
         Body::AshFall { time, warning, volcano } => {
             all.extend(place_time(53, time));
             all.push(place(69, 2, *warning));
@@ -117,11 +125,14 @@ fn place_time(first: usize, time: &Time) -> [Placed; 3] {
     [place(first, 5, time.day), place(first + 5, 5, time.hour), place(first + 10, 6, time.minute)]
 }
 
+/// Categories 2 and 5 have their notifications at the same bits.
+fn place_notifications(notifications: &[u16; 3]) -> Vec<Placed> {
+    let numbered = notifications.iter().enumerate();
+    numbered.map(|(number, &notification)| place(53 + 9 * number, 9, notification)).collect()
+}
+
 fn place_hypocenter(hypocenter: &Hypocenter) -> Vec<Placed> {
-    let mut all = Vec::new();
-    for (number, notification) in hypocenter.notifications.into_iter().enumerate() {
-        all.push(place(53 + 9 * number, 9, notification));
-    }
+    let mut all = place_notifications(&hypocenter.notifications);
     all.extend(place_time(80, &hypocenter.time));
     all.push(place(96, 9, hypocenter.depth));
     all.push(place(105, 7, hypocenter.magnitude));
@@ -149,18 +160,24 @@ fn place_text(text: &[u8; 18]) -> Vec<Placed> {
 
 fn place_slots(slots: &[Slot; 16], category: Category) -> Vec<Placed> {
     let layout = slot_layout(category);
-    let mut all = Vec::new();
-    for (number, slot) in slots.iter().enumerate().take(layout.count) {
-        let mut first = layout.slot_first(number);
-        let place_width = if category == Category::AshFall {
-            all.push(place(first, 3, slot.hour));
-            first += 3;
-            23
-        } else {
-            6
-        };
-        all.push(place(first, 3, slot.strength));
-        all.push(place(first + 3, place_width, slot.place));
+    let own = slots.iter().enumerate().take(layout.count);
+    own.flat_map(|(number, slot)| place_slot(slot, category, layout.slot_first(number))).collect()
+}
+
+fn place_slot(slot: &Slot, category: Category, first: usize) -> Vec<Placed> {
+    match category {
+        Category::Tsunami => vec![
+            place(first, 1, slot.day),
+            place(first + 1, 5, slot.hour),
+            place(first + 6, 6, slot.minute),
+            place(first + 12, 4, slot.strength),
+            place(first + 16, 10, slot.place),
+        ],
+        Category::AshFall => vec![
+            place(first, 3, slot.hour),
+            place(first + 3, 3, slot.strength),
+            place(first + 6, 23, slot.place),
+        ],
+        _ => vec![place(first, 3, slot.strength), place(first + 3, 6, slot.place)],
     }
-    all
 }

@@ -5,6 +5,7 @@ use std::collections::BTreeSet;
 use reference::bits::Frame;
 use reference::fields::{fields, slot_layout, spares};
 use reference::generate::*;
+use reference::meaning::{arrival, slots_used, Arrival};
 use reference::random::Random;
 use reference::read::read;
 use reference::record::{Category, Record, Refusal};
@@ -44,15 +45,20 @@ fn write_all(records: impl IntoIterator<Item = Record>) -> Seen {
     seen
 }
 
+/// All categories in turn.
+fn categories() -> impl Iterator<Item = Category> {
+    Category::ALL.into_iter().cycle().take(COUNT)
+}
+
 /// Many frames of a builder over all categories.
 fn frames_of(build: fn(&mut Random, Category) -> Frame) -> Seen {
     let mut random = Random::new(7);
-    read_all((0..COUNT).map(|number| build(&mut random, Category::ALL[number % 4])))
+    read_all(categories().map(|category| build(&mut random, category)))
 }
 
 fn records_of(build: fn(&mut Random, Category) -> Record) -> Seen {
     let mut random = Random::new(8);
-    write_all((0..COUNT).map(|number| build(&mut random, Category::ALL[number % 4])))
+    write_all(categories().map(|category| build(&mut random, category)))
 }
 
 #[test]
@@ -113,13 +119,13 @@ fn each_record_builder_reaches_its_refusals() {
     assert_eq!(records_of(|random, _| page_record(random)).places(8), [201, 207]);
 }
 
-/// The places where a category's fields can be out of range in a frame: all
-/// but the sides, whose single bit is always in range.
-fn places_out_of_range(category: Category, sides: bool) -> Vec<usize> {
+/// The places where a category's fields can be out of range: in a record all of
+/// them, in a frame not those of a single bit, which is always in range.
+fn places_out_of_range(category: Category, single_bits: bool) -> Vec<usize> {
     let layout = slot_layout(category);
     let mut rows = fields(category);
     rows.extend((0..layout.count).flat_map(|slot| layout.parts(slot)));
-    rows.retain(|row| sides || row.width > 1);
+    rows.retain(|row| single_bits || row.width > 1);
     let mut places: Vec<_> = rows.iter().map(|row| row.first).collect();
     places.sort();
     places
@@ -140,24 +146,66 @@ fn boundary_inputs_reach_every_field() {
     }
 }
 
+/// The hours and minutes of all areas.
+fn arrival_places() -> Vec<usize> {
+    (0..5).flat_map(|area| [84 + 26 * area + 1, 84 + 26 * area + 6]).collect()
+}
+
+#[test]
+fn mixed_arrivals_reach_every_hour_and_minute() {
+    let frames = frames_of(|random, _| arrival_frame(random));
+    let records = records_of(|random, _| arrival_record(random));
+    for seen in [frames, records] {
+        assert_eq!(seen.numbers(), [0, 8]);
+        assert_eq!(seen.places(8), arrival_places());
+    }
+}
+
+/// In every area of what is valid there are waves that have arrived and others.
+#[test]
+fn valid_inputs_reach_both_kinds_of_arrival() {
+    let mut random = Random::new(13);
+    let mut seen = BTreeSet::new();
+    for _ in 0..COUNT {
+        let built = valid_record(&mut random, Category::Tsunami);
+        let frame = valid_frame(&mut random, Category::Tsunami);
+        let records = [("record", built), ("frame", read(&frame).expect("the frame is valid"))];
+        for (source, record) in records {
+            for (area, slot) in record.slots.iter().enumerate().take(slots_used(&record)) {
+                let arrived = arrival(slot.hour, slot.minute) == Some(Arrival::Arrived);
+                seen.insert((source, area, arrived));
+            }
+        }
+    }
+    assert_eq!(seen.len(), 2 * 5 * 2);
+}
+
 #[test]
 fn gaps_reach_every_slot_that_can_have_one_before_it() {
-    let mut expected = Vec::new();
-    for category in WITH_SLOTS {
-        let layout = slot_layout(category);
+    let mut expected = BTreeSet::new();
+    for layout in Category::ALL.map(slot_layout) {
         expected.extend((2..layout.count).map(|slot| layout.slot_first(slot)));
     }
-    expected.sort();
-    expected.dedup();
+    let expected = Vec::from_iter(expected);
     assert_eq!(frames_of(|random, _| gap_frame(random)).places(10), expected);
     assert_eq!(records_of(|random, _| gap_record(random)).places(10), expected);
 }
 
 #[test]
+fn half_filled_slots_reach_every_part_that_must_not_be_zero() {
+    let mut expected = BTreeSet::new();
+    for layout in Category::ALL.map(slot_layout) {
+        let parts = (0..layout.count).flat_map(|slot| layout.parts(slot));
+        expected.extend(parts.filter(|part| !part.allows(0)).map(|part| part.first));
+    }
+    let expected = Vec::from_iter(expected);
+    assert_eq!(frames_of(|random, _| half_filled_frame(random)).places(8), expected);
+    assert_eq!(records_of(|random, _| half_filled_record(random)).places(8), expected);
+}
+
+#[test]
 fn spare_frames_reach_every_spare() {
-    let mut expected: Vec<_> =
-        Category::ALL.iter().flat_map(|&category| spares(category)).map(|spare| spare.0).collect();
-    expected.sort();
-    expected.dedup();
-    assert_eq!(frames_of(spare_frame).places(9), expected);
+    let spares = Category::ALL.into_iter().flat_map(spares);
+    let expected: BTreeSet<_> = spares.map(|(first, _)| first).collect();
+    assert_eq!(frames_of(spare_frame).places(9), Vec::from_iter(expected));
 }

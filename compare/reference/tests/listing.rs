@@ -5,7 +5,7 @@ use reference::generate::{any_line, gap_frame, raw_frame, spare_frame, RawValue}
 use reference::line::{line_of_frame, read_line};
 use reference::listing::{list, MOST_LINES};
 use reference::random::Random;
-use reference::record::{Category, Record};
+use reference::record::{Category, Record, Slot};
 use reference::samples;
 use reference::write::write;
 use std::io::BufReader;
@@ -57,12 +57,30 @@ fn category_and_slots_of_what_is_read() {
         samples::hypocenter(),
         samples::intensity(),
         samples::nankai(),
+        samples::tsunami_warning(),
+        samples::tsunami_update(),
         samples::ash_fall_detailed(),
     ];
     let input = samples.map(sample_line).join("\n");
-    let expected = ["1 0 - 2 -", "2 0 - 3 9", "3 0 - 4 -", "4 0 - 9 4"];
+    let expected = ["1 0 - 2 -", "2 0 - 3 9", "3 0 - 4 -", "4 0 - 5 3", "5 0 - 5 4", "6 0 - 9 4"];
     assert_eq!(rows(input.as_bytes()), expected);
     assert_eq!(rows(input.to_lowercase().as_bytes()), expected);
+}
+
+#[test]
+fn areas_are_counted_as_slots() {
+    let mut record = samples::tsunami_warning()[0];
+    for used in 1..=5 {
+        record.slots = [Slot::default(); 16];
+        // A wave that has arrived counts as one that is expected.
+        let arrived = Slot { day: 1, hour: 31, minute: 63, strength: 14, place: 1000 };
+        record.slots[..used].fill(arrived);
+        assert_eq!(rows(sample_line(vec![record]).as_bytes()), [format!("1 0 - 5 {used}")]);
+    }
+    // A fourth area of which only the day is there.
+    let day_alone = RawValue { first: 162, width: 1, value: 1 };
+    let frame = raw_frame(&sample_frame(samples::tsunami_warning()), &[day_alone]);
+    assert_eq!(rows(&line_of_frame(&frame)), ["1 8 174 - -"]);
 }
 
 #[test]

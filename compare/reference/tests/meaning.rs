@@ -2,10 +2,13 @@
 
 use reference::fields::fields;
 use reference::generate::any_record;
-use reference::meaning::{depth, magnitude, prefecture, slots_used, Depth, Magnitude};
+use reference::meaning::{
+    arrival, depth, height, magnitude, prefecture, slots_used, Arrival, Depth, Height, Magnitude,
+};
 use reference::random::Random;
 use reference::read::read;
 use reference::record::{Category, Record, Slot};
+use reference::samples;
 use reference::write::write;
 
 /// Whether the field at a bit of category 2 may have this value.
@@ -37,6 +40,43 @@ fn a_code_says_something_exactly_where_its_field_may_have_it() {
     }
     for code in 0..=u8::MAX {
         assert_eq!(magnitude(code).is_some(), allowed(105, code.into()), "{code}");
+    }
+}
+
+#[test]
+fn codes_31_and_63_are_no_hour_and_no_minute() {
+    assert_eq!(arrival(0, 0), Some(Arrival::At { hour: 0, minute: 0 }));
+    assert_eq!(arrival(23, 59), Some(Arrival::At { hour: 23, minute: 59 }));
+    assert_eq!(arrival(31, 63), Some(Arrival::Arrived));
+    let neither = [(31, 59), (31, 60), (24, 63), (5, 63), (24, 0), (0, 60), (63, 31), (255, 255)];
+    assert_eq!(neither.map(|(hour, minute)| arrival(hour, minute)), [None; 8]);
+}
+
+#[test]
+fn height_14_is_unknown_and_undefined_codes_keep_their_number() {
+    let defined = [1, 2, 3, 4, 5, 6, 15];
+    assert_eq!(defined.map(height), defined.map(|code| Some(Height::Coded(code))));
+    let undefined = [7, 8, 9, 10, 11, 12, 13];
+    assert_eq!(undefined.map(height), undefined.map(|code| Some(Height::Coded(code))));
+    assert_eq!(height(14), Some(Height::Unknown));
+    assert_eq!([0, 16, 30, 255].map(height), [None; 4]);
+}
+
+/// A valid record has an hour and a minute, or a height, exactly where they say
+/// something.
+#[test]
+fn what_an_area_says_is_what_it_may_have() {
+    let written = |change: &dyn Fn(&mut Slot)| {
+        let mut record = samples::tsunami_warning()[0];
+        change(&mut record.slots[1]);
+        write(&record, &mut [0; 32]).is_ok()
+    };
+    for one in 0..=u8::MAX {
+        assert_eq!(height(one).is_some(), written(&|slot| slot.strength = one), "{one}");
+        for other in 0..=u8::MAX {
+            let valid = written(&|slot| (slot.hour, slot.minute) = (one, other));
+            assert_eq!(arrival(one, other).is_some(), valid, "{one} {other}");
+        }
     }
 }
 
@@ -84,8 +124,8 @@ fn slots_of_a_record_that_is_read() {
             let filled = record.slots.iter().filter(|&&slot| slot != Slot::default()).count();
             assert_eq!(slots_used(&record), filled);
             let category = record.body.category();
-            let has_slots = matches!(category, Some(Category::Intensity | Category::AshFall));
-            assert_eq!(filled > 0, has_slots);
+            let has_none = matches!(category, Some(Category::Hypocenter | Category::Nankai));
+            assert_eq!(filled == 0, has_none);
         }
     }
 }

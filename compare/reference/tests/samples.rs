@@ -3,7 +3,7 @@
 use reference::bits::Frame;
 use reference::meaning::{prefecture, slots_used};
 use reference::read::read;
-use reference::record::{Body, Record};
+use reference::record::{Body, Category, Record, Slot};
 use reference::samples;
 use reference::write::write;
 
@@ -11,6 +11,30 @@ fn digits(record: &Record) -> String {
     let mut frame: Frame = [0; 32];
     write(record, &mut frame).expect("a sample is valid");
     frame.iter().map(|byte| format!("{byte:02x}")).collect()
+}
+
+/// A cancellation with five areas, in two of which the wave has arrived. It is
+/// in no table of document 004.
+fn five_areas() -> Record {
+    let mut slots = [Slot::default(); 16];
+    slots[0] = Slot { day: 1, hour: 31, minute: 63, strength: 14, place: 1000 };
+    slots[1] = Slot { day: 0, hour: 0, minute: 0, strength: 1, place: 100 };
+    slots[2] = Slot { day: 1, hour: 23, minute: 59, strength: 15, place: 990 };
+    slots[3] = Slot { day: 0, hour: 31, minute: 63, strength: 6, place: 600 };
+    slots[4] = Slot { day: 1, hour: 12, minute: 34, strength: 5, place: 801 };
+    Record {
+        preamble: 0xC6,
+        reserved: 63,
+        rc: 1,
+        month: 12,
+        day: 31,
+        hour: 23,
+        minute: 59,
+        it: 2,
+        body: Body::Tsunami { notifications: [101, 0, 500], warning: 15 },
+        slots,
+        text: [0; 18],
+    }
 }
 
 /// These were laid out apart from this package, as strings of binary digits
@@ -26,6 +50,19 @@ fn frames_laid_out_another_way() {
             samples::intensity()[0],
             "53af99ac828002c82cb25ae775a8d4ca854ab80000000000000000100412de00",
         ),
+        (
+            samples::tsunami_warning()[0],
+            "53afa9ac828001e8f67c31053960414e621053be00000000000000100d3ffcc0",
+        ),
+        (
+            samples::tsunami_update()[1],
+            "53afa9ec2c8001e8f67c30593960164e620593bbc164ef8000000010310a1f00",
+        ),
+        (
+            samples::tsunami_lifted()[0],
+            "53afa9ac9180019c00002123396048ce621233bbc48cef800000001007948180",
+        ),
+        (five_areas(), "c6acae7efdc0019401f4ffffefa0000464dfbff79ffda58b225c841fea503f40"),
         (samples::nankai()[0], "53afa1ac918002f2c6cbf35adbf1c1c471c1d4f1c1caf3595f82d81019545bc0"),
         (
             samples::ash_fall_detailed()[0],
@@ -44,7 +81,7 @@ fn frames_laid_out_another_way() {
 #[test]
 fn every_sample_is_written_and_read_back() {
     let all = samples::all();
-    assert_eq!(all.len(), 2 + 2 + 54 + 2 + 10);
+    assert_eq!(all.len(), 2 + 2 + 2 + 2 + 54 + 2 + 2 + 10);
     for record in all {
         let mut frame = [0; 32];
         assert_eq!(write(&record, &mut frame), Ok(()));
@@ -64,6 +101,37 @@ fn the_bulletin_has_27_pages_and_its_text_comes_back() {
     assert_eq!(&text[..474], samples::NANKAI_TEXT.as_bytes());
     assert_eq!(text[474..], [0; 12]);
     assert!(records[27..].iter().zip(&records).all(|(second, first)| second.text == first.text));
+}
+
+/// Within a table the two deliveries follow each other, and the tables stand in
+/// the order of document 004: categories and minutes of issue tell them apart.
+#[test]
+fn the_order_of_document_004() {
+    let category = |record: &Record| record.body.category().map(Category::code);
+    let mut order: Vec<_> =
+        samples::all().iter().map(|record| (category(record), record.minute)).collect();
+    order.dedup();
+    let expected = [(2, 5), (3, 5), (5, 5), (5, 25), (4, 35), (5, 35), (9, 10), (9, 20)];
+    assert_eq!(order, expected.map(|(code, minute)| (Some(code), minute)));
+}
+
+#[test]
+fn three_and_four_areas_of_three_metres_on_the_same_day() {
+    let tables = [
+        (samples::tsunami_warning(), vec![600, 610, 760]),
+        (samples::tsunami_update(), vec![600, 610, 751, 760]),
+        (samples::tsunami_lifted(), vec![600, 610, 751, 760]),
+    ];
+    for (records, regions) in tables {
+        for record in records {
+            let used = &record.slots[..slots_used(&record)];
+            assert_eq!(used.iter().map(|area| area.place).collect::<Vec<_>>(), regions);
+            for area in used {
+                assert_eq!((area.day, area.strength), (0, 3));
+                assert_eq!((area.hour, area.minute), (record.hour, record.minute));
+            }
+        }
+    }
 }
 
 #[test]

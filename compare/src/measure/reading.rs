@@ -16,8 +16,9 @@ const ROUNDS: usize = 20;
 
 pub fn measure() {
     let mut random = Random::new(100);
+    let categories = Category::ALL.into_iter().cycle().take(FRAMES);
     let frames: Vec<Frame> =
-        (0..FRAMES).map(|number| valid_frame(&mut random, Category::ALL[number % 4])).collect();
+        categories.map(|category| valid_frame(&mut random, category)).collect();
     let mut proved = Vec::new();
     let mut reference = Vec::new();
     // The two take turns, so that a slow time of the machine meets both.

@@ -1,5 +1,5 @@
-// The sample reports of document 004 in the four categories, of both deliveries, as lines. What an
-// independent program makes of the same values is this program's `stdout`.
+// The sample reports of document 004 in the categories that are read, of both deliveries, as lines.
+// What an independent program makes of the same values is this program's `stdout`.
 ghost use Prim.Native.Nat.{_≤_};
 use ash_fall::Eruption;
 use hypocenter::Quake;
@@ -12,6 +12,21 @@ use report::record::Record;
 use rows::common::Common;
 use rows::time::Time;
 use slots::slot::Slot;
+use tsunami::Warning;
+
+// Tables 2-1-4, 2-2-1 and 2-3-2: the coast of Ehime on the Uwa Sea, Kochi, the coast of Oita on the
+// Bungo Channel, and Miyazaki.
+const EHIME: u64 = 600;
+
+const KOCHI: u64 = 610;
+
+const OITA: u64 = 751;
+
+const MIYAZAKI: u64 = 760;
+
+// The height of every area in these tables. Table 2-3-2 gives its first area as "3m" and leaves the
+// code blank: it is 3 by table 4.1.2-23 of document 001.
+const THREE_METRES: u8 = 3;
 
 // Tables 2-4-2 and 2-5-1: Aso city, Takamori town and Minamiaso village in Kumamoto.
 const ASO: u64 = 4321400;
@@ -93,6 +108,16 @@ fn no_slots() -> [Slot; 16] {
     [Slot::none(); 16]
 }
 
+// Only the table of intensity has more than four in a report.
+fn four_slots(a: Slot, b: Slot, c: Slot, d: Slot) -> [Slot; 16] {
+    let mut slots = no_slots();
+    slots[0] = a;
+    slots[1] = b;
+    slots[2] = c;
+    slots[3] = d;
+    slots
+}
+
 // Table 2-1-2: off Hyuganada, 40 km deep, 6.4. As in every table, the time of the event is that of
 // the issue.
 fn hypocenter(at: Time) -> Record {
@@ -135,6 +160,68 @@ fn intensity(at: Time) -> Record {
     issued(at, Body::Intensity(Shaking { time: at }), slots, [0u8; 18])
 }
 
+// An area that the wave reaches at the time of the issue: day 0 is the day of the issue.
+fn area(at: Time, region: u64) -> Slot {
+    Slot {
+        day: 0,
+        hour: at.hour,
+        minute: at.minute,
+        strength: THREE_METRES,
+        place: region,
+    }
+}
+
+fn four_areas(at: Time) -> [Slot; 16] {
+    four_slots(
+        area(at, EHIME),
+        area(at, KOCHI),
+        area(at, OITA),
+        area(at, MIYAZAKI),
+    )
+}
+
+fn tsunami(at: Time, warning: Warning, areas: [Slot; 16]) -> Record {
+    issued(at, Body::Tsunami(warning), areas, [0u8; 18])
+}
+
+// Tables 2-1-4 and 2-2-1: a tsunami warning, and what to do where there is a warning, an advisory or
+// a forecast.
+fn warned() -> Warning {
+    Warning {
+        notification1: 122,
+        notification2: 123,
+        notification3: 124,
+        code: 3,
+    }
+}
+
+// Table 2-1-4: three areas are warned.
+fn tsunami_warning(at: Time) -> Record {
+    let areas = four_slots(
+        area(at, EHIME),
+        area(at, KOCHI),
+        area(at, MIYAZAKI),
+        Slot::none(),
+    );
+    tsunami(at, warned(), areas)
+}
+
+// Table 2-2-1: the update adds Oita.
+fn tsunami_update(at: Time) -> Record {
+    tsunami(at, warned(), four_areas(at))
+}
+
+// Table 2-3-2: the warning is lifted. Its row of the arrival speaks of five areas, but it names four.
+fn tsunami_lifted(at: Time) -> Record {
+    let lifted = Warning {
+        notification1: 103,
+        notification2: 0,
+        notification3: 0,
+        code: 2,
+    };
+    tsunami(at, lifted, four_areas(at))
+}
+
 fn page_text(number: u8) -> [u8; 18]
     requires { ⌜ (1 ≤ number) × (number ≤ 27) ⌝ }
 {
@@ -173,13 +260,9 @@ fn aso(at: Time, warning: u8) -> Eruption {
 }
 
 fn show_ash(eruption: Eruption, a: Slot, b: Slot, c: Slot, d: Slot) {
-    let mut slots = no_slots();
-    slots[0] = a;
-    slots[1] = b;
-    slots[2] = c;
-    slots[3] = d;
     let at = eruption.time;
-    show(issued(at, Body::AshFall(eruption), slots, [0u8; 18]));
+    let places = four_slots(a, b, c, d);
+    show(issued(at, Body::AshFall(eruption), places, [0u8; 18]));
 }
 
 // Table 2-4-2: the preliminary report.
@@ -247,8 +330,14 @@ fn main() {
     show(hypocenter(at(27, 1, 5)));
     show(intensity(at(11, 4, 5)));
     show(intensity(at(27, 1, 5)));
+    show(tsunami_warning(at(11, 4, 5)));
+    show(tsunami_warning(at(27, 1, 5)));
+    show(tsunami_update(at(11, 4, 25)));
+    show(tsunami_update(at(27, 1, 25)));
     show_pages(at(11, 4, 35));
     show_pages(at(27, 1, 35));
+    show(tsunami_lifted(at(11, 4, 35)));
+    show(tsunami_lifted(at(27, 1, 35)));
     show_preliminary(at(11, 5, 10));
     show_preliminary(at(27, 2, 10));
     show_detailed(at(11, 5, 20));

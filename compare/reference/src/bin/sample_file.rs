@@ -1,4 +1,4 @@
-//! Prints as many valid frames as its argument says, one a line: all four
+//! Prints as many valid frames as its argument says, one a line: all
 //! categories in turn, the same lines on every run.
 
 use reference::generate::valid_frame;

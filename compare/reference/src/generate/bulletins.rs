@@ -129,10 +129,13 @@ pub fn spoiled_page(random: &mut Random, name: &Name, texts: &[[u8; PAGE_LENGTH]
     record
 }
 
-/// A valid record of another category that is issued as the bulletin is.
+/// A valid record of another category that is issued as the bulletin is, but for
+/// an Rc that its category does not have.
 pub fn other_category(random: &mut Random, name: &Name) -> Record {
-    let categories = [Category::Hypocenter, Category::Intensity, Category::AshFall];
-    let category = random.pick(&categories);
-    let Name { rc, month, day, hour, minute, it, .. } = *name;
-    Record { rc, month, day, hour, minute, it, ..valid_record(random, category) }
+    let others = [Category::Hypocenter, Category::Intensity, Category::Tsunami, Category::AshFall];
+    let category = random.pick(&others);
+    let record = valid_record(random, category);
+    let rc = if category == Category::Tsunami { record.rc } else { name.rc };
+    let Name { month, day, hour, minute, it, .. } = *name;
+    Record { rc, month, day, hour, minute, it, ..record }
 }

@@ -1,7 +1,9 @@
 //! Frames for the reader. They are laid out from the field tables and not by
 //! the writer, so that a mistake in the writer cannot hide one in the reader.
 
-use super::{allowed_value, any_category, bounds, raw_frame, seal, RawValue};
+use super::{
+    allowed_value, any_category, bounds, field_bounds, part_of_zero, raw_frame, seal, RawValue,
+};
 use crate::bits::{bit, get, set, set_bit, Frame};
 use crate::fields::{
     fields, slot_layout, spares, Field, PAGE_NUMBER_FIRST, PAGE_TOTAL_FIRST, RESERVED,
@@ -10,7 +12,7 @@ use crate::random::Random;
 use crate::record::{Category, PREAMBLES};
 
 /// The categories that have slots.
-pub const WITH_SLOTS: [Category; 2] = [Category::Intensity, Category::AshFall];
+pub const WITH_SLOTS: [Category; 3] = [Category::Intensity, Category::Tsunami, Category::AshFall];
 
 /// A frame that must be read, with a random number of used slots.
 pub fn valid_frame(random: &mut Random, category: Category) -> Frame {
@@ -70,17 +72,17 @@ pub fn gap_frame(random: &mut Random) -> Frame {
     frame
 }
 
-/// A frame whose last used slot has a part of zero, perhaps the first slot.
+/// A frame whose last used slot, perhaps the first, has a part of zero that no
+/// used slot may have.
 pub fn half_filled_frame(random: &mut Random) -> Frame {
     let category = random.pick(&WITH_SLOTS);
     let layout = slot_layout(category);
     let used = 1 + random.below(layout.count);
     let base = frame_with_slots(random, category, used);
-    let part = random.pick(&layout.parts(used - 1));
-    raw_frame(&base, &[RawValue { first: part.first, width: part.width, value: 0 }])
+    raw_frame(&base, &[part_of_zero(random, category, used - 1)])
 }
 
-/// A frame with a bit set in one spare or in both.
+/// A frame with a bit set in one spare or in more.
 pub fn spare_frame(random: &mut Random, category: Category) -> Frame {
     let mut frame = valid_frame(random, category);
     use_spare(random, &mut frame, category);
@@ -162,6 +164,17 @@ pub fn page_frame(random: &mut Random) -> Frame {
     raw_frame(&base, &[page, chosen])
 }
 
+/// A tsunami frame with some hour and some minute in one area, each normal, its
+/// code or next to one: hours and codes are mixed in all ways.
+pub fn arrival_frame(random: &mut Random) -> Frame {
+    let layout = slot_layout(Category::Tsunami);
+    let base = frame_with_slots(random, Category::Tsunami, layout.count);
+    let area = layout.parts(random.below(layout.count));
+    let group = area.iter().filter(|part| part.group_code.is_some());
+    let values = group.map(|part| random.pick(&field_bounds(part)).any_edge(random));
+    raw_frame(&base, &values.collect::<Vec<_>>())
+}
+
 /// A right frame with one of refusals 2 to 7 made true.
 pub fn envelope_fault_frame(random: &mut Random, category: Category) -> Frame {
     let mut frame = valid_frame(random, category);
@@ -212,9 +225,14 @@ fn put_envelope(random: &mut Random, frame: &mut Frame, category: Category) {
     set(frame, 214, 6, 1);
 }
 
+/// Fills a table or a slot with allowed values, now and then with the codes of
+/// its group.
 fn put_allowed(random: &mut Random, frame: &mut Frame, fields: &[Field]) {
+    let by_codes = random.one_in(4);
     for field in fields {
-        set(frame, field.first, field.width, allowed_value(random, field.allowed));
+        let code = field.group_code.filter(|_| by_codes);
+        let value = code.unwrap_or_else(|| allowed_value(random, field.allowed));
+        set(frame, field.first, field.width, value);
     }
 }
 
@@ -228,8 +246,7 @@ fn put_page(random: &mut Random, frame: &mut Frame) {
 }
 
 fn edge_value(random: &mut Random, category: Category) -> RawValue {
-    let row = random.pick(&bounds(category));
-    RawValue { first: row.first, width: row.width, value: random.pick(&row.edges()) }
+    random.pick(&bounds(category)).any_edge(random)
 }
 
 fn clear_slot(frame: &mut Frame, category: Category, slot: usize) {
@@ -258,8 +275,8 @@ fn disturb(random: &mut Random, frame: &mut Frame, category: Category) {
         2 => clear_slot(frame, category, random.below(layout.count)),
         _ => {
             let slot = random.below(layout.count);
-            let part = random.pick(&layout.parts(slot));
-            set(frame, part.first, part.width, 0);
+            let raw = part_of_zero(random, category, slot);
+            set(frame, raw.first, raw.width, raw.value);
         }
     }
 }

@@ -1,7 +1,9 @@
 //! Records for the writer to refuse.
 
-use super::{any_category, bounds, slot_count, valid_record, valid_slot, Bounds, WITH_SLOTS};
-use crate::fields::{slot_layout, RESERVED};
+use super::{
+    any_category, bounds, part_of_zero, slot_count, valid_record, valid_slot, Bounds, WITH_SLOTS,
+};
+use crate::fields::RESERVED;
 use crate::random::Random;
 use crate::record::{Body, Category, Hypocenter, Record, Slot, Time, PREAMBLES};
 
@@ -49,7 +51,8 @@ pub fn gap_record(random: &mut Random) -> Record {
     record
 }
 
-/// A record with a part of zero in some slot, perhaps the first.
+/// A record with a part of zero in some slot, perhaps the first, that no used
+/// slot may have.
 pub fn half_filled_record(random: &mut Random) -> Record {
     let category = random.pick(&WITH_SLOTS);
     let mut record = valid_record(random, category);
@@ -90,6 +93,21 @@ pub fn page_record(random: &mut Random) -> Record {
     let near = (page + random.bits(1) as u8).saturating_sub(random.bits(1) as u8);
     let total = if random.one_in(2) { near } else { random.bits(7) as u8 };
     record.body = Body::Nankai { serial: 1 + random.bits(3) as u8, page, total };
+    record
+}
+
+/// A tsunami record with some hour and some minute in one area, each normal, its
+/// code, next to one, or too wide and with the low bits of its code.
+pub fn arrival_record(random: &mut Random) -> Record {
+    let mut record = valid_record(random, Category::Tsunami);
+    let area = random.below(slot_count(Category::Tsunami));
+    let hour = random.pick(&[0, 23, 24, 30, 31, 32, 32 + 31, 255]);
+    let minute = random.pick(&[0, 59, 60, 62, 63, 64, 64 + 63, 255]);
+    for slot in record.slots.iter_mut().take(area + 1) {
+        *slot = valid_slot(random, Category::Tsunami);
+    }
+    record.slots[area].hour = hour;
+    record.slots[area].minute = minute;
     record
 }
 
@@ -163,6 +181,11 @@ fn set_in_category(record: &mut Record, first: usize, value: u64) {
             201 => *page = byte(value),
             _ => *total = byte(value),
         },
+        Body::Tsunami { notifications, warning } => match first {
+            53..=79 => notifications[(first - 53) / 9] = short(value),
+            80 => *warning = byte(value),
+            _ => set_in_area(&mut record.slots[(first - 84) / 26], (first - 84) % 26, value),
+        },
         Body::AshFall { time, warning, volcano } => match first {
             53..=68 => set_in_time(time, first - 53, value),
             69 => *warning = byte(value),
@@ -207,6 +230,16 @@ fn set_in_slot(slot: &mut Slot, offset: usize, value: u64) {
     }
 }
 
+fn set_in_area(slot: &mut Slot, offset: usize, value: u64) {
+    match offset {
+        0 => slot.day = byte(value),
+        1 => slot.hour = byte(value),
+        6 => slot.minute = byte(value),
+        12 => slot.strength = byte(value),
+        _ => slot.place = value,
+    }
+}
+
 fn byte(value: u64) -> u8 {
     value.min(u8::MAX.into()) as u8
 }
@@ -240,8 +273,7 @@ fn put_edge(random: &mut Random, record: &mut Record, category: Category) {
 }
 
 fn clear_part(random: &mut Random, record: &mut Record, category: Category, slot: usize) {
-    let part = random.pick(&slot_layout(category).parts(slot));
-    set_number(record, part.first, 0);
+    set_number(record, part_of_zero(random, category, slot).first, 0);
 }
 
 /// Puts something into a part of a slot or a text byte that the category does
@@ -252,7 +284,9 @@ fn fill_unused(random: &mut Random, record: &mut Record, category: Category) {
         record.text[random.below(18)] = 1 + random.bits(7) as u8;
         return;
     }
-    let number = random.below(16);
+    // An area of category 5 has all that a slot can hold.
+    let full = if category == Category::Tsunami { slot_count(category) } else { 0 };
+    let number = full + random.below(16 - full);
     let parts = match category {
         _ if number >= slot_count(category) => 5,
         Category::AshFall => 2,

@@ -10,7 +10,7 @@ pub fn valid_record(random: &mut Random, category: Category) -> Record {
     Record {
         preamble: random.pick(&PREAMBLES),
         reserved: byte(random, &[(0, 63)]),
-        rc: random.pick(&[2, 7]),
+        rc: valid_rc(random, category),
         month: byte(random, &[(1, 12)]),
         day: byte(random, &[(1, 31)]),
         hour: byte(random, &[(0, 23)]),
@@ -25,6 +25,7 @@ pub fn valid_record(random: &mut Random, category: Category) -> Record {
 /// One used slot of a category, in range.
 pub fn valid_slot(random: &mut Random, category: Category) -> Slot {
     match category {
+        Category::Tsunami => valid_area(random),
         Category::AshFall => Slot {
             hour: byte(random, &[(1, 6)]),
             strength: byte(random, &[(1, 7)]),
@@ -44,7 +45,29 @@ pub fn slot_count(category: Category) -> usize {
     match category {
         Category::Hypocenter | Category::Nankai => 0,
         Category::Intensity => 16,
+        Category::Tsunami => 5,
         Category::AshFall => 4,
+    }
+}
+
+/// An area of category 5, which the wave may have reached already.
+fn valid_area(random: &mut Random) -> Slot {
+    let arrival = (byte(random, &[(0, 23)]), byte(random, &[(0, 59)]));
+    let (hour, minute) = if random.one_in(4) { (31, 63) } else { arrival };
+    Slot {
+        day: random.pick(&[0, 1]),
+        hour,
+        minute,
+        strength: byte(random, &[(1, 15)]),
+        place: allowed_value(random, &[(100, 1000)]).into(),
+    }
+}
+
+fn valid_rc(random: &mut Random, category: Category) -> u8 {
+    if category == Category::Tsunami {
+        random.pick(&[1, 3, 7])
+    } else {
+        random.pick(&[2, 7])
     }
 }
 
@@ -65,6 +88,10 @@ fn valid_body(random: &mut Random, category: Category) -> Body {
             let total = byte(random, &[(u32::from(page), 63)]);
             Body::Nankai { serial: byte(random, &[(1, 15)]), page, total }
         }
+        Category::Tsunami => Body::Tsunami {
+            notifications: valid_notifications(random),
+            warning: byte(random, &[(1, 15)]),
+        },
         Category::AshFall => Body::AshFall {
             time: valid_time(random),
             warning: random.pick(&[1, 2]),
@@ -75,7 +102,7 @@ fn valid_body(random: &mut Random, category: Category) -> Body {
 
 fn valid_hypocenter(random: &mut Random) -> Hypocenter {
     Hypocenter {
-        notifications: [0; 3].map(|_: u16| short(random, &[(0, 0), (101, 500)])),
+        notifications: valid_notifications(random),
         time: valid_time(random),
         depth: short(random, &[(0, 501), (511, 511)]),
         magnitude: byte(random, &[(1, 101), (126, 126), (127, 127)]),
@@ -83,6 +110,10 @@ fn valid_hypocenter(random: &mut Random) -> Hypocenter {
         latitude: valid_angle(random, 89),
         longitude: valid_angle(random, 179),
     }
+}
+
+fn valid_notifications(random: &mut Random) -> [u16; 3] {
+    [0; 3].map(|_: u16| short(random, &[(0, 0), (101, 500)]))
 }
 
 fn valid_angle(random: &mut Random, most_degrees: u32) -> Angle {

@@ -17,6 +17,7 @@ pub fn base_record(category: Category) -> Record {
         Category::Hypocenter => samples::hypocenter(),
         Category::Intensity => samples::intensity(),
         Category::Nankai => samples::nankai(),
+        Category::Tsunami => samples::tsunami_warning(),
         Category::AshFall => samples::ash_fall_detailed(),
     };
     samples[0]
@@ -39,6 +40,17 @@ pub fn changed(base: &Frame, values: &[(usize, usize, u32)]) -> Frame {
 /// Number and place of an answer, zeros where nothing was refused.
 pub fn outcome<T>(answer: Result<T, Refusal>) -> (u8, u8) {
     answer.map_or_else(|refusal| (refusal.number, refusal.place), |_| (0, 0))
+}
+
+/// What writing a changed sample record says; a refused one must leave the
+/// buffer alone.
+pub fn writing(category: Category, change: impl Fn(&mut Record)) -> (u8, u8) {
+    let mut record = base_record(category);
+    change(&mut record);
+    let mut frame = [0xA5; 32];
+    let answer = outcome(write(&record, &mut frame));
+    assert_eq!(frame == [0xA5; 32], answer != (0, 0));
+    answer
 }
 
 /// What reading says of a changed sample frame.

@@ -3,4 +3,5 @@
 mod common;
 mod ranges;
 mod reading;
+mod tsunami;
 mod writing;

@@ -1,15 +1,18 @@
 //! Every value of every field, against ranges written out here once more.
 
 use crate::common::{base_frame, changed, outcome};
-use reference::bits::get;
-use reference::fields::{fields, slot_layout};
+use reference::bits::{get, Frame};
+use reference::check::out_of_range;
+use reference::fields::{fields, slot_layout, Field};
 use reference::read::read;
-use reference::record::Category::{self, AshFall, Hypocenter, Intensity, Nankai};
+use reference::record::Category::{self, AshFall, Hypocenter, Intensity, Nankai, Tsunami};
 
 type Row = (usize, usize, fn(u32) -> bool);
 
-const COMMON: [Row; 5] = [
-    (14, 3, |value| value == 2 || value == 7),
+const RC: Row = (14, 3, |value| value == 2 || value == 7);
+const RC_OF_TSUNAMI: Row = (14, 3, |value| value == 1 || value == 3 || value == 7);
+
+const ISSUE_TIME: [Row; 4] = [
     (21, 4, |value| (1..13).contains(&value)),
     (25, 5, |value| value != 0),
     (30, 5, |value| value < 24),
@@ -52,6 +55,14 @@ const NANKAI: [Row; 4] = [
     (207, 6, |value| value != 0),
 ];
 
+const TSUNAMI: [Row; 5] = [
+    (41, 2, |value| value == 0 || value == 2),
+    (53, 9, |value| value == 0 || (101..501).contains(&value)),
+    (62, 9, |value| value == 0 || (101..501).contains(&value)),
+    (71, 9, |value| value == 0 || (101..501).contains(&value)),
+    (80, 4, |value| value != 0),
+];
+
 const ASH_FALL: [Row; 6] = [
     (41, 2, |value| value < 3),
     (53, 5, |value| value != 0),
@@ -66,9 +77,11 @@ fn rows(category: Category) -> Vec<Row> {
         Hypocenter => &HYPOCENTER,
         Intensity => &INTENSITY,
         Nankai => &NANKAI,
+        Tsunami => &TSUNAMI,
         AshFall => &ASH_FALL,
     };
-    [&COMMON, own].concat()
+    let rc = if category == Tsunami { RC_OF_TSUNAMI } else { RC };
+    [&[rc], &ISSUE_TIME[..], own].concat()
 }
 
 #[test]
@@ -114,6 +127,68 @@ fn every_value_of_every_intensity_slot() {
                 _ => (8, first as u8 + 3),
             };
             assert_eq!(outcome(read(&frame)), expected, "slot {slot} value {value}");
+        }
+    }
+}
+
+/// A tsunami frame with five areas: this day, 1:02, height code 3, region 100.
+fn five_areas() -> Frame {
+    let full: Vec<_> =
+        (0..5).map(|area| (84 + 26 * area, 26, 1 << 20 | 2 << 14 | 3 << 10 | 100)).collect();
+    changed(&base_frame(Tsunami), &full)
+}
+
+#[test]
+fn every_day_hour_and_minute_of_every_area() {
+    let base = five_areas();
+    for area in 0..5 {
+        let first = 84 + 26 * area;
+        for value in 0..1 << 12 {
+            let frame = changed(&base, &[(first, 12, value)]);
+            let expected = match (value >> 6 & 31, value & 63) {
+                (31, 63) => (0, 0),
+                (24.., _) => (8, first as u8 + 1),
+                (_, 60..) => (8, first as u8 + 6),
+                _ => (0, 0),
+            };
+            assert_eq!(outcome(read(&frame)), expected, "area {area} value {value}");
+        }
+    }
+}
+
+/// The rule of a group does not know how many fields it has: a time whose day,
+/// hour and minute are unknown together.
+#[test]
+fn a_group_of_three_has_all_codes_or_none() {
+    let row = |first, width, allowed, code| Field { first, width, allowed, group_code: Some(code) };
+    let time = [row(0, 5, &[(1, 31)], 0), row(5, 5, &[(0, 23)], 31), row(10, 6, &[(0, 59)], 63)];
+    let places = |values: [u64; 3]| {
+        let value_of = |field: &Field| values[field.first / 5];
+        let found = out_of_range(&time, &value_of);
+        found.iter().map(|refusal| refusal.place).collect::<Vec<_>>()
+    };
+    assert_eq!(places([0, 31, 63]), []);
+    assert_eq!(places([1, 0, 0]), []);
+    assert_eq!(places([0, 31, 59]), [0, 5]);
+    assert_eq!(places([0, 0, 0]), [0]);
+    assert_eq!(places([1, 31, 63]), [5, 10]);
+    assert_eq!(places([31, 23, 63]), [10]);
+    assert_eq!(places([32, 31, 63]), [0, 5, 10]);
+}
+
+#[test]
+fn every_height_and_region_of_every_area() {
+    let base = five_areas();
+    for area in 0..5 {
+        let first = 84 + 26 * area;
+        for value in 0..1 << 14 {
+            let frame = changed(&base, &[(first + 12, 14, value)]);
+            let expected = match (value >> 10, value & 1023) {
+                (0, _) => (8, first as u8 + 12),
+                (_, 100..=1000) => (0, 0),
+                _ => (8, first as u8 + 16),
+            };
+            assert_eq!(outcome(read(&frame)), expected, "area {area} value {value}");
         }
     }
 }

@@ -4,7 +4,7 @@ use crate::common::{base_frame, changed, outcome, reading};
 use reference::bits::{set, Frame};
 use reference::fields::spares;
 use reference::read::read;
-use reference::record::Category::{self, AshFall, Hypocenter, Intensity, Nankai};
+use reference::record::Category::{self, AshFall, Hypocenter, Intensity, Nankai, Tsunami};
 
 /// The digits of a frame line as a frame, two padding bits added to 252.
 fn of_digits(digits: &str) -> Frame {
@@ -75,6 +75,30 @@ fn only_ash_fall_knows_a_correction() {
     }
 }
 
+#[test]
+fn tsunami_reports_have_an_rc_of_their_own() {
+    for category in Category::ALL {
+        let right: &[u32] = if category == Tsunami { &[1, 3, 7] } else { &[2, 7] };
+        for rc in 0..8 {
+            let expected = if right.contains(&rc) { (0, 0) } else { (8, 14) };
+            assert_eq!(reading(category, &[(14, 3, rc)]), expected, "{category:?} {rc}");
+        }
+    }
+}
+
+#[test]
+fn every_other_category_is_7() {
+    for code in 0..16 {
+        let numbers = Category::ALL.map(|category| reading(category, &[(17, 4, code)]).0);
+        if [2, 3, 4, 5, 9].contains(&code) {
+            // The frame that has this category from the start is read.
+            assert!(numbers.contains(&0) && !numbers.contains(&7), "{code}");
+        } else {
+            assert_eq!(numbers, [7; 5], "{code}");
+        }
+    }
+}
+
 /// Every rule in turn: a frame that breaks this one and all later ones.
 #[test]
 fn the_refusals_of_the_envelope_come_in_order() {
@@ -109,9 +133,11 @@ fn every_single_padding_bit_is_refused() {
 
 #[test]
 fn every_single_spare_bit_is_refused_at_the_spare() {
-    let own = [(Hypocenter, 163), (Intensity, 213), (Nankai, 213), (AshFall, 199)];
+    // Spares are bits 43 to 52, and those from here on up to the version.
+    let own = [(Hypocenter, 163), (Intensity, 213), (Nankai, 213), (Tsunami, 214), (AshFall, 199)];
     for (category, first) in own {
-        assert_eq!(spares(category).map(|spare| spare.0), [43, first]);
+        let expected = if first < 214 { vec![43, first] } else { vec![43] };
+        assert_eq!(spares(category).iter().map(|spare| spare.0).collect::<Vec<_>>(), expected);
         (43..53).for_each(|one| assert_eq!(reading(category, &[(one, 1, 1)]), (9, 43)));
         (first..214).for_each(|one| {
             assert_eq!(reading(category, &[(one, 1, 1)]), (9, first as u8));

@@ -1,20 +1,9 @@
 //! Writing: values checked by hand, and the order of the refusals.
 
-use crate::common::{base_record, outcome, written};
-use reference::record::Category::{self, AshFall, Hypocenter, Intensity, Nankai};
+use crate::common::{base_record, outcome, writing, written};
+use reference::record::Category::{self, AshFall, Hypocenter, Intensity, Nankai, Tsunami};
 use reference::record::{Body, Record, Slot};
 use reference::write::write;
-
-/// What writing a changed sample record says; a refused one must leave the
-/// buffer alone.
-fn writing(category: Category, change: impl Fn(&mut Record)) -> (u8, u8) {
-    let mut record = base_record(category);
-    change(&mut record);
-    let mut frame = [0xA5; 32];
-    let answer = outcome(write(&record, &mut frame));
-    assert_eq!(frame == [0xA5; 32], answer != (0, 0));
-    answer
-}
 
 #[test]
 fn a_buffer_of_any_other_length_is_refused_and_left_alone() {
@@ -61,26 +50,41 @@ fn all_three_preambles_are_written_as_they_are() {
 }
 
 #[test]
-fn something_where_the_category_has_nothing() {
-    for category in [Hypocenter, Intensity, AshFall] {
+fn text_where_the_category_has_none() {
+    for category in [Hypocenter, Intensity, Tsunami, AshFall] {
         for number in 0..18 {
             assert_eq!(writing(category, |record| record.text[number] = 1), (11, 0));
         }
     }
-    for (category, count) in [(Hypocenter, 0), (Nankai, 0), (AshFall, 4)] {
-        for slot in count..16 {
-            assert_eq!(writing(category, |record| record.slots[slot].hour = 1), (11, 0));
-            assert_eq!(writing(category, |record| record.slots[slot].strength = 1), (11, 0));
-            assert_eq!(writing(category, |record| record.slots[slot].place = 1), (11, 0));
-            assert_eq!(writing(category, |record| record.slots[slot].place = 1 << 32), (11, 0));
+}
+
+type Put = fn(&mut Slot);
+
+const DAY: Put = |slot| slot.day = 1;
+const HOUR: Put = |slot| slot.hour = 1;
+const MINUTE: Put = |slot| slot.minute = 1;
+const STRENGTH: Put = |slot| slot.strength = 1;
+const PLACE: Put = |slot| slot.place = 1;
+const WIDE_PLACE: Put = |slot| slot.place = 1 << 32;
+
+#[test]
+fn something_in_a_slot_where_the_category_has_nothing() {
+    // How many slots a category has, and what they lack.
+    let rows: [(Category, usize, &[Put]); 5] = [
+        (Hypocenter, 0, &[]),
+        (Intensity, 16, &[DAY, HOUR, MINUTE]),
+        (Nankai, 0, &[]),
+        (Tsunami, 5, &[]),
+        (AshFall, 4, &[DAY, MINUTE]),
+    ];
+    for (category, count, lacking) in rows {
+        for number in 0..16 {
+            let all = [DAY, HOUR, MINUTE, STRENGTH, PLACE, WIDE_PLACE];
+            for put in if number < count { lacking } else { &all } {
+                let answer = writing(category, |record| put(&mut record.slots[number]));
+                assert_eq!(answer, (11, 0), "{category:?} {number}");
+            }
         }
-    }
-    for slot in 0..16 {
-        for category in Category::ALL {
-            assert_eq!(writing(category, |record| record.slots[slot].day = 1), (11, 0));
-            assert_eq!(writing(category, |record| record.slots[slot].minute = 1), (11, 0));
-        }
-        assert_eq!(writing(Intensity, |record| record.slots[slot].hour = 1), (11, 0));
     }
 }
 

@@ -156,7 +156,13 @@ fn another_value_in_the_name_is_another_bulletin() {
 #[test]
 fn other_categories_are_12_and_wrong_pages_8() {
     let mut store = opened(NAME);
-    for record in [samples::hypocenter(), samples::intensity(), samples::ash_fall_detailed()] {
+    let others = [
+        samples::hypocenter(),
+        samples::intensity(),
+        samples::tsunami_warning(),
+        samples::ash_fall_detailed(),
+    ];
+    for record in others {
         assert_eq!(store.take(&record[0]), refused(12));
     }
     let at = |place| Err::<Taken, _>(Refusal { number: 8, place, page: 0, mark: 0 });
