@@ -39,6 +39,26 @@ static void refused_is(int line, const char *name, into_store call, uint32_t exp
     refused_is(__LINE__, "lz_merge", lz_merge, (expected), BYTES(store, LZ_STORE_BYTES), \
                BYTES(other, LZ_STORE_BYTES))
 
+/* Every category but 4 is 12, behind what writing refuses of its record. */
+static void check_no_page_taken(const uint8_t *store)
+{
+    static const sample_record samples[] = {hypocenter_record, intensity_record, tsunami_record,
+                                            ash_fall_record};
+    uint8_t record[LZ_RECORD_BYTES];
+    for (size_t i = 0; i < sizeof samples / sizeof samples[0]; i++) {
+        samples[i](record);
+        TAKING_IS(refused(LZ_REFUSED_NO_PAGE), store, record);
+        record[LZ_RECORD_RC] = 0;
+        TAKING_IS(refused_at(LZ_REFUSED_RANGE, 14), store, record);
+        record[LZ_RECORD_TEXT] = 1;
+        TAKING_IS(refused(LZ_REFUSED_UNUSED), store, record);
+    }
+    /* an Rc that a tsunami report may have and no bulletin has */
+    tsunami_record(record);
+    record[LZ_RECORD_RC] = 1;
+    TAKING_IS(refused(LZ_REFUSED_NO_PAGE), store, record);
+}
+
 /* 14, what writing refuses, 12, 13. */
 void check_taking_refused(void)
 {
@@ -50,10 +70,7 @@ void check_taking_refused(void)
     TAKING_IS(refused(LZ_REFUSED_PREAMBLE), store, record);
     record[LZ_RECORD_PREAMBLE] = 0x53;
     TAKING_IS(refused(LZ_REFUSED_CATEGORY), store, record);
-    hypocenter_record(record);
-    TAKING_IS(refused(LZ_REFUSED_NO_PAGE), store, record);
-    record[LZ_RECORD_TEXT] = 1;
-    TAKING_IS(refused(LZ_REFUSED_UNUSED), store, record);
+    check_no_page_taken(store);
     for (unsigned i = 0; i < 4; i++) {
         /* both spares, and the first and the last byte behind them */
         static const unsigned unused[4] = {LZ_NANKAI_SPARE1, LZ_NANKAI_SPARE2,
@@ -142,6 +159,7 @@ static void unsound_with(int line, size_t at, uint8_t value)
 /* A name out of range, no state, bytes of a page that is not held, a page past the total. */
 void check_unsound(void)
 {
+    UNSOUND_WITH(LZ_NAME_RC, 1);
     UNSOUND_WITH(LZ_NAME_IS, 0);
     UNSOUND_WITH(LZ_NAME_TOTAL, 64);
     UNSOUND_WITH(LZ_STORE_PAGE(1) + LZ_PAGE_STATE, 3);

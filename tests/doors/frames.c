@@ -2,14 +2,12 @@
 #include "groups.h"
 
 #include "check.h"
+#include "frame_calls.h"
 #include "lavendelzug.h"
 #include "samples.h"
 
 #include <ctype.h>
 #include <stdio.h>
-
-/* Room behind a buffer, in which a call must not write. */
-#define BEHIND 9
 
 /* A word taken apart, and the tables of the header: each ends where it should. */
 void check_header(void)
@@ -23,8 +21,12 @@ void check_header(void)
     SAME_WORD(0x98, LZ_LOWEST(0xFEDCBA98u));
     SAME_WORD(0xDC, LZ_KIND(0xFEDCBA98u));
     SAME_WORD(0xBA98, LZ_VALUE(0xFEDCBA98u));
+    SAME_WORD(0xBA, LZ_ARRIVAL_HOUR(0xFEDCBA98u));
+    SAME_WORD(0x98, LZ_ARRIVAL_MINUTE(0xFEDCBA98u));
     SAME_WORD(LZ_SLOT_BYTES, LZ_SLOT_PLACE + 8);
     SAME_WORD(LZ_RECORD_SLOT(0), LZ_QUAKE_SPARE2 + 8);
+    SAME_WORD(LZ_TSUNAMI_NOTIFICATIONS, LZ_TSUNAMI_SPARE1 + 2);
+    SAME_WORD(LZ_TSUNAMI_WARNING, LZ_TSUNAMI_NOTIFICATIONS + 3 * 2);
     SAME_WORD(LZ_RECORD_TEXT, LZ_RECORD_SLOT(LZ_SLOTS));
     SAME_WORD(LZ_RECORD_BYTES, LZ_RECORD_TEXT + LZ_PAGE_TEXT_BYTES);
     SAME_WORD(LZ_STORE_BYTES, LZ_STORE_PAGE(64));
@@ -58,21 +60,12 @@ static void check_sample(const char *digits, const uint8_t *record)
     uint8_t frame[LZ_FRAME_BYTES];
     uint8_t lent[LZ_RECORD_BYTES + BEHIND];
     frame_of(digits, frame);
-
-    fill(lent, sizeof lent);
-    SAME_WORD(LZ_FINE, lz_read(frame, LZ_FRAME_BYTES, lent, LZ_RECORD_BYTES));
-    SAME_BYTES(record, lent, LZ_RECORD_BYTES);
-    UNTOUCHED(lent, LZ_RECORD_BYTES, sizeof lent);
+    EACH_FROM_THE_OTHER(frame, record);
 
     fill(lent, sizeof lent);
     SAME_WORD(LZ_FINE, lz_read_line(line, LZ_LINE_DIGITS, lent, LZ_RECORD_BYTES));
     SAME_BYTES(record, lent, LZ_RECORD_BYTES);
     UNTOUCHED(lent, LZ_RECORD_BYTES, sizeof lent);
-
-    fill(lent, sizeof lent);
-    SAME_WORD(LZ_FINE, lz_write(record, LZ_RECORD_BYTES, lent, LZ_FRAME_BYTES));
-    SAME_BYTES(frame, lent, LZ_FRAME_BYTES);
-    UNTOUCHED(lent, LZ_FRAME_BYTES, sizeof lent);
 
     fill(lent, sizeof lent);
     SAME_WORD(LZ_FINE, lz_write_line(frame, LZ_FRAME_BYTES, lent, sizeof lent));
@@ -89,6 +82,8 @@ void check_samples(void)
     check_sample(intensity_line, record);
     nankai_record(record);
     check_sample(nankai_line, record);
+    tsunami_record(record);
+    check_sample(tsunami_line, record);
     ash_fall_record(record);
     check_sample(ash_fall_line, record);
 }
@@ -112,5 +107,5 @@ void check_all_samples(void)
         SAME_BYTES((const uint8_t *)line, back, LZ_LINE_DIGITS);
         count++;
     }
-    SAME_WORD(70, count);
+    SAME_WORD(76, count);
 }

@@ -8,6 +8,16 @@ void check_parity(void);
 void check_samples(void);
 void check_all_samples(void);
 
+/* common_fields.c */
+void check_other_categories(void);
+void check_rc_and_it(void);
+
+/* tsunami.c */
+void check_arrivals_in_areas(void);
+void check_areas(void);
+void check_warnings(void);
+void check_wide_tsunami_records(void);
+
 /* refusals.c */
 void check_reading_refused(void);
 void check_writing_refused(void);
@@ -18,6 +28,8 @@ void check_records_lent_for_writing(void);
 /* meanings.c */
 void check_depths(void);
 void check_magnitudes(void);
+void check_arrivals(void);
+void check_heights(void);
 void check_prefectures(void);
 void check_slots_used(void);
 

@@ -1,4 +1,4 @@
-/* What numbers say: every depth and magnitude, places at their bounds, slots. */
+/* What numbers say: every depth, magnitude, arrival and height, places at their bounds, slots. */
 #include "groups.h"
 
 #include "check.h"
@@ -7,16 +7,22 @@
 
 #include <string.h>
 
-/* Codes from low to high are known, one is beyond them, one is unknown, and no other says anything. */
+/* Where no code is beyond those that are known. */
+#define NONE_BEYOND UINT32_MAX
+
+/*
+ * One code is beyond those that are known, one is unknown, even among them. All
+ * others from low to high are known, and none besides says anything.
+ */
 static uint32_t told(uint32_t code, uint32_t low, uint32_t high, uint32_t beyond, uint32_t unknown)
 {
-    if (code >= low && code <= high) {
-        return said(LZ_KNOWN, code);
-    }
     if (code == beyond) {
         return said(LZ_BEYOND, 0);
     }
-    return code == unknown ? said(LZ_UNKNOWN, 0) : said(LZ_NO_CODE, 0);
+    if (code == unknown) {
+        return said(LZ_UNKNOWN, 0);
+    }
+    return code >= low && code <= high ? said(LZ_KNOWN, code) : said(LZ_NO_CODE, 0);
 }
 
 void check_depths(void)
@@ -30,6 +36,33 @@ void check_magnitudes(void)
 {
     for (uint32_t code = 0; code <= UINT8_MAX; code++) {
         SAME_WORD(told(code, 1, 101, 126, 127), lz_magnitude((uint8_t)code));
+    }
+}
+
+static uint32_t arrival_told(uint32_t hour, uint32_t minute)
+{
+    if (hour == 31 && minute == 63) {
+        return said(LZ_ARRIVED, 0);
+    }
+    return hour <= 23 && minute <= 59 ? said(LZ_KNOWN, 256 * hour + minute) : said(LZ_NO_CODE, 0);
+}
+
+/* One of the two codes without the other says nothing. */
+void check_arrivals(void)
+{
+    for (uint32_t hour = 0; hour <= UINT8_MAX; hour++) {
+        for (uint32_t minute = 0; minute <= UINT8_MAX; minute++) {
+            SAME_WORD(arrival_told(hour, minute), lz_arrival((uint8_t)hour, (uint8_t)minute));
+        }
+    }
+    SAME_WORD(21, LZ_ARRIVAL_HOUR(lz_arrival(21, 42)));
+    SAME_WORD(42, LZ_ARRIVAL_MINUTE(lz_arrival(21, 42)));
+}
+
+void check_heights(void)
+{
+    for (uint32_t code = 0; code <= UINT8_MAX; code++) {
+        SAME_WORD(told(code, 1, 15, NONE_BEYOND, 14), lz_height((uint8_t)code));
     }
 }
 
@@ -79,6 +112,20 @@ static void check_slots_up_to_a_gap(void)
     SLOTS_USED_ARE(0, record, LZ_RECORD_BYTES);
 }
 
+/* Areas of a tsunami report, which has five: the day alone makes a slot used. */
+static void check_areas_used(void)
+{
+    uint8_t record[LZ_RECORD_BYTES];
+    tsunami_record(record);
+    for (unsigned used = 3; used < 5; used++) {
+        SLOTS_USED_ARE(used, record, LZ_RECORD_BYTES);
+        put_area(record, used, (struct area){1, 0, 0, 0, 0});
+    }
+    SLOTS_USED_ARE(5, record, LZ_RECORD_BYTES);
+    put_area(record, 1, (struct area){0, 0, 0, 0, 0});
+    SLOTS_USED_ARE(1, record, LZ_RECORD_BYTES);
+}
+
 void check_slots_used(void)
 {
     uint8_t record[LZ_RECORD_BYTES + 1] = {0};
@@ -95,4 +142,5 @@ void check_slots_used(void)
         SLOTS_USED_ARE(0, record, other_record_lengths[i]);
     }
     check_slots_up_to_a_gap();
+    check_areas_used();
 }

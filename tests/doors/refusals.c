@@ -2,12 +2,13 @@
 #include "groups.h"
 
 #include "check.h"
+#include "frame_calls.h"
 #include "lavendelzug.h"
 #include "samples.h"
 
 #include <string.h>
 
-/* A field of the hypocenter's frame: a value that is refused, and its own. */
+/* A field of a sample's frame: a value that is refused, and its own. */
 struct fault {
     unsigned first, width;
     uint32_t wrong, right;
@@ -15,10 +16,10 @@ struct fault {
 };
 
 /* In the order in which they are refused. */
-static const struct fault frame_faults[] = {
+static const struct fault hypocenter_faults[] = {
     {8, 6, 44, 43, LZ_REFUSED_MESSAGE, 0},
     {214, 6, 2, 1, LZ_REFUSED_VERSION, 0},
-    {17, 4, 5, 2, LZ_REFUSED_CATEGORY, 0},
+    {17, 4, 6, 2, LZ_REFUSED_CATEGORY, 0},
     {14, 3, 1, 7, LZ_REFUSED_RANGE, 14},
     {43, 10, 1, 0, LZ_REFUSED_SPARE, 43},
     {96, 9, 502, 40, LZ_REFUSED_RANGE, 96},
@@ -26,31 +27,36 @@ static const struct fault frame_faults[] = {
     {213, 1, 1, 0, LZ_REFUSED_SPARE, 163},
 };
 
-#define FRAME_FAULTS (sizeof frame_faults / sizeof frame_faults[0])
+/* Hour 24 stands with minute 63, since 31 would pass there. An empty second area makes a gap. */
+static const struct fault tsunami_faults[] = {
+    {8, 6, 44, 43, LZ_REFUSED_MESSAGE, 0},
+    {214, 6, 2, 1, LZ_REFUSED_VERSION, 0},
+    {17, 4, 6, 5, LZ_REFUSED_CATEGORY, 0},
+    {14, 3, 2, 7, LZ_REFUSED_RANGE, 14},
+    {41, 2, 1, 0, LZ_REFUSED_RANGE, 41},
+    {43, 10, 1, 0, LZ_REFUSED_SPARE, 43},
+    {53, 9, 100, 122, LZ_REFUSED_RANGE, 53},
+    {71, 9, 501, 124, LZ_REFUSED_RANGE, 71},
+    {80, 4, 0, 3, LZ_REFUSED_RANGE, 80},
+    {85, 5, 24, 4, LZ_REFUSED_RANGE, 85},
+    {90, 6, 63, 5, LZ_REFUSED_RANGE, 90},
+    {96, 4, 0, 3, LZ_REFUSED_RANGE, 96},
+    {100, 10, 99, 600, LZ_REFUSED_RANGE, 100},
+    {110, 26, 0, 0x414E62, LZ_REFUSED_GAP, 136},
+    {152, 10, 1001, 760, LZ_REFUSED_RANGE, 152},
+    {188, 1, 1, 0, LZ_REFUSED_GAP, 188},
+};
 
-static void put_parity(uint8_t *frame)
-{
-    put(frame, 226, 24, lz_parity(frame, LZ_FRAME_BYTES));
-}
-
-static void reading_is(int line, uint32_t expected, const uint8_t *frame, size_t length)
-{
-    uint8_t lent[LZ_RECORD_BYTES];
-    fill(lent, sizeof lent);
-    same_word(__FILE__, line, "lz_read", expected, lz_read(frame, length, lent, sizeof lent));
-    untouched(__FILE__, line, "record", lent, 0, sizeof lent);
-}
-
-#define READING_IS(expected, frame, length) reading_is(__LINE__, (expected), (frame), (length))
+#define COUNT(table) (sizeof(table) / sizeof(table)[0])
 
 /* A frame with every fault, of which the first is mended after it was refused. */
-static void check_order_of_reading(void)
+static void check_order_of_reading(const char *line, const struct fault *faults, size_t count)
 {
     uint8_t frame[LZ_FRAME_BYTES + 1] = {0};
     uint8_t record[LZ_RECORD_BYTES] = {0};
-    frame_of(hypocenter_line, frame);
-    for (size_t i = 0; i < FRAME_FAULTS; i++) {
-        put(frame, frame_faults[i].first, frame_faults[i].width, frame_faults[i].wrong);
+    frame_of(line, frame);
+    for (size_t i = 0; i < count; i++) {
+        put(frame, faults[i].first, faults[i].width, faults[i].wrong);
     }
     put(frame, 0, 8, 0x54);
     put(frame, 250, 6, 1);
@@ -62,11 +68,10 @@ static void check_order_of_reading(void)
     READING_IS(refused(LZ_REFUSED_PREAMBLE), frame, LZ_FRAME_BYTES);
     put(frame, 0, 8, 0x53);
     READING_IS(refused(LZ_REFUSED_PARITY), frame, LZ_FRAME_BYTES);
-    for (size_t i = 0; i < FRAME_FAULTS; i++) {
-        const struct fault *fault = &frame_faults[i];
+    for (size_t i = 0; i < count; i++) {
         put_parity(frame);
-        READING_IS(refused_at(fault->number, fault->place), frame, LZ_FRAME_BYTES);
-        put(frame, fault->first, fault->width, fault->right);
+        READING_IS(refused_at(faults[i].number, faults[i].place), frame, LZ_FRAME_BYTES);
+        put(frame, faults[i].first, faults[i].width, faults[i].right);
     }
     put_parity(frame);
     SAME_WORD(LZ_FINE, lz_read(frame, LZ_FRAME_BYTES, record, sizeof record));
@@ -76,7 +81,8 @@ static void check_order_of_reading(void)
 void check_reading_refused(void)
 {
     uint8_t frame[LZ_FRAME_BYTES];
-    check_order_of_reading();
+    check_order_of_reading(hypocenter_line, hypocenter_faults, COUNT(hypocenter_faults));
+    check_order_of_reading(tsunami_line, tsunami_faults, COUNT(tsunami_faults));
     frame_of(intensity_line, frame);
     put(frame, 69 + 9 * 10, 9, 300);
     put_parity(frame);
@@ -86,16 +92,16 @@ void check_reading_refused(void)
     READING_IS(refused_at(LZ_REFUSED_RANGE, 153), frame, LZ_FRAME_BYTES);
 }
 
-/* A byte of the hypocenter's record, as above. */
+/* A byte of a sample's record, as above. */
 struct record_fault {
     unsigned at;
     uint8_t wrong, right;
     unsigned number, place;
 };
 
-static const struct record_fault record_faults[] = {
+static const struct record_fault hypocenter_record_faults[] = {
     {LZ_RECORD_PREAMBLE, 0x54, 0x53, LZ_REFUSED_PREAMBLE, 0},
-    {LZ_RECORD_CATEGORY, 5, 2, LZ_REFUSED_CATEGORY, 0},
+    {LZ_RECORD_CATEGORY, 6, 2, LZ_REFUSED_CATEGORY, 0},
     {LZ_RECORD_TEXT + 17, 1, 0, LZ_REFUSED_UNUSED, 0},
     {LZ_RECORD_SLOT(15) + LZ_SLOT_PLACE, 1, 0, LZ_REFUSED_UNUSED, 0},
     {LZ_RECORD_SLOT(0) + LZ_SLOT_DAY, 1, 0, LZ_REFUSED_UNUSED, 0},
@@ -108,61 +114,73 @@ static const struct record_fault record_faults[] = {
     {LZ_RECORD_RESERVED, 64, 0, LZ_REFUSED_RANGE, 220},
 };
 
-#define RECORD_FAULTS (sizeof record_faults / sizeof record_faults[0])
+static const struct record_fault tsunami_record_faults[] = {
+    {LZ_RECORD_PREAMBLE, 0x54, 0x53, LZ_REFUSED_PREAMBLE, 0},
+    {LZ_RECORD_CATEGORY, 6, 5, LZ_REFUSED_CATEGORY, 0},
+    {LZ_RECORD_TEXT, 1, 0, LZ_REFUSED_UNUSED, 0},
+    {LZ_RECORD_SLOT(15) + LZ_SLOT_HOUR, 1, 0, LZ_REFUSED_UNUSED, 0},
+    {LZ_RECORD_SLOT(5) + LZ_SLOT_DAY, 1, 0, LZ_REFUSED_UNUSED, 0},
+    {LZ_TSUNAMI_WARNING + 1, 1, 0, LZ_REFUSED_UNUSED, 0},
+    {LZ_TSUNAMI_SPARE1 + 1, 1, 0, LZ_REFUSED_UNUSED, 0},
+    {LZ_RECORD_RC, 2, 7, LZ_REFUSED_RANGE, 14},
+    {LZ_RECORD_IT, 1, 0, LZ_REFUSED_RANGE, 41},
+    {LZ_TSUNAMI_WARNING, 16, 3, LZ_REFUSED_RANGE, 80},
+    {LZ_RECORD_SLOT(0) + LZ_SLOT_DAY, 2, 0, LZ_REFUSED_RANGE, 84},
+    {LZ_RECORD_SLOT(0) + LZ_SLOT_HOUR, 24, 4, LZ_REFUSED_RANGE, 85},
+    {LZ_RECORD_SLOT(0) + LZ_SLOT_MINUTE, 63, 5, LZ_REFUSED_RANGE, 90},
+    {LZ_RECORD_SLOT(0) + LZ_SLOT_STRENGTH, 0, 3, LZ_REFUSED_RANGE, 96},
+    {LZ_RECORD_SLOT(2) + LZ_SLOT_HOUR, 31, 4, LZ_REFUSED_RANGE, 137},
+    {LZ_RECORD_SLOT(4) + LZ_SLOT_DAY, 1, 0, LZ_REFUSED_GAP, 188},
+    {LZ_RECORD_RESERVED, 64, 0, LZ_REFUSED_RANGE, 220},
+};
 
-static void writing_is(int line, uint32_t expected, const uint8_t *record, size_t length)
-{
-    uint8_t lent[LZ_FRAME_BYTES + 1];
-    fill(lent, sizeof lent);
-    same_word(__FILE__, line, "lz_write", expected,
-              lz_write(record, LZ_RECORD_BYTES, lent, length));
-    untouched(__FILE__, line, "frame", lent, 0, sizeof lent);
-}
-
-#define WRITING_IS(expected, record, length) writing_is(__LINE__, (expected), (record), (length))
-
-static void check_order_of_writing(void)
+static void check_order_of_writing(sample_record sample, const struct record_fault *faults,
+                                   size_t count)
 {
     uint8_t record[LZ_RECORD_BYTES];
     uint8_t frame[LZ_FRAME_BYTES] = {0};
-    hypocenter_record(record);
-    for (size_t i = 0; i < RECORD_FAULTS; i++) {
-        record[record_faults[i].at] = record_faults[i].wrong;
+    sample(record);
+    for (size_t i = 0; i < count; i++) {
+        record[faults[i].at] = faults[i].wrong;
     }
     WRITING_IS(refused(LZ_REFUSED_LENGTH), record, 0);
     WRITING_IS(refused(LZ_REFUSED_LENGTH), record, LZ_FRAME_BYTES - 1);
     WRITING_IS(refused(LZ_REFUSED_LENGTH), record, LZ_FRAME_BYTES + 1);
-    for (size_t i = 0; i < RECORD_FAULTS; i++) {
-        const struct record_fault *fault = &record_faults[i];
-        WRITING_IS(refused_at(fault->number, fault->place), record, LZ_FRAME_BYTES);
-        record[fault->at] = fault->right;
+    for (size_t i = 0; i < count; i++) {
+        WRITING_IS(refused_at(faults[i].number, faults[i].place), record, LZ_FRAME_BYTES);
+        record[faults[i].at] = faults[i].right;
     }
     SAME_WORD(LZ_FINE, lz_write(record, sizeof record, frame, sizeof frame));
 }
 
-/* Bytes in front of the slots in which no field of a category stands. */
+/* Bytes in which nothing of a category stands. */
 struct unused {
-    void (*sample)(uint8_t *record);
+    sample_record sample;
     unsigned from, to;
 };
 
-/* Spares; behind the second one there is nothing more. */
+/* Spares, what lies behind the last field, the slots that a category has not, and the text. */
 static const struct unused unused[] = {
     {hypocenter_record, LZ_QUAKE_SPARE1, LZ_QUAKE_NOTIFICATIONS},
-    {hypocenter_record, LZ_QUAKE_SPARE2, LZ_RECORD_SLOT(0)},
+    {hypocenter_record, LZ_QUAKE_SPARE2, LZ_RECORD_BYTES},
     {intensity_record, LZ_INTENSITY_SPARE1, LZ_INTENSITY_DAY},
     {intensity_record, LZ_INTENSITY_SPARE2, LZ_RECORD_SLOT(0)},
+    {intensity_record, LZ_RECORD_TEXT, LZ_RECORD_BYTES},
     {nankai_record, LZ_NANKAI_SPARE1, LZ_NANKAI_IS},
-    {nankai_record, LZ_NANKAI_SPARE2, LZ_RECORD_SLOT(0)},
+    {nankai_record, LZ_NANKAI_SPARE2, LZ_RECORD_TEXT},
+    {tsunami_record, LZ_TSUNAMI_SPARE1, LZ_TSUNAMI_NOTIFICATIONS},
+    {tsunami_record, LZ_TSUNAMI_WARNING + 1, LZ_RECORD_SLOT(0)},
+    {tsunami_record, LZ_RECORD_SLOT(5), LZ_RECORD_BYTES},
     {ash_fall_record, LZ_ASH_SPARE1, LZ_ASH_DAY},
     {ash_fall_record, LZ_ASH_SPARE2, LZ_RECORD_SLOT(0)},
+    {ash_fall_record, LZ_RECORD_SLOT(4), LZ_RECORD_BYTES},
 };
 
 /* Each of them alone is 11. */
 static void check_unused_refused(void)
 {
     uint8_t record[LZ_RECORD_BYTES];
-    for (size_t i = 0; i < sizeof unused / sizeof unused[0]; i++) {
+    for (size_t i = 0; i < COUNT(unused); i++) {
         for (unsigned at = unused[i].from; at < unused[i].to; at++) {
             unused[i].sample(record);
             record[at] = 1;
@@ -188,7 +206,9 @@ static void check_slot_refused(void)
 void check_writing_refused(void)
 {
     uint8_t record[LZ_RECORD_BYTES];
-    check_order_of_writing();
+    check_order_of_writing(hypocenter_record, hypocenter_record_faults,
+                           COUNT(hypocenter_record_faults));
+    check_order_of_writing(tsunami_record, tsunami_record_faults, COUNT(tsunami_record_faults));
     check_unused_refused();
     check_slot_refused();
     intensity_record(record);

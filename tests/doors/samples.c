@@ -10,6 +10,8 @@ const char intensity_line[] =
     "53AF99AC828002C82CB25AE775A8D4CA854AB80000000000000000100412DE0";
 const char nankai_line[] =
     "53AFA1AC918002F2C6CBF35ADBF1C1C471C1D4F1C1CAF3595F82D81019545BC";
+const char tsunami_line[] =
+    "53AFA9AC828001E8F67C31053960414E621053BE00000000000000100D3FFCC";
 const char ash_fall_line[] =
     "53AFC9ACA50002CA523EE4C1F078261220813091810000000000001024FECDC";
 
@@ -80,6 +82,26 @@ void nankai_record(uint8_t *record)
            LZ_PAGE_TEXT_BYTES);
 }
 
+void put_area(uint8_t *record, unsigned i, struct area area)
+{
+    slot(record, i, area.hour, area.height, area.region);
+    record[LZ_RECORD_SLOT(i) + LZ_SLOT_DAY] = area.day;
+    record[LZ_RECORD_SLOT(i) + LZ_SLOT_MINUTE] = area.minute;
+}
+
+/* Three metres at the time of issue: Ehime on the Uwa Sea, Kochi, Miyazaki. */
+void tsunami_record(uint8_t *record)
+{
+    static const uint16_t notifications[3] = {122, 123, 124};
+    static const uint16_t regions[3] = {600, 610, 760};
+    issued(record, 5, 4, 5);
+    record[LZ_TSUNAMI_WARNING] = 3;
+    for (unsigned i = 0; i < 3; i++) {
+        put_bytes(record + LZ_TSUNAMI_NOTIFICATIONS + 2 * i, 2, notifications[i]);
+        put_area(record, i, (struct area){0, 4, 5, 3, regions[i]});
+    }
+}
+
 /* Mount Aso: ash on Aso city, Takamori town and Minamiaso village. */
 void ash_fall_record(uint8_t *record)
 {
@@ -114,6 +136,11 @@ void put(uint8_t *frame, unsigned first, unsigned width, uint32_t value)
             frame[at / 8] &= (uint8_t)~bit;
         }
     }
+}
+
+void put_parity(uint8_t *frame)
+{
+    put(frame, 226, 24, lz_parity(frame, LZ_FRAME_BYTES));
 }
 
 void put_bytes(uint8_t *bytes, unsigned count, uint64_t value)

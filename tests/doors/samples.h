@@ -11,12 +11,26 @@
 extern const char hypocenter_line[];
 extern const char intensity_line[];
 extern const char nankai_line[];
+extern const char tsunami_line[];
 extern const char ash_fall_line[];
+
+/* Fills the bytes of a record. */
+typedef void (*sample_record)(uint8_t *record);
 
 void hypocenter_record(uint8_t *record);
 void intensity_record(uint8_t *record);
 void nankai_record(uint8_t *record);
+void tsunami_record(uint8_t *record);
 void ash_fall_record(uint8_t *record);
+
+/* What a slot of a tsunami report says. */
+struct area {
+    uint8_t day, hour, minute, height;
+    uint16_t region;
+};
+
+/* Puts an area into a record, in the place of what stood there. */
+void put_area(uint8_t *record, unsigned i, struct area area);
 
 /* Lengths that no record has, up to one byte more than it. */
 extern const size_t other_record_lengths[3];
@@ -26,6 +40,9 @@ void frame_of(const char *line, uint8_t *frame);
 
 /* Puts a value into a field of a frame, and nothing else. */
 void put(uint8_t *frame, unsigned first, unsigned width, uint32_t value);
+
+/* Puts the parity of its other bits into a frame. */
+void put_parity(uint8_t *frame);
 
 /* Puts a number into as many bytes, the most significant first. */
 void put_bytes(uint8_t *bytes, unsigned count, uint64_t value);

@@ -1,0 +1,45 @@
+/*
+ * Reading a frame and writing a record: what is answered, and every byte that
+ * was lent.
+ */
+#ifndef FRAME_CALLS_H
+#define FRAME_CALLS_H
+
+#include "lavendelzug.h"
+#include "samples.h"
+
+/* Room behind a buffer, in which a call must not write. */
+#define BEHIND 9
+
+/* A refusal: whatever was lent, for the answer too, is as it was. */
+#define READING_IS(expected, frame, length) \
+    reading_is(__FILE__, __LINE__, (expected), (frame), (length))
+#define WRITING_IS(expected, record, room) \
+    writing_is(__FILE__, __LINE__, (expected), (record), (room))
+
+/* Reading the frame gives the record, and writing the record gives the frame. */
+#define EACH_FROM_THE_OTHER(frame, record) \
+    each_from_the_other(__FILE__, __LINE__, (frame), (record))
+
+/* One report in both forms: whoever changes the one changes the other alike. */
+struct report {
+    uint8_t frame[LZ_FRAME_BYTES];
+    uint8_t record[LZ_RECORD_BYTES];
+};
+
+void report_of(struct report *report, const char *line, sample_record record);
+
+/*
+ * The frame gets its parity. Then both forms are refused with this answer; where
+ * it is LZ_FINE, each is had from the other.
+ */
+#define REPORT_IS(expected, report) report_is(__FILE__, __LINE__, (expected), (report))
+
+void reading_is(const char *file, int line, uint32_t expected, const uint8_t *frame,
+                size_t length);
+void writing_is(const char *file, int line, uint32_t expected, const uint8_t *record,
+                size_t room);
+void each_from_the_other(const char *file, int line, const uint8_t *frame, const uint8_t *record);
+void report_is(const char *file, int line, uint32_t expected, struct report *report);
+
+#endif

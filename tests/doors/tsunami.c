@@ -1,0 +1,206 @@
+/* Category 5, read and written: its areas, its notifications and its warning code. */
+#include "groups.h"
+
+#include "check.h"
+#include "frame_calls.h"
+#include "lavendelzug.h"
+#include "samples.h"
+
+#define AREAS 5
+
+/* The first bit of an area, counted from 0. */
+static unsigned area_bit(unsigned i)
+{
+    return 84 + 26 * i;
+}
+
+static void set_area(struct report *report, unsigned i, struct area area)
+{
+    unsigned first = area_bit(i);
+    put(report->frame, first, 1, area.day);
+    put(report->frame, first + 1, 5, area.hour);
+    put(report->frame, first + 6, 6, area.minute);
+    put(report->frame, first + 12, 4, area.height);
+    put(report->frame, first + 16, 10, area.region);
+    put_area(report->record, i, area);
+}
+
+/* Which field of an area is refused: its bit, counted from the area's first. */
+enum { NONE = 0, HOUR = 1, MINUTE = 6 };
+
+struct arrival {
+    uint8_t hour, minute;
+    unsigned refused;
+};
+
+/* Only 31 with 63 says that the wave has arrived; of others the first one out of range is told. */
+static const struct arrival arrivals[] = {
+    {0, 0, NONE},    {23, 59, NONE},  {31, 63, NONE},   {31, 0, HOUR},    {31, 59, HOUR},
+    {31, 60, HOUR},  {31, 62, HOUR},  {24, 63, HOUR},   {30, 63, HOUR},   {24, 59, HOUR},
+    {5, 63, MINUTE}, {0, 63, MINUTE}, {23, 62, MINUTE}, {23, 60, MINUTE},
+};
+
+/* All five areas are used; what the other four say plays no part. */
+static void check_arrival(struct arrival arrival, unsigned i, uint8_t day, struct area others)
+{
+    struct report report;
+    uint32_t expected = LZ_FINE;
+    report_of(&report, tsunami_line, tsunami_record);
+    for (unsigned other = 0; other < AREAS; other++) {
+        set_area(&report, other, others);
+    }
+    set_area(&report, i, (struct area){day, arrival.hour, arrival.minute, 3, 600});
+    if (arrival.refused != NONE) {
+        expected = refused_at(LZ_REFUSED_RANGE, area_bit(i) + arrival.refused);
+    }
+    REPORT_IS(expected, &report);
+}
+
+void check_arrivals_in_areas(void)
+{
+    static const struct area at_a_time = {1, 4, 5, 6, 100}, arrived = {0, 31, 63, 14, 1000};
+    for (size_t k = 0; k < sizeof arrivals / sizeof arrivals[0]; k++) {
+        for (unsigned i = 0; i < AREAS; i++) {
+            for (uint8_t day = 0; day <= 1; day++) {
+                check_arrival(arrivals[k], i, day, at_a_time);
+                check_arrival(arrivals[k], i, day, arrived);
+            }
+        }
+    }
+}
+
+/* One area of the sample, which has three and then two empty ones, is another. */
+struct area_case {
+    unsigned i;
+    struct area area;
+    unsigned number, place;
+};
+
+static const struct area_case area_cases[] = {
+    {0, {1, 23, 59, 1, 100}, LZ_FINE, 0},
+    {0, {0, 31, 63, 15, 1000}, LZ_FINE, 0},
+    {0, {0, 4, 5, 14, 600}, LZ_FINE, 0},
+    {0, {0, 4, 5, 0, 600}, LZ_REFUSED_RANGE, 96},
+    {0, {0, 4, 5, 3, 0}, LZ_REFUSED_RANGE, 100},
+    {0, {0, 4, 5, 3, 99}, LZ_REFUSED_RANGE, 100},
+    {0, {0, 4, 5, 3, 1001}, LZ_REFUSED_RANGE, 100},
+    /* the first is used, even of zeros, and a later one of zeros is empty */
+    {0, {0, 0, 0, 0, 0}, LZ_REFUSED_RANGE, 96},
+    {1, {0, 0, 0, 0, 0}, LZ_REFUSED_GAP, 136},
+    {2, {0, 0, 0, 0, 0}, LZ_FINE, 0},
+    /* behind a used one: half filled, from the day on, or whole */
+    {3, {1, 0, 0, 0, 0}, LZ_REFUSED_RANGE, 174},
+    {3, {0, 31, 63, 0, 0}, LZ_REFUSED_RANGE, 174},
+    {3, {0, 0, 0, 3, 0}, LZ_REFUSED_RANGE, 178},
+    {3, {0, 0, 0, 0, 600}, LZ_REFUSED_RANGE, 174},
+    {3, {0, 0, 0, 3, 600}, LZ_FINE, 0},
+    /* behind an empty one: the same, and the gap comes before the fields */
+    {4, {1, 0, 0, 0, 0}, LZ_REFUSED_GAP, 188},
+    {4, {0, 31, 63, 0, 0}, LZ_REFUSED_GAP, 188},
+    {4, {0, 0, 0, 3, 600}, LZ_REFUSED_GAP, 188},
+};
+
+/* The last bit in front of the version is one of the fifth area's, and no spare. */
+static void check_each_bit_uses_an_area(void)
+{
+    for (unsigned bit = area_bit(4); bit < 214; bit++) {
+        uint8_t frame[LZ_FRAME_BYTES];
+        frame_of(tsunami_line, frame);
+        put(frame, bit, 1, 1);
+        put_parity(frame);
+        READING_IS(refused_at(LZ_REFUSED_GAP, 188), frame, LZ_FRAME_BYTES);
+    }
+}
+
+void check_areas(void)
+{
+    for (size_t k = 0; k < sizeof area_cases / sizeof area_cases[0]; k++) {
+        const struct area_case *one = &area_cases[k];
+        struct report report;
+        report_of(&report, tsunami_line, tsunami_record);
+        set_area(&report, one->i, one->area);
+        REPORT_IS(refused_at(one->number, one->place), &report);
+    }
+    check_each_bit_uses_an_area();
+}
+
+/* None, or 101 to 500, in each of the three. */
+static void check_notifications(void)
+{
+    static const uint16_t passing[] = {0, 101, 500}, wrong[] = {1, 100, 501};
+    for (unsigned i = 0; i < 3; i++) {
+        for (unsigned k = 0; k < 3; k++) {
+            unsigned first = 53 + 9 * i, at = LZ_TSUNAMI_NOTIFICATIONS + 2 * i;
+            struct report report;
+            report_of(&report, tsunami_line, tsunami_record);
+            put(report.frame, first, 9, passing[k]);
+            put_bytes(report.record + at, 2, passing[k]);
+            REPORT_IS(LZ_FINE, &report);
+            put(report.frame, first, 9, wrong[k]);
+            put_bytes(report.record + at, 2, wrong[k]);
+            REPORT_IS(refused_at(LZ_REFUSED_RANGE, first), &report);
+        }
+    }
+}
+
+/* Codes without a name in the standard's table pass too; 0 is none. */
+void check_warnings(void)
+{
+    struct report report;
+    report_of(&report, tsunami_line, tsunami_record);
+    for (uint8_t code = 0; code <= 15; code++) {
+        put(report.frame, 80, 4, code);
+        report.record[LZ_TSUNAMI_WARNING] = code;
+        REPORT_IS(code == 0 ? refused_at(LZ_REFUSED_RANGE, 80) : LZ_FINE, &report);
+    }
+    check_notifications();
+}
+
+/* A byte of the sample's record with more bits than its field has, the lower ones as they were. */
+struct wide {
+    unsigned at;
+    uint8_t value;
+    unsigned place;
+};
+
+static const struct wide wide[] = {
+    {LZ_RECORD_RC, 8 + 7, 14},
+    {LZ_RECORD_IT, 4 + 0, 41},
+    {LZ_TSUNAMI_NOTIFICATIONS, 2, 53},
+    {LZ_TSUNAMI_NOTIFICATIONS + 2, 2, 62},
+    {LZ_TSUNAMI_NOTIFICATIONS + 4, 2, 71},
+    {LZ_TSUNAMI_WARNING, 16 + 3, 80},
+    {LZ_RECORD_SLOT(0) + LZ_SLOT_DAY, 2 + 0, 84},
+    {LZ_RECORD_SLOT(0) + LZ_SLOT_HOUR, 32 + 4, 85},
+    {LZ_RECORD_SLOT(0) + LZ_SLOT_MINUTE, 64 + 5, 90},
+    {LZ_RECORD_SLOT(0) + LZ_SLOT_STRENGTH, 16 + 3, 96},
+    {LZ_RECORD_SLOT(0) + LZ_SLOT_PLACE + 6, 4 + 2, 100},
+    {LZ_RECORD_SLOT(0) + LZ_SLOT_PLACE, 1, 100},
+};
+
+static void wide_area_is(int line, uint32_t expected, unsigned i, struct area area)
+{
+    uint8_t record[LZ_RECORD_BYTES];
+    tsunami_record(record);
+    put_area(record, i, area);
+    writing_is(__FILE__, line, expected, record, LZ_FRAME_BYTES);
+}
+
+#define WIDE_AREA_IS(expected, i, ...) \
+    wide_area_is(__LINE__, (expected), (i), (struct area){__VA_ARGS__})
+
+/* A record has room for more than a frame, and is never cut to what the frame has bits for. */
+void check_wide_tsunami_records(void)
+{
+    for (size_t k = 0; k < sizeof wide / sizeof wide[0]; k++) {
+        uint8_t record[LZ_RECORD_BYTES];
+        tsunami_record(record);
+        record[wide[k].at] = wide[k].value;
+        WRITING_IS(refused_at(LZ_REFUSED_RANGE, wide[k].place), record, LZ_FRAME_BYTES);
+    }
+    /* the bits of an arrival, and those of an empty area */
+    WIDE_AREA_IS(refused_at(LZ_REFUSED_RANGE, 137), 2, 0, 32 + 31, 63, 3, 760);
+    WIDE_AREA_IS(refused_at(LZ_REFUSED_RANGE, 137), 2, 0, 31, 64 + 63, 3, 760);
+    WIDE_AREA_IS(refused_at(LZ_REFUSED_RANGE, 162), 3, 2, 32, 64, 16, 1024);
+    WIDE_AREA_IS(refused_at(LZ_REFUSED_GAP, 188), 4, 2, 32, 64, 16, 1024);
+}
