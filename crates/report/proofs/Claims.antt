@@ -175,7 +175,7 @@ pub used-places-lie-in-a-prefecture : (s : List ℕ) → Conforms s → fieldOf 
     → (p : ℕ) × ((prefectureOf (getD (recordOf s .slots) i noSlot .place) ≡ Number p) × ((1 ≤ p) × (p ≤ 47)))
 used-places-lie-in-a-prefecture s c e i u = used-place s c e i u
 
--- .. and each used area of a tsunami report an arrival that is told, a height that is told or known to be unknown, and a region: "Five
+-- .. and each used area of a tsunami report an arrival that is told, a height that is told or known to be unknown, and a region: "five
 -- areas, each with arrival time, height code and forecast region".
 pub used-areas-are-told : (s : List ℕ) → Conforms s → fieldOf s 17 4 ≡ 5 → (i : ℕ) → i < usedOf (recordOf s)
     → let a = getD (recordOf s .slots) i noSlot in

@@ -49,7 +49,7 @@ within lo hi = among (lo to hi ∷ [])
 abbrev pub only : ℕ → Rule
 only v = within v v
 
--- ---- groups: "a code that speaks for hour and minute together must have both"
+-- ---- groups: "An arrival code that speaks for hour and minute together must have both"
 
 -- a field of a group: its bits, its normal range, and its code
 pub record Member : Type 0 where
