@@ -6,13 +6,12 @@ use mathlib.Core.List.{List, [], _∷_}
 use Prim.Native.Nat.{ℕ, _≤_}
 use native.Mathlib.Omega.{arith}
 use lib.Dec.{eqb, leb}
-use borrow.Author.Tests.{eqb-true, eq-eqb, eqb-false, leb-true, le-leb, ne-eqb}
+use borrow.Author.Tests.{eqb-true, eqb-false, leb-true, le-leb, ne-eqb}
 use Rattle.rows.specs.Kept.{AllNormal, In, Kept}
 use Rattle.rows.specs.Layout.{Row, _to_, row, within, codesOf}
-use Rattle.rows.proofs.Rules.Outcomes.{and-both, both-and}
+use Rattle.rows.proofs.Rules.Outcomes.{and-both}
 use Rattle.rows.proofs.Rules.Spans.{in-span, span-in, span-out}
 use Rattle.rows.proofs.Rules.Groups.{group-kept}
-use Rattle.tsunami.specs.declared.meaning.Arrival.{Arrival}
 use Rattle.tsunami.specs.declared.meaning.Arrival.the-variants.{At, Arrived, OutOfRange}
 use Rattle.tsunami.specs.declared.meaning.Height.the-variants.{Code, Unknown, OutOfRange as NoHeight}
 use Rattle.tsunami.specs.Meaning.{arrived, arrivalOf, heightOf}

@@ -13,7 +13,7 @@ use Rattle.rows.specs.declared.refusal.Verdict.{Verdict}
 use Rattle.rows.specs.declared.refusal.Refusal.the-variants.{Range}
 use Rattle.rows.specs.Runs.Questions.{_then_}
 use Rattle.rows.specs.Layout.{Member, Row, codesOf, group, grouped, ungrouped}
-use Rattle.rows.specs.Kept.{AllNormal, In, Kept, StartsWith}
+use Rattle.rows.specs.Kept.{AllNormal, Kept, StartsWith}
 use Rattle.rows.specs.Runs.Verdict.{allowed, judge, ranged, startsWith, walk}
 use Rattle.rows.proofs.Rules.Outcomes.{both-and, met-then, or-none, right-or}
 use Rattle.rows.proofs.Rules.Kinds.{starts-with, with-starts}

@@ -9,48 +9,45 @@ use Rattle.bits.specs.Frame.{fieldOf}
 use borrow.Author.Tests.{ne-eqb}
 use Rattle.rows.specs.Values.{sidesAt}
 use Rattle.slots.specs.Slots.{slotsOf}
+use Rattle.report.specs.declared.body.Content.{Content}
+use mathlib.Core.List.{List}
 use Prim.Native.Nat.{ℕ}
 use Rattle.report.proofs.body.Content.of.Tie as tie
+
+-- what the code that was read gives is what the frame has
+coded : (f : List ℕ) (code dc : ℕ) (x : Content) → code ≡ fieldOf f 17 4 → code ≡ dc → x ≡ contentAs f (bodyFrom (sidesAt f) dc)
+    → x ≡ contentAs f (bodyFrom (sidesAt f) (fieldOf f 17 4))
+coded f code dc x e m h = h ∙ ap (λ (n : ℕ). contentAs f (bodyFrom (sidesAt f) n)) (sym m ∙ e)
 
 returns : tie.Need-returns
 unfolding bodyFrom slotsOf
 returns c =
     let k = c .before .before .before .before in
-    let f = k .before .args .f in
-    let code : fieldOf f 17 4 ≡ 2 = sym (k .field8 .ensures .0) ∙ c .before .before .before .match .keys1 in
-    _∙_ {b = contentAs f (bodyFrom (sidesAt f) 2)} (simp (c .spares .ensures, c .before .none .ensures, c .before .before .of .ensures)) (ap (λ (dc : ℕ). contentAs f (bodyFrom (sidesAt f) dc)) (sym code))
+    coded (k .before .args .f) _ 2 _ (k .field8 .ensures .0) (c .before .before .before .match .keys1) (simp (c .spares .ensures, c .before .none .ensures, c .before .before .of .ensures))
 
 returns-2 : tie.Need-returns-2
 unfolding bodyFrom slotsOf
 returns-2 c =
     let k = c .before .before .before .before in
-    let f = k .before .args .f in
-    let code : fieldOf f 17 4 ≡ 3 = sym (k .field8 .ensures .0) ∙ c .before .before .before .match .keys2 in
-    _∙_ {b = contentAs f (bodyFrom (sidesAt f) 3)} (simp (c .spares2 .ensures, c .before .prefectures-of .ensures, c .before .before .of2 .ensures)) (ap (λ (dc : ℕ). contentAs f (bodyFrom (sidesAt f) dc)) (sym code))
+    coded (k .before .args .f) _ 3 _ (k .field8 .ensures .0) (c .before .before .before .match .keys2) (simp (c .spares2 .ensures, c .before .prefectures-of .ensures, c .before .before .of2 .ensures))
 
 returns-3 : tie.Need-returns-3
 unfolding bodyFrom slotsOf
 returns-3 c =
     let k = c .before .before .before .before .before in
-    let f = k .before .args .f in
-    let code : fieldOf f 17 4 ≡ 4 = sym (k .field8 .ensures .0) ∙ c .before .before .before .before .match .keys3 in
-    _∙_ {b = contentAs f (bodyFrom (sidesAt f) 4)} (simp (c .spares3 .ensures, c .before .page-text .ensures, c .before .before .none2 .ensures, c .before .before .before .of3 .ensures)) (ap (λ (dc : ℕ). contentAs f (bodyFrom (sidesAt f) dc)) (sym code))
+    coded (k .before .args .f) _ 4 _ (k .field8 .ensures .0) (c .before .before .before .before .match .keys3) (simp (c .spares3 .ensures, c .before .page-text .ensures, c .before .before .none2 .ensures, c .before .before .before .of3 .ensures))
 
 returns-4 : tie.Need-returns-4
 unfolding bodyFrom slotsOf
 returns-4 c =
     let k = c .before .before .before .before in
-    let f = k .before .args .f in
-    let code : fieldOf f 17 4 ≡ 5 = sym (k .field8 .ensures .0) ∙ c .before .before .before .match .keys4 in
-    _∙_ {b = contentAs f (bodyFrom (sidesAt f) 5)} (simp (c .spares4 .ensures, c .before .areas-of .ensures, c .before .before .of4 .ensures)) (ap (λ (dc : ℕ). contentAs f (bodyFrom (sidesAt f) dc)) (sym code))
+    coded (k .before .args .f) _ 5 _ (k .field8 .ensures .0) (c .before .before .before .match .keys4) (simp (c .spares4 .ensures, c .before .areas-of .ensures, c .before .before .of4 .ensures))
 
 returns-5 : tie.Need-returns-5
 unfolding bodyFrom slotsOf
 returns-5 c =
     let k = c .before .before .before .before in
-    let f = k .before .args .f in
-    let code : fieldOf f 17 4 ≡ 9 = sym (k .field8 .ensures .0) ∙ c .before .before .before .match .keys5 in
-    _∙_ {b = contentAs f (bodyFrom (sidesAt f) 9)} (simp (c .spares5 .ensures, c .before .places-of .ensures, c .before .before .of5 .ensures)) (ap (λ (dc : ℕ). contentAs f (bodyFrom (sidesAt f) dc)) (sym code))
+    coded (k .before .args .f) _ 9 _ (k .field8 .ensures .0) (c .before .before .before .match .keys5) (simp (c .spares5 .ensures, c .before .places-of .ensures, c .before .before .of5 .ensures))
 
 returns-6 : tie.Need-returns-6
 unfolding bodyFrom slotsOf
