@@ -63,8 +63,8 @@ extern "C" {
 #define LZ_REFUSED_MESSAGE 5          /* the message type is not 43 */
 #define LZ_REFUSED_VERSION 6          /* the version is not 1 */
 #define LZ_REFUSED_CATEGORY 7         /* the category is not 2, 3, 4, 5 or 9 */
-#define LZ_REFUSED_RANGE 8            /* a field is out of its range; place: its first bit */
-#define LZ_REFUSED_SPARE 9            /* a spare field is not zero; place: its first bit */
+#define LZ_REFUSED_RANGE 8            /* a field is out of its range, or a spare too wide; place: its first bit */
+/* 9 was given for a spare that is not zero. It does not occur any more, and is not used again. */
 #define LZ_REFUSED_GAP 10             /* a slot is used behind an empty one; place: its first bit */
 #define LZ_REFUSED_UNUSED 11          /* a record has something where its category has nothing */
 #define LZ_REFUSED_NO_PAGE 12         /* a record is not of category 4 */
@@ -98,9 +98,9 @@ extern "C" {
  *
  * What a category has beside slots and text stands in the order of the frame. A
  * field of at most 8 bits has 1 byte, of at most 16 bits 2, of at most 32 bits 4,
- * a longer one 8. Spare fields have their bytes too, but a record holds nothing
- * of them: they are zero, and anything else there is 11, as it is behind the last
- * field.
+ * a longer one 8. Spare fields have their bytes too: nobody knows yet what they
+ * say, so whatever their bits hold is read and written as it is. A spare that does
+ * not fit its bits is 8 at its first bit. What stands behind the last field is 11.
  */
 #define LZ_RECORD_CATEGORY 0
 #define LZ_RECORD_PREAMBLE 1
@@ -117,7 +117,7 @@ extern "C" {
  * Category 2. Depth 501 is deeper than 500 km, 511 unknown. Magnitude 126 is
  * above 8.0 without a moment magnitude, 127 unknown. Side 0 is north or east.
  *
- *    9   spare                     2 bytes: 0
+ *    9   first spare, at bit 43    2 bytes: 0-1023
  *   11   three notifications       2 bytes each: 0 (none), 101-500
  *   17   day, hour, minute         1-31, 0-23, 0-59: when the earthquake was
  *   20   depth in km               2 bytes: 0-501, 511
@@ -125,7 +125,7 @@ extern "C" {
  *   23   epicenter                 2 bytes: 11-1000
  *   25   latitude: side, degrees, minutes, seconds   0-1, 0-89, 0-59, 0-59
  *   29   longitude: the same                         0-1, 0-179, 0-59, 0-59
- *   33   spare                     8 bytes: 0
+ *   33   second spare, at bit 163  8 bytes: 51 bits
  */
 #define LZ_QUAKE_SPARE1 9
 #define LZ_QUAKE_NOTIFICATIONS 11
@@ -142,9 +142,9 @@ extern "C" {
 /*
  * Category 3.
  *
- *    9   spare                     2 bytes: 0
+ *    9   first spare, at bit 43    2 bytes: 0-1023
  *   11   day, hour, minute         as above: when the earthquake was
- *   14   spare                     0
+ *   14   second spare, at bit 213  0-1
  */
 #define LZ_INTENSITY_SPARE1 9
 #define LZ_INTENSITY_DAY 11
@@ -155,11 +155,11 @@ extern "C" {
 /*
  * Category 4.
  *
- *    9   spare                     2 bytes: 0
+ *    9   first spare, at bit 43    2 bytes: 0-1023
  *   11   Is                        1-15
  *   12   page number               1-63
  *   13   page total                from the number to 63
- *   14   spare                     0
+ *   14   second spare, at bit 213  0-1
  */
 #define LZ_NANKAI_SPARE1 9
 #define LZ_NANKAI_IS 11
@@ -168,9 +168,9 @@ extern "C" {
 #define LZ_NANKAI_SPARE2 14
 
 /*
- * Category 5. It has no spare behind its slots.
+ * Category 5. It has no second spare.
  *
- *    9   spare                     2 bytes: 0
+ *    9   first spare, at bit 43    2 bytes: 0-1023
  *   11   three notifications       2 bytes each: 0 (none), 101-500
  *   17   warning code              1-15
  */
@@ -181,11 +181,11 @@ extern "C" {
 /*
  * Category 9.
  *
- *    9   spare                     2 bytes: 0
+ *    9   first spare, at bit 43    2 bytes: 0-1023
  *   11   day, hour, minute         as above: of the volcanic activity
  *   14   warning type              1-2
  *   15   volcano                   2 bytes: 101-4000
- *   17   spare                     2 bytes: 0
+ *   17   second spare, at bit 199  2 bytes: 0-32767
  */
 #define LZ_ASH_SPARE1 9
 #define LZ_ASH_DAY 11
@@ -269,8 +269,8 @@ uint32_t lz_parity(const uint8_t *frame, size_t frame_length);
 
 /*
  * Reads a frame into a record, whose writing gives the same frame, and answers 0.
- * Refuses: 255 where record_length is not 251; 1, 2, 3, 4, 5, 6, 7; then 8, 9
- * and 10 by the lowest place.
+ * Refuses: 255 where record_length is not 251; 1, 2, 3, 4, 5, 6, 7; then 8 and
+ * 10 by the lowest place.
  */
 uint32_t lz_read(const uint8_t *frame, size_t frame_length,
                  uint8_t *record_bytes, size_t record_length);
@@ -284,7 +284,7 @@ uint32_t lz_write(const uint8_t *record_bytes, size_t record_length,
 
 /*
  * Reads a line, which is lent without its end of line, into a record as lz_read
- * reads a frame. Refuses: 255 where record_length is not 251; 17; 2 to 10.
+ * reads a frame. Refuses: 255 where record_length is not 251; 17; 2 to 8, 10.
  */
 uint32_t lz_read_line(const uint8_t *line, size_t line_length,
                       uint8_t *record_bytes, size_t record_length);
@@ -362,8 +362,9 @@ uint32_t lz_open(const uint8_t *name, size_t name_length,
 
 /*
  * Takes the page of a record into a store, and answers what became of it. Two
- * texts for a page make it disputed, and it stays so. Preamble and Reserved play
- * no part. Refuses: 14; what writing that record to 32 bytes refuses; 12, 13.
+ * texts for a page make it disputed, and it stays so. Preamble, Reserved and
+ * spares play no part. Refuses: 14; what writing that record to 32 bytes refuses;
+ * 12, 13.
  */
 #define LZ_TAKEN_NEW 1       /* it was absent and is held now */
 #define LZ_TAKEN_SAME 2      /* it was held with this text */

@@ -4,18 +4,22 @@
 use crate::lent::{from_to, only_read, to_from};
 use crate::packed::{packed, Bytes};
 use crate::reading::{bytes_of, frame_of};
+use crate::spares::note;
 use crate::writing::with_stray;
 use crate::{door, pattern, Count};
+use reference::fields;
 use reference::generate::{
-    any_bulletin, any_history, any_record, any_store, any_taking, bad_name, Bulletin,
+    any_bulletin, any_history, any_record, any_store, any_taking, bad_name, bulletin_page,
+    sent_again, too_wide, Bulletin,
 };
 use reference::player::{Answer, Player, Step, Stores, STORES};
 use reference::random::Random;
-use reference::record::Record;
+use reference::record::{Category, Record};
 use reference::samples;
 use reference::store::{Name, Store, StoreBytes, STORE_BYTES};
 
 const HISTORIES: usize = 200_000;
+const PAGES_SENT_AGAIN: usize = 50_000;
 const REFUSED_OPENINGS: usize = 50_000;
 const STRAY_RECORDS: usize = 50_000;
 const DELIVERIES: usize = 500;
@@ -62,6 +66,26 @@ pub fn any_histories(count: &mut Count) {
     }
 }
 
+/// A page, the same with another preamble, Reserved and spares, that one with
+/// each spare too wide, and once more.
+pub fn spares(count: &mut Count) {
+    let mut random = Random::new(77);
+    for _ in 0..PAGES_SENT_AGAIN {
+        let Bulletin { name, texts, .. } = any_bulletin(&mut random);
+        let page = bulletin_page(&mut random, &name, &texts);
+        let mut records = vec![page, sent_again(&mut random, &page)];
+        for (number, spare) in fields::spares(Category::Nankai).iter().enumerate() {
+            let mut wide = sent_again(&mut random, &page);
+            wide.spares[number] = too_wide(&mut random, spare.width);
+            records.push(wide);
+        }
+        records.push(sent_again(&mut random, &page));
+        let takings = records.into_iter().map(|record| Step::Take { store: 0, record });
+        let steps: Vec<Step> = [Step::Open { store: 0, name }].into_iter().chain(takings).collect();
+        agree(count, &steps);
+    }
+}
+
 fn agree(count: &mut Count, steps: &[Step]) {
     let mut ours = Doors([[0; STORE_BYTES]; STORES]);
     let mut theirs = Stores::default();
@@ -71,6 +95,9 @@ fn agree(count: &mut Count, steps: &[Step]) {
         let our_outcome = (ours.play(step), ours.bytes(store));
         let their_outcome = (theirs.play(step), theirs.bytes(store));
         count.same(&input, &our_outcome, &their_outcome);
+        if let Step::Take { record, .. } = step {
+            note(count, record, their_outcome.0.answer);
+        }
     }
 }
 

@@ -1,7 +1,8 @@
 //! Compares the proved functions with the reference on many inputs. It prints
-//! how many inputs each comparison had, and ends with an error at the first
-//! one on which the two differ. With the word `measure` it compares their
-//! speed instead, which is not part of the tests.
+//! how many inputs each comparison had, and how many of them were of a kind that
+//! is told apart, and ends with an error at the first one on which the two
+//! differ. With the word `measure` it compares their speed instead, which is not
+//! part of the tests.
 
 mod door;
 mod histories;
@@ -12,16 +13,19 @@ mod measure;
 mod packed;
 mod parity;
 mod reading;
+mod spares;
 mod store_lengths;
 mod writing;
 
 pub use reference::player::pattern;
+use std::collections::BTreeMap;
 use std::fmt::Debug;
 
 /// Counts agreements and stops at the first disagreement.
 #[derive(Default)]
 pub struct Count {
     agreed: usize,
+    noted: BTreeMap<&'static str, usize>,
 }
 
 impl Count {
@@ -34,12 +38,18 @@ impl Count {
         }
         self.agreed += 1;
     }
+
+    /// Counts an input of a kind that is told apart.
+    pub fn note(&mut self, kind: &'static str) {
+        *self.noted.entry(kind).or_default() += 1;
+    }
 }
 
 fn run(name: &str, compare: fn(&mut Count)) {
     let mut count = Count::default();
     compare(&mut count);
-    println!("{name}: the same on {} inputs", count.agreed);
+    let noted = count.noted.iter().map(|(kind, number)| format!(", {number} {kind}"));
+    println!("{name}: the same on {} inputs{}", count.agreed, noted.collect::<String>());
 }
 
 fn main() {
@@ -50,12 +60,15 @@ fn main() {
     run("reading, frames of all kinds", reading::any_frames);
     run("reading, fields at their bounds", reading::boundaries);
     run("reading, every arrival of every area", reading::arrivals);
+    run("reading, spares with all kinds of bits", reading::spares);
     run("reading, slices of 0 to 40 bytes", reading::slice_lengths);
     run("reading, buffers of other lengths", reading::buffer_lengths);
     run("reading, document 004", reading::document_004);
     run("writing, records of all kinds", writing::any_records);
     run("writing, fields at their bounds", writing::boundaries);
     run("writing, every arrival of every area", writing::arrivals);
+    run("writing, spares of all sizes", writing::spares);
+    run("writing, spares too wide among other faults", writing::wide_spares);
     run("writing, document 004", writing::document_004);
     run("writing, frames of other lengths", writing::frame_lengths);
     run("writing, record bytes of other lengths", writing::record_lengths);
@@ -76,6 +89,7 @@ fn main() {
     run("lines, written", lines::written);
     run("lines, written and read again", lines::there_and_back);
     run("stores, histories of all kinds", histories::any_histories);
+    run("stores, pages sent again with other spares", histories::spares);
     run("stores, refused openings", histories::refused_openings);
     run("stores, names and buffers of other lengths", store_lengths::openings);
     run("stores of other lengths", store_lengths::stores);

@@ -1,7 +1,7 @@
 //! The bytes of a record: what every record has, slots and text at their
 //! places, and what its category has by the rows of the category's table.
 
-use reference::fields::{fields, spares};
+use reference::fields::{fields, slot_layout, spares, Field};
 use reference::record::{Category, Record, Slot};
 use reference::write::placed;
 use std::ops::Range;
@@ -23,7 +23,11 @@ struct Row {
     bytes: Range<usize>,
 }
 
-/// What stands nowhere in the record is zero.
+/// What stands nowhere in the record is zero. A record of the reference may have
+/// spares for which there is no place: one that is wider than its bytes becomes
+/// the most that they hold, which is too wide as well; one that the category does
+/// not have goes behind its last row, where it has nothing either; and without a
+/// category none is kept.
 pub fn packed(record: &Record) -> Bytes {
     let mut bytes = [0; LENGTH];
     bytes[1] = record.preamble;
@@ -45,34 +49,37 @@ pub fn packed(record: &Record) -> Bytes {
     bytes
 }
 
-/// The bytes in front of the slots in which no field of a category stands:
-/// those of its spares, and those behind its last row. Without a category it
-/// is all of them.
+/// The bytes in which a category has nothing: those behind its last row, those of
+/// the slots it does not have, and the text unless it has one. Without a category
+/// it is all that categories have.
 pub fn unused(category: Option<Category>) -> Vec<usize> {
-    let rows = category.map_or(Vec::new(), rows);
-    let is_used = |place| rows.iter().any(|row| !row.spare && row.bytes.contains(&place));
-    (OWN..SLOTS).filter(|&place| !is_used(place)).collect()
+    let Some(category) = category else {
+        return (OWN..LENGTH).collect();
+    };
+    let other_slots = SLOTS + SLOT_LENGTH * slot_layout(category).count..TEXT;
+    let text_end = if category == Category::Nankai { TEXT } else { LENGTH };
+    (end_of_rows(category)..SLOTS).chain(other_slots).chain(TEXT..text_end).collect()
 }
 
 /// What a category has beside slots and text, from Spare1 on in the order of
 /// the frame, one behind the other.
 fn rows(category: Category) -> Vec<Row> {
-    let spares = spares(category);
-    let mut table = spares.clone();
-    let fields = fields(category).into_iter().filter(|field| field.first > spares[0].0);
-    table.extend(fields.map(|field| (field.first, field.width)));
-    table.sort_unstable();
+    let spares: Vec<usize> = spares(category).iter().map(|spare| spare.first).collect();
     let mut end = OWN;
-    let row = |(first, width)| {
+    let row = |Field { first, width, .. }| {
         let start = end;
         end += size(width);
-        Row { first, spare: spares.contains(&(first, width)), bytes: start..end }
+        Row { first, spare: spares.contains(&first), bytes: start..end }
     };
-    table.into_iter().map(row).collect()
+    fields(category).into_iter().filter(|field| field.first >= spares[0]).map(row).collect()
+}
+
+fn end_of_rows(category: Category) -> usize {
+    rows(category).last().map_or(OWN, |row| row.bytes.end)
 }
 
 /// How many bytes a field of so many bits takes.
-fn size(width: usize) -> usize {
+pub fn size(width: usize) -> usize {
     match width {
         0..=8 => 1,
         9..=16 => 2,
@@ -81,15 +88,17 @@ fn size(width: usize) -> usize {
     }
 }
 
-/// A record does not hold what stands in spares.
 fn put_own(bytes: &mut Bytes, record: &Record, category: Category) {
     let numbers = placed(record, category);
-    for row in rows(category).iter().filter(|row| !row.spare) {
+    for row in rows(category) {
         let number = numbers.iter().find(|number| number.first == row.first);
-        let value = number.expect("every field of the category is placed").value.to_be_bytes();
-        let (above, low) = value.split_at(value.len() - row.bytes.len());
-        assert!(above.iter().all(|&byte| byte == 0), "a number is wider than its bytes");
-        put(bytes, row.bytes.start, low);
+        let value = number.expect("every field of the category is placed").value;
+        let most = u64::MAX >> (64 - 8 * row.bytes.len());
+        assert!(row.spare || value <= most, "a number is wider than its bytes");
+        put(bytes, row.bytes.start, &value.min(most).to_be_bytes()[8 - row.bytes.len()..]);
+    }
+    for lacking in &record.spares[spares(category).len()..] {
+        put(bytes, end_of_rows(category), &lacking.to_be_bytes());
     }
 }
 

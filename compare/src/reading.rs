@@ -4,9 +4,10 @@
 use crate::lent::{from_to, refused, Outcome};
 use crate::meanings::agree_on_slots;
 use crate::packed::{packed, Bytes, LENGTH, SLOTS, SLOT_LENGTH, TEXT};
+use crate::spares::{note, numbers};
 use crate::{door, pattern, Count};
 use reference::bits::Frame;
-use reference::fields::slot_layout;
+use reference::fields::{self, slot_layout, Field};
 use reference::generate::{
     any_frame, boundary_frames, frame_with_slots, raw_frame, slices, valid_frame, RawValue,
 };
@@ -57,6 +58,20 @@ pub fn arrivals(count: &mut Count) {
             let first = layout.slot_first(area);
             let arrival = RawValue { first, width: ARRIVAL_BITS, value };
             agree(count, &raw_frame(&base, &[arrival]));
+        }
+    }
+}
+
+/// Each spare of each category with numbers of all kinds, and whatever the other
+/// one holds.
+pub fn spares(count: &mut Count) {
+    let mut random = Random::new(48);
+    for category in Category::ALL {
+        for Field { first, width, .. } in fields::spares(category) {
+            for value in numbers(&mut random, width) {
+                let base = valid_frame(&mut random, category);
+                agree(count, &raw_frame(&base, &[RawValue { first, width, value }]));
+            }
         }
     }
 }
@@ -124,6 +139,7 @@ pub fn agree_on_record(
         Ok(record) => {
             count.same(input, &ours, &([0; 4], packed(&record).to_vec()));
             agree_on_slots(count, &ours.1, &record);
+            note(count, &record, [0; 4]);
         }
         Err(refusal) => count.same(input, &ours, &(refusal.answer(), pattern(LENGTH))),
     }

@@ -3,9 +3,13 @@
 
 use crate::lent::{from_to, resized, Outcome};
 use crate::meanings::agree_on_slots;
-use crate::packed::{packed, unused, Bytes, LENGTH};
+use crate::packed::{packed, size, unused, Bytes, LENGTH};
+use crate::spares::{note, numbers};
 use crate::{door, lent, pattern, Count};
-use reference::generate::{any_record, boundary_records, slot_count, valid_record, valid_slot};
+use reference::fields;
+use reference::generate::{
+    any_record, boundary_records, slot_count, too_wide, valid_record, valid_slot,
+};
 use reference::random::Random;
 use reference::record::{Category, Record};
 use reference::samples;
@@ -13,6 +17,7 @@ use reference::write::write;
 
 const ANY_RECORDS: usize = 1_000_000;
 const STRAY_RECORDS: usize = 200_000;
+const WIDE_RECORDS: usize = 200_000;
 const FRAME_LENGTH: usize = 32;
 
 /// Records of every kind that the reference builds, right ones and wrong ones.
@@ -39,6 +44,37 @@ pub fn arrivals(count: &mut Count) {
             let mut record = valid_record(&mut random, Category::Tsunami);
             record.slots[..=area].fill(valid_slot(&mut random, Category::Tsunami));
             (record.slots[area].hour, record.slots[area].minute) = (hour, minute);
+            agree(count, &record, FRAME_LENGTH);
+        }
+    }
+}
+
+/// Each spare of each category with numbers of all kinds that its bytes hold,
+/// most of which do not fit its bits.
+pub fn spares(count: &mut Count) {
+    let mut random = Random::new(61);
+    for category in Category::ALL {
+        for (number, spare) in fields::spares(category).iter().enumerate() {
+            for value in numbers(&mut random, 8 * size(spare.width)) {
+                let mut record = valid_record(&mut random, category);
+                record.spares[number] = value;
+                agree(count, &record, FRAME_LENGTH);
+            }
+        }
+    }
+}
+
+/// A spare too wide beside every field at its bounds and outside, and in records
+/// of every kind.
+pub fn wide_spares(count: &mut Count) {
+    let mut random = Random::new(62);
+    let mut records = all_boundary_records();
+    records.extend((0..WIDE_RECORDS).map(|_| any_record(&mut random)));
+    for record in records {
+        let own = record.body.category().map_or(Vec::new(), fields::spares);
+        for (number, spare) in own.iter().enumerate() {
+            let mut record = record;
+            record.spares[number] = too_wide(&mut random, spare.width);
             agree(count, &record, FRAME_LENGTH);
         }
     }
@@ -81,8 +117,7 @@ pub fn record_lengths(count: &mut Count) {
     }
 }
 
-/// Every bit of a category's spares and behind its last field, set in a valid
-/// record: that is 11.
+/// Every bit where a category has nothing, set in a valid record: that is 11.
 pub fn stray_bits(count: &mut Count) {
     let mut random = Random::new(56);
     for category in Category::ALL {
@@ -144,6 +179,7 @@ fn back(count: &mut Count, record: &Record) {
     if answer == [0; 4] {
         let read = from_to(door::read, &frame, &pattern(LENGTH));
         count.same(&bytes, &read, &([0; 4], bytes.to_vec()));
+        note(count, record, answer);
     }
 }
 
@@ -154,8 +190,10 @@ fn all_boundary_records() -> Vec<Record> {
 
 fn agree(count: &mut Count, record: &Record, length: usize) {
     let bytes = packed(record);
-    count.same(&bytes, &outcome(&bytes, length), &expected(record, length));
+    let expected = expected(record, length);
+    count.same(&bytes, &outcome(&bytes, length), &expected);
     agree_on_slots(count, &bytes, record);
+    note(count, record, expected.0);
 }
 
 /// What the proved writer does.
@@ -178,7 +216,7 @@ fn refused(number: u8, length: usize) -> Outcome {
 }
 
 /// The bytes of a record with something in one place or more where its
-/// category has no field.
+/// category has nothing.
 pub fn with_stray(random: &mut Random, record: &Record) -> Bytes {
     let mut bytes = packed(record);
     let places = unused(record.body.category());

@@ -5,6 +5,7 @@
 #include "check.h"
 #include "lavendelzug.h"
 #include "samples.h"
+#include "spare_samples.h"
 
 #include <string.h>
 
@@ -39,14 +40,29 @@ static void refused_is(int line, const char *name, into_store call, uint32_t exp
     refused_is(__LINE__, "lz_merge", lz_merge, (expected), BYTES(store, LZ_STORE_BYTES), \
                BYTES(other, LZ_STORE_BYTES))
 
+/* A spare of another category than 4 plays a part only where it is too wide. */
+static void check_no_page_with_spares(const uint8_t *store, const struct spared *sample)
+{
+    struct report report;
+    for (unsigned k = 0; k < sample->count; k++) {
+        const struct spare *spare = &sample->spares[k];
+        report_with_spares(&report, sample);
+        TAKING_IS(refused(LZ_REFUSED_NO_PAGE), store, report.record);
+        put_bytes(report.record + spare->at, spare->bytes, highest_of(spare) + 1);
+        TAKING_IS(refused_at(LZ_REFUSED_RANGE, spare->first), store, report.record);
+    }
+}
+
 /* Every category but 4 is 12, behind what writing refuses of its record. */
 static void check_no_page_taken(const uint8_t *store)
 {
-    static const sample_record samples[] = {hypocenter_record, intensity_record, tsunami_record,
-                                            ash_fall_record};
     uint8_t record[LZ_RECORD_BYTES];
-    for (size_t i = 0; i < sizeof samples / sizeof samples[0]; i++) {
-        samples[i](record);
+    for (unsigned i = 0; i < CATEGORIES; i++) {
+        if (i == NANKAI) {
+            continue;
+        }
+        check_no_page_with_spares(store, &spared[i]);
+        spared[i].record(record);
         TAKING_IS(refused(LZ_REFUSED_NO_PAGE), store, record);
         record[LZ_RECORD_RC] = 0;
         TAKING_IS(refused_at(LZ_REFUSED_RANGE, 14), store, record);
@@ -59,22 +75,56 @@ static void check_no_page_taken(const uint8_t *store)
     TAKING_IS(refused(LZ_REFUSED_NO_PAGE), store, record);
 }
 
+/* A byte of a page whose spare then is too wide. */
+struct wide {
+    unsigned at;
+    uint8_t value;
+    unsigned place;
+};
+
+static const struct wide wide[] = {
+    {LZ_NANKAI_SPARE1, 4, 43},
+    {LZ_NANKAI_SPARE1, 0xFF, 43},
+    {LZ_NANKAI_SPARE2, 2, 213},
+    {LZ_NANKAI_SPARE2, 0xFF, 213},
+};
+
+/* Of this bulletin, with either text, or of another one: 8. With a byte behind the fields: 11. */
+static void check_wide_page_taken(const uint8_t *store)
+{
+    uint8_t record[LZ_RECORD_BYTES];
+    for (size_t i = 0; i < COUNT(wide); i++) {
+        uint32_t expected = refused_at(LZ_REFUSED_RANGE, wide[i].place);
+        page_record(record, 2, page_texts[1]);
+        record[wide[i].at] = wide[i].value;
+        TAKING_IS(expected, store, record);
+        memcpy(record + LZ_RECORD_TEXT, other_text, LZ_PAGE_TEXT_BYTES);
+        TAKING_IS(expected, store, record);
+        record[LZ_RECORD_MINUTE] = 44;
+        TAKING_IS(expected, store, record);
+        record[LZ_NANKAI_SPARE2 + 1] = 1;
+        TAKING_IS(refused(LZ_REFUSED_UNUSED), store, record);
+    }
+}
+
 /* 14, what writing refuses, 12, 13. */
 void check_taking_refused(void)
 {
     const uint8_t zeros[LZ_STORE_BYTES] = {0};
     uint8_t store[LZ_STORE_BYTES];
     uint8_t record[LZ_RECORD_BYTES] = {0};
+    open_store(store);
+    check_wide_page_taken(store);
     open_full_store(store);
+    check_wide_page_taken(store);
     TAKING_IS(refused(LZ_REFUSED_UNSOUND), zeros, record);
     TAKING_IS(refused(LZ_REFUSED_PREAMBLE), store, record);
     record[LZ_RECORD_PREAMBLE] = 0x53;
     TAKING_IS(refused(LZ_REFUSED_CATEGORY), store, record);
     check_no_page_taken(store);
-    for (unsigned i = 0; i < 4; i++) {
-        /* both spares, and the first and the last byte behind them */
-        static const unsigned unused[4] = {LZ_NANKAI_SPARE1, LZ_NANKAI_SPARE2,
-                                           LZ_NANKAI_SPARE2 + 1, LZ_RECORD_SLOT(0) - 1};
+    for (unsigned i = 0; i < 2; i++) {
+        /* the first and the last byte behind the fields */
+        static const unsigned unused[2] = {LZ_NANKAI_SPARE2 + 1, LZ_RECORD_SLOT(0) - 1};
         page_record(record, 1, page_texts[0]);
         record[unused[i]] = 1;
         TAKING_IS(refused(LZ_REFUSED_UNUSED), store, record);
@@ -136,6 +186,8 @@ static void unsound_in_each_call(int line, struct bytes store)
     refused_is(line, "lz_take", lz_take, unsound, store, BYTES(page, sizeof page));
     refused_is(line, "lz_take", lz_take, unsound, store, BYTES(page, sizeof page - 1));
     refused_is(line, "lz_take", lz_take, unsound, store, BYTES(zeros, sizeof zeros));
+    page[LZ_NANKAI_SPARE2] = 2;
+    refused_is(line, "lz_take", lz_take, unsound, store, BYTES(page, sizeof page));
     refused_is(line, "lz_merge", lz_merge, unsound, store, sound);
     refused_is(line, "lz_merge", lz_merge, unsound, sound, store);
     full[LZ_NAME_MINUTE]++;

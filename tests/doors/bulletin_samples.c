@@ -52,12 +52,3 @@ uint32_t take_page(uint8_t *store, uint8_t page, const uint8_t *text)
     page_record(record, page, text);
     return lz_take(store, LZ_STORE_BYTES, record, sizeof record);
 }
-
-uint32_t take_page_from_elsewhere(uint8_t *store, uint8_t page, const uint8_t *text)
-{
-    uint8_t record[LZ_RECORD_BYTES];
-    page_record(record, page, text);
-    record[LZ_RECORD_PREAMBLE] = 0xC6;
-    record[LZ_RECORD_RESERVED] = 63;
-    return lz_take(store, LZ_STORE_BYTES, record, sizeof record);
-}

@@ -21,7 +21,4 @@ void open_full_store(uint8_t *store);
 /* What lz_take answers. */
 uint32_t take_page(uint8_t *store, uint8_t page, const uint8_t *text);
 
-/* The same page from another satellite: preamble and Reserved differ. */
-uint32_t take_page_from_elsewhere(uint8_t *store, uint8_t page, const uint8_t *text);
-
 #endif

@@ -71,7 +71,6 @@ void check_taking(void)
     memcpy(expected + LZ_STORE_PAGE(1) + LZ_PAGE_TEXT, page_texts[0], LZ_PAGE_TEXT_BYTES);
     SAME_BYTES(expected, store, LZ_STORE_BYTES);
     SAME_WORD(LZ_TAKEN_SAME, take_page(store, 1, page_texts[0]));
-    SAME_WORD(LZ_TAKEN_SAME, take_page_from_elsewhere(store, 1, page_texts[0]));
     SAME_BYTES(expected, store, LZ_STORE_BYTES);
 
     SAME_WORD(LZ_TAKEN_NEW, take_page(store, 2, page_texts[1]));
@@ -86,6 +85,64 @@ void check_taking(void)
     SAME_WORD(LZ_TAKEN_DISPUTED, take_page(store, 1, other_text));
     SAME_COUNTS(store, 0, 2, 1);
     TEXT_REFUSED(refused_page(LZ_REFUSED_NOT_HELD, 1, LZ_MARK_DISPUTED), store, LZ_TEXT_MOST);
+}
+
+/* A byte of a record that plays no part in a page, and another value for it. */
+struct difference {
+    unsigned at;
+    uint8_t value;
+};
+
+/* From another satellite, or with spare bits set, up to all of them. */
+static const struct difference differences[] = {
+    {LZ_RECORD_PREAMBLE, 0xC6},
+    {LZ_RECORD_RESERVED, 63},
+    {LZ_NANKAI_SPARE1, 3},
+    {LZ_NANKAI_SPARE1 + 1, 0xFF},
+    {LZ_NANKAI_SPARE2, 1},
+};
+
+/* Page 1 with no difference, with each alone, and with all at once. */
+#define VARIANTS (COUNT(differences) + 2)
+
+static uint32_t take_variant(uint8_t *store, size_t variant, const uint8_t *text)
+{
+    uint8_t record[LZ_RECORD_BYTES];
+    page_record(record, 1, text);
+    for (size_t i = 0; i < COUNT(differences); i++) {
+        if (variant == i + 1 || variant == VARIANTS - 1) {
+            record[differences[i].at] = differences[i].value;
+        }
+    }
+    return lz_take(store, LZ_STORE_BYTES, record, sizeof record);
+}
+
+/* The store is as if plain pages had come, whether the text is the same or another. */
+static void check_variants(size_t one, size_t other)
+{
+    uint8_t plain[LZ_STORE_BYTES], store[LZ_STORE_BYTES];
+    open_store(plain);
+    SAME_WORD(LZ_TAKEN_NEW, take_page(plain, 1, page_texts[0]));
+    open_store(store);
+    SAME_WORD(LZ_TAKEN_NEW, take_variant(store, one, page_texts[0]));
+    SAME_BYTES(plain, store, LZ_STORE_BYTES);
+    SAME_WORD(LZ_TAKEN_SAME, take_variant(store, other, page_texts[0]));
+    SAME_BYTES(plain, store, LZ_STORE_BYTES);
+
+    SAME_WORD(LZ_TAKEN_DISPUTED, take_page(plain, 1, other_text));
+    SAME_WORD(LZ_TAKEN_DISPUTED, take_variant(store, other, other_text));
+    SAME_BYTES(plain, store, LZ_STORE_BYTES);
+    SAME_WORD(LZ_TAKEN_DISPUTED, take_variant(store, one, page_texts[0]));
+    SAME_BYTES(plain, store, LZ_STORE_BYTES);
+}
+
+void check_same_page(void)
+{
+    for (size_t one = 0; one < VARIANTS; one++) {
+        for (size_t other = 0; other < VARIANTS; other++) {
+            check_variants(one, other);
+        }
+    }
 }
 
 /* Document 01 warns of "a bulletin called complete because as many frames came as it has pages". */

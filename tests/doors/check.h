@@ -8,6 +8,9 @@
 #include <stddef.h>
 #include <stdint.h>
 
+/* How many rows a table has. */
+#define COUNT(table) (sizeof(table) / sizeof(table)[0])
+
 #define SAME_WORD(expected, got) \
     same_word(__FILE__, __LINE__, #got, (expected), (got))
 

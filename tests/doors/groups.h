@@ -18,11 +18,18 @@ void check_areas(void);
 void check_warnings(void);
 void check_wide_tsunami_records(void);
 
+/* spares.c */
+void check_spares_kept(void);
+void check_beside_spares(void);
+void check_wide_spares(void);
+
 /* refusals.c */
 void check_reading_refused(void);
-void check_writing_refused(void);
 void check_lines_refused(void);
 void check_records_lent_for_reading(void);
+
+/* writing_refusals.c */
+void check_writing_refused(void);
 void check_records_lent_for_writing(void);
 
 /* meanings.c */
@@ -36,6 +43,7 @@ void check_slots_used(void);
 /* bulletins.c */
 void check_opening(void);
 void check_taking(void);
+void check_same_page(void);
 void check_as_many_frames_as_pages(void);
 void check_text(void);
 void check_live_store_kept(void);

@@ -4,6 +4,7 @@
 #include "check.h"
 #include "lavendelzug.h"
 #include "samples.h"
+#include "spare_samples.h"
 
 #include <string.h>
 
@@ -104,12 +105,32 @@ static void check_slots_up_to_a_gap(void)
     SLOTS_USED_ARE(16, record, LZ_RECORD_BYTES);
     memset(record + LZ_RECORD_SLOT(15), 0, LZ_SLOT_BYTES);
     SLOTS_USED_ARE(15, record, LZ_RECORD_BYTES);
-    record[LZ_INTENSITY_SPARE2] = 1;
+    record[LZ_INTENSITY_SPARE2 + 1] = 1;
     SLOTS_USED_ARE(16, record, LZ_RECORD_BYTES);
     memset(record + LZ_RECORD_SLOT(2), 0, LZ_SLOT_BYTES);
     SLOTS_USED_ARE(2, record, LZ_RECORD_BYTES);
     memset(record + LZ_RECORD_SLOT(0), 0, LZ_SLOT_BYTES);
     SLOTS_USED_ARE(0, record, LZ_RECORD_BYTES);
+}
+
+/* Whatever the spares hold, only a slot uses a slot: here up to the fifteenth, of any category. */
+static void check_spares_use_no_slot(void)
+{
+    uint8_t record[LZ_RECORD_BYTES];
+    for (unsigned i = 0; i < CATEGORIES; i++) {
+        spared[i].record(record);
+        for (unsigned slot = 0; slot < LZ_SLOTS - 1; slot++) {
+            record[LZ_RECORD_SLOT(slot)] = 1;
+        }
+        SLOTS_USED_ARE(15, record, LZ_RECORD_BYTES);
+        for (unsigned k = 0; k < spared[i].count; k++) {
+            const struct spare *spare = &spared[i].spares[k];
+            put_bytes(record + spare->at, spare->bytes, highest_of(spare));
+            SLOTS_USED_ARE(15, record, LZ_RECORD_BYTES);
+            put_bytes(record + spare->at, spare->bytes, UINT64_MAX);
+            SLOTS_USED_ARE(15, record, LZ_RECORD_BYTES);
+        }
+    }
 }
 
 /* Areas of a tsunami report, which has five: the day alone makes a slot used. */
@@ -142,5 +163,6 @@ void check_slots_used(void)
         SLOTS_USED_ARE(0, record, other_record_lengths[i]);
     }
     check_slots_up_to_a_gap();
+    check_spares_use_no_slot();
     check_areas_used();
 }

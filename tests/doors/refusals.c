@@ -1,10 +1,11 @@
-/* Refused frames, records and lines: each number in its turn, and the buffer as it was. */
+/* Refused frames and lines: each number in its turn, and the buffer as it was. */
 #include "groups.h"
 
 #include "check.h"
 #include "frame_calls.h"
 #include "lavendelzug.h"
 #include "samples.h"
+#include "spare_samples.h"
 
 #include <string.h>
 
@@ -15,26 +16,43 @@ struct fault {
     unsigned number, place;
 };
 
+/* What comes before the fields of a category, and an Rc that it may not have. */
+#define FIRST_FAULTS(category, rc) \
+    {8, 6, 44, 43, LZ_REFUSED_MESSAGE, 0}, {214, 6, 2, 1, LZ_REFUSED_VERSION, 0}, \
+        {17, 4, 6, (category), LZ_REFUSED_CATEGORY, 0}, {14, 3, (rc), 7, LZ_REFUSED_RANGE, 14}
+
 /* In the order in which they are refused. */
 static const struct fault hypocenter_faults[] = {
-    {8, 6, 44, 43, LZ_REFUSED_MESSAGE, 0},
-    {214, 6, 2, 1, LZ_REFUSED_VERSION, 0},
-    {17, 4, 6, 2, LZ_REFUSED_CATEGORY, 0},
-    {14, 3, 1, 7, LZ_REFUSED_RANGE, 14},
-    {43, 10, 1, 0, LZ_REFUSED_SPARE, 43},
+    FIRST_FAULTS(2, 1),
+    {41, 2, 1, 0, LZ_REFUSED_RANGE, 41},
+    {53, 9, 100, 226, LZ_REFUSED_RANGE, 53},
     {96, 9, 502, 40, LZ_REFUSED_RANGE, 96},
     {105, 7, 0, 64, LZ_REFUSED_RANGE, 105},
-    {213, 1, 1, 0, LZ_REFUSED_SPARE, 163},
+    {157, 6, 60, 0, LZ_REFUSED_RANGE, 157},
+};
+
+/* Nine slots of sixteen are used. */
+static const struct fault intensity_faults[] = {
+    FIRST_FAULTS(3, 1),
+    {41, 2, 1, 0, LZ_REFUSED_RANGE, 41},
+    {53, 5, 0, 11, LZ_REFUSED_RANGE, 53},
+    {69, 3, 0, 4, LZ_REFUSED_RANGE, 69},
+    {72, 6, 48, 44, LZ_REFUSED_RANGE, 72},
+    {204, 9, 300, 0, LZ_REFUSED_GAP, 204},
+};
+
+static const struct fault nankai_faults[] = {
+    FIRST_FAULTS(4, 1),
+    {41, 2, 1, 0, LZ_REFUSED_RANGE, 41},
+    {53, 4, 0, 5, LZ_REFUSED_RANGE, 53},
+    {201, 6, 0, 1, LZ_REFUSED_RANGE, 201},
+    {207, 6, 0, 27, LZ_REFUSED_RANGE, 207},
 };
 
 /* Hour 24 stands with minute 63, since 31 would pass there. An empty second area makes a gap. */
 static const struct fault tsunami_faults[] = {
-    {8, 6, 44, 43, LZ_REFUSED_MESSAGE, 0},
-    {214, 6, 2, 1, LZ_REFUSED_VERSION, 0},
-    {17, 4, 6, 5, LZ_REFUSED_CATEGORY, 0},
-    {14, 3, 2, 7, LZ_REFUSED_RANGE, 14},
+    FIRST_FAULTS(5, 2),
     {41, 2, 1, 0, LZ_REFUSED_RANGE, 41},
-    {43, 10, 1, 0, LZ_REFUSED_SPARE, 43},
     {53, 9, 100, 122, LZ_REFUSED_RANGE, 53},
     {71, 9, 501, 124, LZ_REFUSED_RANGE, 71},
     {80, 4, 0, 3, LZ_REFUSED_RANGE, 80},
@@ -47,16 +65,39 @@ static const struct fault tsunami_faults[] = {
     {188, 1, 1, 0, LZ_REFUSED_GAP, 188},
 };
 
-#define COUNT(table) (sizeof(table) / sizeof(table)[0])
+/* An empty third place makes a gap, behind which the fourth is half filled. */
+static const struct fault ash_fall_faults[] = {
+    FIRST_FAULTS(9, 1),
+    {41, 2, 3, 0, LZ_REFUSED_RANGE, 41},
+    {53, 5, 0, 11, LZ_REFUSED_RANGE, 53},
+    {71, 12, 100, 503, LZ_REFUSED_RANGE, 71},
+    {83, 3, 0, 1, LZ_REFUSED_RANGE, 83},
+    {141, 29, 0, 0x4C24604, LZ_REFUSED_GAP, 170},
+    {173, 3, 1, 0, LZ_REFUSED_RANGE, 170},
+};
+
+struct order {
+    const struct fault *faults;
+    size_t count;
+};
+
+#define ORDER(faults) {(faults), COUNT(faults)}
+
+static const struct order orders[CATEGORIES] = {
+    [HYPOCENTER] = ORDER(hypocenter_faults),
+    [INTENSITY] = ORDER(intensity_faults),
+    [NANKAI] = ORDER(nankai_faults),
+    [TSUNAMI] = ORDER(tsunami_faults),
+    [ASH_FALL] = ORDER(ash_fall_faults),
+};
 
 /* A frame with every fault, of which the first is mended after it was refused. */
-static void check_order_of_reading(const char *line, const struct fault *faults, size_t count)
+static void check_order_of_reading(const struct report *good, const struct order *order)
 {
     uint8_t frame[LZ_FRAME_BYTES + 1] = {0};
-    uint8_t record[LZ_RECORD_BYTES] = {0};
-    frame_of(line, frame);
-    for (size_t i = 0; i < count; i++) {
-        put(frame, faults[i].first, faults[i].width, faults[i].wrong);
+    memcpy(frame, good->frame, LZ_FRAME_BYTES);
+    for (size_t i = 0; i < order->count; i++) {
+        put(frame, order->faults[i].first, order->faults[i].width, order->faults[i].wrong);
     }
     put(frame, 0, 8, 0x54);
     put(frame, 250, 6, 1);
@@ -68,21 +109,27 @@ static void check_order_of_reading(const char *line, const struct fault *faults,
     READING_IS(refused(LZ_REFUSED_PREAMBLE), frame, LZ_FRAME_BYTES);
     put(frame, 0, 8, 0x53);
     READING_IS(refused(LZ_REFUSED_PARITY), frame, LZ_FRAME_BYTES);
-    for (size_t i = 0; i < count; i++) {
+    for (size_t i = 0; i < order->count; i++) {
+        const struct fault *fault = &order->faults[i];
         put_parity(frame);
-        READING_IS(refused_at(faults[i].number, faults[i].place), frame, LZ_FRAME_BYTES);
-        put(frame, faults[i].first, faults[i].width, faults[i].right);
+        READING_IS(refused_at(fault->number, fault->place), frame, LZ_FRAME_BYTES);
+        put(frame, fault->first, fault->width, fault->right);
     }
     put_parity(frame);
-    SAME_WORD(LZ_FINE, lz_read(frame, LZ_FRAME_BYTES, record, sizeof record));
+    EACH_FROM_THE_OTHER(frame, good->record);
 }
 
-/* The intensity report uses nine slots of sixteen. */
+/* With spares that are zero, and with all their bits set. Then the tenth slot and the eleventh. */
 void check_reading_refused(void)
 {
     uint8_t frame[LZ_FRAME_BYTES];
-    check_order_of_reading(hypocenter_line, hypocenter_faults, COUNT(hypocenter_faults));
-    check_order_of_reading(tsunami_line, tsunami_faults, COUNT(tsunami_faults));
+    for (unsigned i = 0; i < CATEGORIES; i++) {
+        struct report report;
+        report_of(&report, spared[i].line, spared[i].record);
+        check_order_of_reading(&report, &orders[i]);
+        report_with_spares(&report, &spared[i]);
+        check_order_of_reading(&report, &orders[i]);
+    }
     frame_of(intensity_line, frame);
     put(frame, 69 + 9 * 10, 9, 300);
     put_parity(frame);
@@ -90,132 +137,6 @@ void check_reading_refused(void)
     put(frame, 69 + 9 * 9, 3, 3);
     put_parity(frame);
     READING_IS(refused_at(LZ_REFUSED_RANGE, 153), frame, LZ_FRAME_BYTES);
-}
-
-/* A byte of a sample's record, as above. */
-struct record_fault {
-    unsigned at;
-    uint8_t wrong, right;
-    unsigned number, place;
-};
-
-static const struct record_fault hypocenter_record_faults[] = {
-    {LZ_RECORD_PREAMBLE, 0x54, 0x53, LZ_REFUSED_PREAMBLE, 0},
-    {LZ_RECORD_CATEGORY, 6, 2, LZ_REFUSED_CATEGORY, 0},
-    {LZ_RECORD_TEXT + 17, 1, 0, LZ_REFUSED_UNUSED, 0},
-    {LZ_RECORD_SLOT(15) + LZ_SLOT_PLACE, 1, 0, LZ_REFUSED_UNUSED, 0},
-    {LZ_RECORD_SLOT(0) + LZ_SLOT_DAY, 1, 0, LZ_REFUSED_UNUSED, 0},
-    {LZ_QUAKE_SPARE2, 1, 0, LZ_REFUSED_UNUSED, 0},
-    {LZ_QUAKE_SPARE1, 1, 0, LZ_REFUSED_UNUSED, 0},
-    {LZ_RECORD_RC, 1, 7, LZ_REFUSED_RANGE, 14},
-    {LZ_RECORD_IT, 1, 0, LZ_REFUSED_RANGE, 41},
-    {LZ_QUAKE_MAGNITUDE, 102, 64, LZ_REFUSED_RANGE, 105},
-    {LZ_QUAKE_LONGITUDE + 1, 180, 132, LZ_REFUSED_RANGE, 143},
-    {LZ_RECORD_RESERVED, 64, 0, LZ_REFUSED_RANGE, 220},
-};
-
-static const struct record_fault tsunami_record_faults[] = {
-    {LZ_RECORD_PREAMBLE, 0x54, 0x53, LZ_REFUSED_PREAMBLE, 0},
-    {LZ_RECORD_CATEGORY, 6, 5, LZ_REFUSED_CATEGORY, 0},
-    {LZ_RECORD_TEXT, 1, 0, LZ_REFUSED_UNUSED, 0},
-    {LZ_RECORD_SLOT(15) + LZ_SLOT_HOUR, 1, 0, LZ_REFUSED_UNUSED, 0},
-    {LZ_RECORD_SLOT(5) + LZ_SLOT_DAY, 1, 0, LZ_REFUSED_UNUSED, 0},
-    {LZ_TSUNAMI_WARNING + 1, 1, 0, LZ_REFUSED_UNUSED, 0},
-    {LZ_TSUNAMI_SPARE1 + 1, 1, 0, LZ_REFUSED_UNUSED, 0},
-    {LZ_RECORD_RC, 2, 7, LZ_REFUSED_RANGE, 14},
-    {LZ_RECORD_IT, 1, 0, LZ_REFUSED_RANGE, 41},
-    {LZ_TSUNAMI_WARNING, 16, 3, LZ_REFUSED_RANGE, 80},
-    {LZ_RECORD_SLOT(0) + LZ_SLOT_DAY, 2, 0, LZ_REFUSED_RANGE, 84},
-    {LZ_RECORD_SLOT(0) + LZ_SLOT_HOUR, 24, 4, LZ_REFUSED_RANGE, 85},
-    {LZ_RECORD_SLOT(0) + LZ_SLOT_MINUTE, 63, 5, LZ_REFUSED_RANGE, 90},
-    {LZ_RECORD_SLOT(0) + LZ_SLOT_STRENGTH, 0, 3, LZ_REFUSED_RANGE, 96},
-    {LZ_RECORD_SLOT(2) + LZ_SLOT_HOUR, 31, 4, LZ_REFUSED_RANGE, 137},
-    {LZ_RECORD_SLOT(4) + LZ_SLOT_DAY, 1, 0, LZ_REFUSED_GAP, 188},
-    {LZ_RECORD_RESERVED, 64, 0, LZ_REFUSED_RANGE, 220},
-};
-
-static void check_order_of_writing(sample_record sample, const struct record_fault *faults,
-                                   size_t count)
-{
-    uint8_t record[LZ_RECORD_BYTES];
-    uint8_t frame[LZ_FRAME_BYTES] = {0};
-    sample(record);
-    for (size_t i = 0; i < count; i++) {
-        record[faults[i].at] = faults[i].wrong;
-    }
-    WRITING_IS(refused(LZ_REFUSED_LENGTH), record, 0);
-    WRITING_IS(refused(LZ_REFUSED_LENGTH), record, LZ_FRAME_BYTES - 1);
-    WRITING_IS(refused(LZ_REFUSED_LENGTH), record, LZ_FRAME_BYTES + 1);
-    for (size_t i = 0; i < count; i++) {
-        WRITING_IS(refused_at(faults[i].number, faults[i].place), record, LZ_FRAME_BYTES);
-        record[faults[i].at] = faults[i].right;
-    }
-    SAME_WORD(LZ_FINE, lz_write(record, sizeof record, frame, sizeof frame));
-}
-
-/* Bytes in which nothing of a category stands. */
-struct unused {
-    sample_record sample;
-    unsigned from, to;
-};
-
-/* Spares, what lies behind the last field, the slots that a category has not, and the text. */
-static const struct unused unused[] = {
-    {hypocenter_record, LZ_QUAKE_SPARE1, LZ_QUAKE_NOTIFICATIONS},
-    {hypocenter_record, LZ_QUAKE_SPARE2, LZ_RECORD_BYTES},
-    {intensity_record, LZ_INTENSITY_SPARE1, LZ_INTENSITY_DAY},
-    {intensity_record, LZ_INTENSITY_SPARE2, LZ_RECORD_SLOT(0)},
-    {intensity_record, LZ_RECORD_TEXT, LZ_RECORD_BYTES},
-    {nankai_record, LZ_NANKAI_SPARE1, LZ_NANKAI_IS},
-    {nankai_record, LZ_NANKAI_SPARE2, LZ_RECORD_TEXT},
-    {tsunami_record, LZ_TSUNAMI_SPARE1, LZ_TSUNAMI_NOTIFICATIONS},
-    {tsunami_record, LZ_TSUNAMI_WARNING + 1, LZ_RECORD_SLOT(0)},
-    {tsunami_record, LZ_RECORD_SLOT(5), LZ_RECORD_BYTES},
-    {ash_fall_record, LZ_ASH_SPARE1, LZ_ASH_DAY},
-    {ash_fall_record, LZ_ASH_SPARE2, LZ_RECORD_SLOT(0)},
-    {ash_fall_record, LZ_RECORD_SLOT(4), LZ_RECORD_BYTES},
-};
-
-/* Each of them alone is 11. */
-static void check_unused_refused(void)
-{
-    uint8_t record[LZ_RECORD_BYTES];
-    for (size_t i = 0; i < COUNT(unused); i++) {
-        for (unsigned at = unused[i].from; at < unused[i].to; at++) {
-            unused[i].sample(record);
-            record[at] = 1;
-            WRITING_IS(refused(LZ_REFUSED_UNUSED), record, LZ_FRAME_BYTES);
-        }
-    }
-}
-
-/* What a used slot has beyond its category is 11, and all of a place counts. */
-static void check_slot_refused(void)
-{
-    uint8_t record[LZ_RECORD_BYTES];
-    ash_fall_record(record);
-    record[LZ_RECORD_SLOT(0) + LZ_SLOT_PLACE] = 1;
-    WRITING_IS(refused_at(LZ_REFUSED_RANGE, 89), record, LZ_FRAME_BYTES);
-    record[LZ_RECORD_SLOT(2) + LZ_SLOT_MINUTE] = 1;
-    WRITING_IS(refused(LZ_REFUSED_UNUSED), record, LZ_FRAME_BYTES);
-    intensity_record(record);
-    record[LZ_RECORD_SLOT(8) + LZ_SLOT_HOUR] = 1;
-    WRITING_IS(refused(LZ_REFUSED_UNUSED), record, LZ_FRAME_BYTES);
-}
-
-void check_writing_refused(void)
-{
-    uint8_t record[LZ_RECORD_BYTES];
-    check_order_of_writing(hypocenter_record, hypocenter_record_faults,
-                           COUNT(hypocenter_record_faults));
-    check_order_of_writing(tsunami_record, tsunami_record_faults, COUNT(tsunami_record_faults));
-    check_unused_refused();
-    check_slot_refused();
-    intensity_record(record);
-    memcpy(record + LZ_RECORD_SLOT(10), record + LZ_RECORD_SLOT(0), LZ_SLOT_BYTES);
-    WRITING_IS(refused_at(LZ_REFUSED_GAP, 159), record, LZ_FRAME_BYTES);
-    record[LZ_INTENSITY_SPARE2] = 1;
-    WRITING_IS(refused(LZ_REFUSED_UNUSED), record, LZ_FRAME_BYTES);
 }
 
 static void line_reading_is(int line, uint32_t expected, const char *digits)
@@ -290,23 +211,4 @@ void check_records_lent_for_reading(void)
         SAME_WORD(refused(LZ_WRONG_CALL), lz_read_line(line, 2, lent, length));
     }
     UNTOUCHED(lent, 0, sizeof lent);
-}
-
-/* A good record but for its length, which ends in zeros, is written as one of zeros is. */
-void check_records_lent_for_writing(void)
-{
-    uint8_t record[LZ_RECORD_BYTES + 1] = {0}, before[LZ_RECORD_BYTES + 1];
-    uint8_t lent[LZ_FRAME_BYTES + 1];
-    hypocenter_record(record);
-    memcpy(before, record, sizeof before);
-    fill(lent, sizeof lent);
-    for (unsigned i = 0; i < 3; i++) {
-        size_t length = other_record_lengths[i];
-        SAME_WORD(refused(LZ_REFUSED_PREAMBLE), lz_write(record, length, lent, LZ_FRAME_BYTES));
-        SAME_WORD(refused(LZ_REFUSED_LENGTH), lz_write(record, length, lent, LZ_FRAME_BYTES - 1));
-        SAME_WORD(refused(LZ_REFUSED_LENGTH), lz_write(record, length, lent, LZ_FRAME_BYTES + 1));
-        SAME_WORD(refused(LZ_REFUSED_LENGTH), lz_write(record, length, lent, 0));
-    }
-    UNTOUCHED(lent, 0, sizeof lent);
-    SAME_BYTES(before, record, sizeof before);
 }

@@ -125,7 +125,7 @@ void frame_of(const char *line, uint8_t *frame)
     }
 }
 
-void put(uint8_t *frame, unsigned first, unsigned width, uint32_t value)
+void put(uint8_t *frame, unsigned first, unsigned width, uint64_t value)
 {
     for (unsigned i = 0; i < width; i++) {
         unsigned at = first + i;

@@ -39,7 +39,7 @@ extern const size_t other_record_lengths[3];
 void frame_of(const char *line, uint8_t *frame);
 
 /* Puts a value into a field of a frame, and nothing else. */
-void put(uint8_t *frame, unsigned first, unsigned width, uint32_t value);
+void put(uint8_t *frame, unsigned first, unsigned width, uint64_t value);
 
 /* Puts the parity of its other bits into a frame. */
 void put_parity(uint8_t *frame);

@@ -17,18 +17,18 @@ pub fn set_bit(frame: &mut Frame, position: usize, one: bool) {
     }
 }
 
-/// The number held by `width` bits from `first` on.
-pub fn get(frame: &Frame, first: usize, width: usize) -> u32 {
+/// The number held by `width` bits from `first` on, at most 64.
+pub fn get(frame: &Frame, first: usize, width: usize) -> u64 {
     let mut value = 0;
     for position in first..first + width {
-        value = value * 2 + u32::from(bit(frame, position));
+        value = value * 2 + u64::from(bit(frame, position));
     }
     value
 }
 
 /// Writes the lowest `width` bits of `value` from `first` on; higher bits of
 /// the value have no place there and are not looked at.
-pub fn set(frame: &mut Frame, first: usize, width: usize, value: u32) {
+pub fn set(frame: &mut Frame, first: usize, width: usize, value: u64) {
     for offset in 0..width {
         let one = value >> (width - 1 - offset) & 1 == 1;
         set_bit(frame, first + offset, one);

@@ -4,7 +4,6 @@ use crate::fields::{fields, slot_layout, Field, PAGE_NUMBER_FIRST, PAGE_TOTAL_FI
 use crate::record::{Category, Refusal};
 
 pub const OUT_OF_RANGE: u8 = 8;
-pub const SPARE_USED: u8 = 9;
 pub const SLOT_AFTER_EMPTY: u8 = 10;
 
 /// Every fault of a category's values, in no particular order. The values
@@ -35,7 +34,7 @@ pub fn reported(faults: &[Refusal]) -> Option<Refusal> {
 pub fn out_of_range(fields: &[Field], value_of: &dyn Fn(&Field) -> u64) -> Vec<Refusal> {
     let (group, single): (Vec<Field>, Vec<Field>) =
         fields.iter().copied().partition(|field| field.group_code.is_some());
-    let has_code = |field: &Field| field.group_code.map(u64::from) == Some(value_of(field));
+    let has_code = |field: &Field| field.group_code == Some(value_of(field));
     let judged = if group.iter().all(has_code) { single } else { fields.to_vec() };
     let bad = judged.iter().filter(|field| !field.allows(value_of(field)));
     bad.map(|field| Refusal::at(OUT_OF_RANGE, field.first)).collect()

@@ -8,7 +8,7 @@
 use crate::record::Category;
 
 /// Pairs of lowest and highest value, both allowed.
-pub type Allowed = &'static [(u32, u32)];
+pub type Allowed = &'static [(u64, u64)];
 
 #[derive(Clone, Copy, Debug)]
 pub struct Field {
@@ -16,17 +16,14 @@ pub struct Field {
     pub width: usize,
     pub allowed: Allowed,
     /// The value that stands here where the whole group has its codes.
-    pub group_code: Option<u32>,
+    pub group_code: Option<u64>,
 }
 
 impl Field {
     /// Whether a value is allowed for itself, codes of a group apart. It may be
     /// wider than any field, as in a record it can be.
     pub fn allows(&self, value: u64) -> bool {
-        let within = |&(lowest, highest): &(u32, u32)| {
-            u64::from(lowest) <= value && value <= u64::from(highest)
-        };
-        self.allowed.iter().any(within)
+        self.allowed.iter().any(|&(lowest, highest)| lowest <= value && value <= highest)
     }
 }
 
@@ -34,7 +31,7 @@ const fn field(first: usize, width: usize, allowed: Allowed) -> Field {
     Field { first, width, allowed, group_code: None }
 }
 
-const fn grouped(first: usize, width: usize, allowed: Allowed, code: u32) -> Field {
+const fn grouped(first: usize, width: usize, allowed: Allowed, code: u64) -> Field {
     Field { first, width, allowed, group_code: Some(code) }
 }
 
@@ -133,7 +130,8 @@ const ASH_FALL: [Field; 5] = [
 const ASH_FALL_PARTS: [Field; 3] =
     [field(0, 3, &[(1, 6)]), field(3, 3, &[(1, 7)]), field(6, 23, &[(110_000, 4_799_999)])];
 
-/// Every field of a category outside its slots, by rising first bit.
+/// Every field of a category outside its slots, spares included, by rising
+/// first bit.
 pub fn fields(category: Category) -> Vec<Field> {
     let (rc, it, own): (Field, Field, &[Field]) = match category {
         Category::Hypocenter => (RC, IT, &HYPOCENTER),
@@ -142,7 +140,9 @@ pub fn fields(category: Category) -> Vec<Field> {
         Category::Tsunami => (RC_OF_TSUNAMI, IT, &TSUNAMI),
         Category::AshFall => (RC, IT_OF_ASH_FALL, &ASH_FALL),
     };
-    [&[rc], &ISSUE_TIME[..], &[it], own].concat()
+    let mut all = [&[rc], &ISSUE_TIME[..], &[it], own, &spares(category)].concat();
+    all.sort_by_key(|field| field.first);
+    all
 }
 
 /// How the slots of a category lie; the bits of the parts are counted from
@@ -182,14 +182,16 @@ pub fn slot_layout(category: Category) -> SlotLayout {
     }
 }
 
-/// First bit and width of Spare1 and of the category's own spare. The areas of
-/// category 5 reach up to the version and leave no room for one.
-pub fn spares(category: Category) -> Vec<(usize, usize)> {
-    let own: &[(usize, usize)] = match category {
-        Category::Hypocenter => &[(163, 51)],
-        Category::Intensity | Category::Nankai => &[(213, 1)],
-        Category::Tsunami => &[],
-        Category::AshFall => &[(199, 15)],
+/// Spare1, and Spare2 where the category has one: the areas of category 5 reach
+/// up to the version and leave no room for it. What a spare will once say is not
+/// known, so it may have every value that its bits hold.
+pub fn spares(category: Category) -> Vec<Field> {
+    let spare1 = field(43, 10, &[(0, 1023)]);
+    let spare2 = match category {
+        Category::Hypocenter => Some(field(163, 51, &[(0, (1 << 51) - 1)])),
+        Category::Intensity | Category::Nankai => Some(field(213, 1, &[(0, 1)])),
+        Category::Tsunami => None,
+        Category::AshFall => Some(field(199, 15, &[(0, 32_767)])),
     };
-    [&[(43, 10)], own].concat()
+    std::iter::once(spare1).chain(spare2).collect()
 }

@@ -7,6 +7,7 @@ mod frames;
 mod histories;
 mod lines;
 mod malformed_records;
+mod numbers;
 mod records;
 mod stores;
 
@@ -15,6 +16,7 @@ pub use frames::*;
 pub use histories::*;
 pub use lines::*;
 pub use malformed_records::*;
+pub use numbers::*;
 pub use records::*;
 pub use stores::*;
 
@@ -29,7 +31,7 @@ use crate::record::{Category, Record};
 pub struct RawValue {
     pub first: usize,
     pub width: usize,
-    pub value: u32,
+    pub value: u64,
 }
 
 /// One stretch of allowed values of a field. A field that allows several
@@ -38,13 +40,13 @@ pub struct RawValue {
 pub struct Bounds {
     pub first: usize,
     pub width: usize,
-    pub lowest: u32,
-    pub highest: u32,
+    pub lowest: u64,
+    pub highest: u64,
 }
 
 impl Bounds {
     /// The values at both ends and just outside, where the width holds them.
-    pub fn edges(&self) -> Vec<u32> {
+    pub fn edges(&self) -> Vec<u64> {
         let mut values = vec![self.lowest, self.highest];
         values.extend(self.lowest.checked_sub(1));
         values.extend(Some(self.highest + 1).filter(|above| above >> self.width == 0));
@@ -58,12 +60,12 @@ impl Bounds {
 
     /// Values that no field of this width holds: a record may have them all
     /// the same. The first one looks allowed if only its low bits are seen.
-    pub fn far_outside(&self) -> [u32; 3] {
-        [self.lowest + (1 << self.width), 1 << self.width, u32::MAX]
+    pub fn far_outside(&self) -> [u64; 3] {
+        [self.lowest + (1 << self.width), 1 << self.width, u64::MAX]
     }
 }
 
-/// The rows of a category, slots included.
+/// The rows of a category, spares and slots included.
 pub fn bounds(category: Category) -> Vec<Bounds> {
     let layout = slot_layout(category);
     let mut all = fields(category);
@@ -73,7 +75,7 @@ pub fn bounds(category: Category) -> Vec<Bounds> {
 
 fn field_bounds(field: &Field) -> Vec<Bounds> {
     let (first, width) = (field.first, field.width);
-    let row = |&(lowest, highest): &(u32, u32)| Bounds { first, width, lowest, highest };
+    let row = |&(lowest, highest): &(u64, u64)| Bounds { first, width, lowest, highest };
     let code = field.group_code.map(|code| (code, code));
     field.allowed.iter().chain(&code).map(row).collect()
 }
@@ -89,7 +91,7 @@ fn part_of_zero(random: &mut Random, category: Category, slot: usize) -> RawValu
 /// Gives a frame the parity of its first 226 bits.
 pub fn seal(frame: &mut Frame) {
     let sum = parity(frame, 226);
-    set(frame, 226, 24, sum);
+    set(frame, 226, 24, sum.into());
 }
 
 /// A frame with some values overwritten, in range or not, and right parity.
@@ -103,7 +105,7 @@ pub fn raw_frame(base: &Frame, values: &[RawValue]) -> Frame {
 }
 
 /// An allowed value, with the ends of the stretches favoured.
-pub fn allowed_value(random: &mut Random, allowed: &[(u32, u32)]) -> u32 {
+pub fn allowed_value(random: &mut Random, allowed: &[(u64, u64)]) -> u64 {
     let (lowest, highest) = random.pick(allowed);
     match random.below(4) {
         0 => lowest,
@@ -145,7 +147,7 @@ pub fn any_frame(random: &mut Random) -> Vec<u8> {
 /// A record of any kind this module knows, for the writer.
 pub fn any_record(random: &mut Random) -> Record {
     let category = any_category(random);
-    match random.below(11) {
+    match random.below(12) {
         0 => valid_record(random, category),
         1 => boundary_record(random, category),
         2 => unused_filled_record(random, category),
@@ -156,6 +158,7 @@ pub fn any_record(random: &mut Random) -> Record {
         7 => many_faults_record(random, category),
         8 => page_record(random),
         9 => arrival_record(random),
+        10 => spare_record(random, category),
         _ => random_record(random, category),
     }
 }

@@ -39,14 +39,14 @@ impl History {
     }
 
     /// Takes a record where it is a page of this bulletin, whatever its
-    /// preamble and Reserved.
+    /// preamble, Reserved and spares.
     pub fn take(&mut self, record: &Record) -> Result<Taken, Refusal> {
         write(record, &mut [0; 32])?;
         let Body::Nankai { page, .. } = record.body else {
             return Err(Refusal::plain(12));
         };
-        let &Record { preamble, reserved, text, .. } = record;
-        if *record != (Record { preamble, reserved, ..self.name.page(page, text) }) {
+        let &Record { preamble, reserved, spares, text, .. } = record;
+        if *record != (Record { preamble, reserved, spares, ..self.name.page(page, text) }) {
             return Err(Refusal::plain(13));
         }
         let before = self.texts(page);

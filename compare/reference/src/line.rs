@@ -20,7 +20,7 @@ pub fn frame_of_line(line: &[u8]) -> Result<Frame, Refusal> {
     let mut frame = [0; 32];
     for (number, &character) in line.iter().enumerate() {
         let digit = char::from(character).to_digit(16).ok_or(Refusal::plain(17))?;
-        set(&mut frame, 4 * number, 4, digit);
+        set(&mut frame, 4 * number, 4, digit.into());
     }
     Ok(frame)
 }

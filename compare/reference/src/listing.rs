@@ -43,7 +43,7 @@ fn write_row(
                 _ => writeln!(output, "{line} 0 - {dc} -"),
             }
         }
-        Err(Refusal { number: number @ 8..=10, place, .. }) => {
+        Err(Refusal { number: number @ (8 | 10), place, .. }) => {
             writeln!(output, "{line} {number} {place} - -")
         }
         Err(Refusal { number, .. }) => writeln!(output, "{line} {number} - - -"),

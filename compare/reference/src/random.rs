@@ -26,9 +26,9 @@ impl Random {
     }
 
     /// A number from `lowest` to `highest`, both included.
-    pub fn between(&mut self, lowest: u32, highest: u32) -> u32 {
-        let count = u64::from(highest - lowest) + 1;
-        lowest + (self.next_number() % count) as u32
+    pub fn between(&mut self, lowest: u64, highest: u64) -> u64 {
+        let count = highest - lowest + 1;
+        lowest + self.next_number() % count
     }
 
     /// True once in `count` times on average.
@@ -51,13 +51,8 @@ impl Random {
         self.next_number() as u8
     }
 
-    /// A number of `width` bits, at most 32.
-    pub fn bits(&mut self, width: usize) -> u32 {
-        self.wide_bits(width) as u32
-    }
-
-    /// A number of `width` bits, at most 64.
-    pub fn wide_bits(&mut self, width: usize) -> u64 {
+    /// A number of `width` bits, at least 1 and at most 64.
+    pub fn bits(&mut self, width: usize) -> u64 {
         self.next_number() >> (64 - width)
     }
 }

@@ -1,7 +1,7 @@
 //! Reading a frame into a record.
 
 use crate::bits::{get, Frame};
-use crate::check::{faults, reported, SPARE_USED};
+use crate::check::{faults, reported};
 use crate::fields::{slot_layout, spares, RESERVED};
 use crate::parity::parity;
 use crate::record::{Angle, Body, Category, Hypocenter, Record, Refusal, Slot, Time, PREAMBLES};
@@ -10,8 +10,7 @@ use crate::record::{Angle, Body, Category, Hypocenter, Record, Refusal, Slot, Ti
 pub fn read(frame: &[u8]) -> Result<Record, Refusal> {
     let frame: &Frame = frame.try_into().map_err(|_| Refusal::plain(1))?;
     let category = envelope(frame)?;
-    let mut found = faults(category, &|field| u64::from(get(frame, field.first, field.width)));
-    found.extend(spare_faults(frame, category));
+    let found = faults(category, &|field| get(frame, field.first, field.width));
     match reported(&found) {
         Some(refusal) => Err(refusal),
         None => Ok(record(frame, category)),
@@ -24,8 +23,8 @@ fn envelope(frame: &Frame) -> Result<Category, Refusal> {
     let preamble = get(frame, 0, 8);
     let rules = [
         (2, get(frame, 250, 6) == 0),
-        (3, PREAMBLES.iter().any(|&known| u32::from(known) == preamble)),
-        (4, get(frame, 226, 24) == parity(frame, 226)),
+        (3, PREAMBLES.iter().any(|&known| u64::from(known) == preamble)),
+        (4, get(frame, 226, 24) == u64::from(parity(frame, 226))),
         (5, get(frame, 8, 6) == 43),
         (6, get(frame, 214, 6) == 1),
     ];
@@ -33,15 +32,6 @@ fn envelope(frame: &Frame) -> Result<Category, Refusal> {
         return Err(Refusal::plain(number));
     }
     Category::of_code(get(frame, 17, 4)).ok_or(Refusal::plain(7))
-}
-
-/// A spare is refused at its first bit, whichever of its bits is set.
-fn spare_faults(frame: &Frame, category: Category) -> Vec<Refusal> {
-    let set = |&(first, width): &(usize, usize)| {
-        (first..first + width).any(|position| get(frame, position, 1) != 0)
-    };
-    let used = spares(category).into_iter().filter(set);
-    used.map(|(first, _)| Refusal::at(SPARE_USED, first)).collect()
 }
 
 /// The values of a frame without faults. Empty slots are zeros in the frame
@@ -56,10 +46,19 @@ fn record(frame: &Frame, category: Category) -> Record {
         hour: byte(frame, 30, 5),
         minute: byte(frame, 35, 6),
         it: byte(frame, 41, 2),
+        spares: spare_values(frame, category),
         body: body(frame, category),
         slots: slots(frame, category),
         text: text(frame, category),
     }
+}
+
+fn spare_values(frame: &Frame, category: Category) -> [u64; 2] {
+    let mut values = [0; 2];
+    for (value, spare) in values.iter_mut().zip(spares(category)) {
+        *value = get(frame, spare.first, spare.width);
+    }
+    values
 }
 
 fn body(frame: &Frame, category: Category) -> Body {
@@ -133,17 +132,17 @@ fn slot_at(frame: &Frame, category: Category, first: usize) -> Slot {
             hour: byte(frame, first + 1, 5),
             minute: byte(frame, first + 6, 6),
             strength: byte(frame, first + 12, 4),
-            place: get(frame, first + 16, 10).into(),
+            place: get(frame, first + 16, 10),
         },
         Category::AshFall => Slot {
             hour: byte(frame, first, 3),
             strength: byte(frame, first + 3, 3),
-            place: get(frame, first + 6, 23).into(),
+            place: get(frame, first + 6, 23),
             ..Slot::default()
         },
         _ => Slot {
             strength: byte(frame, first, 3),
-            place: get(frame, first + 3, 6).into(),
+            place: get(frame, first + 3, 6),
             ..Slot::default()
         },
     }

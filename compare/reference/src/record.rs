@@ -24,7 +24,7 @@ impl Category {
     ];
 
     /// The number that stands in Dc.
-    pub fn code(self) -> u32 {
+    pub fn code(self) -> u64 {
         match self {
             Category::Hypocenter => 2,
             Category::Intensity => 3,
@@ -35,7 +35,7 @@ impl Category {
     }
 
     /// The category of a Dc, if it is one of these.
-    pub fn of_code(code: u32) -> Option<Category> {
+    pub fn of_code(code: u64) -> Option<Category> {
         Category::ALL.into_iter().find(|category| category.code() == code)
     }
 }
@@ -129,6 +129,9 @@ pub struct Record {
     pub hour: u8,
     pub minute: u8,
     pub it: u8,
+    /// Spare1 and Spare2, kept so that they can be written back. A category that
+    /// has no Spare2 has 0 there.
+    pub spares: [u64; 2],
     pub body: Body,
     pub slots: [Slot; 16],
     pub text: [u8; 18],

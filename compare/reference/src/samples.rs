@@ -2,13 +2,15 @@
 //! categories that are read, as records.
 //!
 //! What document 004 leaves open is filled plainly: the preamble is 53
-//! hexadecimal and Reserved is 0 throughout. Message type and version are not
-//! in a record. Rc is 7 and It is 0 in every table. The year is not sent.
+//! hexadecimal, Reserved and the spares are 0 throughout. Message type and
+//! version are not in a record. Rc is 7 and It is 0 in every table. The year is
+//! not sent.
 
 use crate::record::{Angle, Body, Hypocenter, Record, Slot, Time};
 
 const PREAMBLE: u8 = 0x53;
 const RESERVED: u8 = 0;
+const SPARES: [u64; 2] = [0; 2];
 
 /// Rc "training/test" and It "issue", the same in tables 2-1-2 to 2-5-1.
 const RC: u8 = 7;
@@ -177,6 +179,7 @@ fn issue(delivery: usize, hours: u8, minute: u8) -> Record {
         hour: first_hour + hours,
         minute,
         it: IT,
+        spares: SPARES,
         ..Record::default()
     }
 }

@@ -70,7 +70,7 @@ impl Name {
     }
 
     /// The record of a page of this bulletin, with the first preamble and
-    /// nothing in Reserved.
+    /// nothing in Reserved and in the spares.
     pub fn page(&self, page: u8, text: [u8; PAGE_LENGTH]) -> Record {
         let &Name { rc, month, day, hour, minute, it, serial, total } = self;
         let body = Body::Nankai { serial, page, total };
@@ -129,7 +129,8 @@ impl Store {
     }
 
     /// Takes the page of a record: 14, then what writing the record would
-    /// refuse, 12, 13. A refused taking leaves the store as it was.
+    /// refuse, 12, 13. A refused taking leaves the store as it was. Preamble,
+    /// Reserved and spares play no part.
     pub fn take(&mut self, record: &Record) -> Result<Taken, Refusal> {
         self.sound()?;
         write(record, &mut [0; 32])?;

@@ -2,7 +2,7 @@
 
 use crate::bits::{set, Frame};
 use crate::check::{faults, reported, OUT_OF_RANGE};
-use crate::fields::{slot_layout, Field, RESERVED};
+use crate::fields::{slot_layout, spares, Field, RESERVED};
 use crate::parity::parity;
 use crate::record::{Angle, Body, Category, Hypocenter, Record, Refusal, Slot, Time, PREAMBLES};
 
@@ -48,7 +48,8 @@ fn has_something_unused(record: &Record, category: Category) -> bool {
         record.slots[..own_slots].iter().any(|slot| has_unused_part(slot, category));
     let text_elsewhere =
         category != Category::Nankai && record.text.iter().any(|&character| character != 0);
-    slot_too_many || part_too_many || text_elsewhere
+    let spare_too_many = record.spares[spares(category).len()..].iter().any(|&spare| spare != 0);
+    slot_too_many || part_too_many || text_elsewhere || spare_too_many
 }
 
 /// Whether something stands in a part that the category's slots do not have.
@@ -70,16 +71,16 @@ fn value_of(placed: &[Placed], field: &Field) -> u64 {
 /// The frame of a record without faults, whose numbers fit their places.
 fn image(record: &Record, category: Category, placed: &[Placed]) -> Frame {
     let mut frame = [0; 32];
-    set(&mut frame, 0, 8, u32::from(record.preamble));
+    set(&mut frame, 0, 8, record.preamble.into());
     set(&mut frame, 8, 6, 43);
     set(&mut frame, 17, 4, category.code());
     set(&mut frame, 214, 6, 1);
-    set(&mut frame, RESERVED.first, RESERVED.width, u32::from(record.reserved));
+    set(&mut frame, RESERVED.first, RESERVED.width, record.reserved.into());
     for one in placed {
-        set(&mut frame, one.first, one.width, one.value as u32);
+        set(&mut frame, one.first, one.width, one.value);
     }
     let sum = parity(&frame, 226);
-    set(&mut frame, 226, 24, sum);
+    set(&mut frame, 226, 24, sum.into());
     frame
 }
 
@@ -113,12 +114,18 @@ pub fn placed(record: &Record, category: Category) -> Vec<Placed> {
             all.push(place(71, 12, *volcano));
         }
     }
+    all.extend(place_spares(&record.spares, category));
     all.extend(place_slots(&record.slots, category));
     all
 }
 
 fn place(first: usize, width: usize, value: impl Into<u64>) -> Placed {
     Placed { first, width, value: value.into() }
+}
+
+fn place_spares(values: &[u64; 2], category: Category) -> Vec<Placed> {
+    let own = spares(category).into_iter().zip(values);
+    own.map(|(spare, &value)| place(spare.first, spare.width, value)).collect()
 }
 
 fn place_time(first: usize, time: &Time) -> [Placed; 3] {

@@ -3,7 +3,7 @@
 use std::collections::BTreeSet;
 
 use reference::bits::Frame;
-use reference::fields::{fields, slot_layout, spares};
+use reference::fields::{fields, slot_layout, spares, Field};
 use reference::generate::*;
 use reference::meaning::{arrival, slots_used, Arrival};
 use reference::random::Random;
@@ -65,17 +65,17 @@ fn records_of(build: fn(&mut Random, Category) -> Record) -> Seen {
 fn each_frame_builder_reaches_its_refusals() {
     assert_eq!(frames_of(valid_frame).numbers(), [0]);
     assert_eq!(frames_of(boundary_frame).numbers(), [0, 8, 10]);
-    assert_eq!(frames_of(spare_frame).numbers(), [9]);
+    assert_eq!(frames_of(spare_frame).numbers(), [0]);
     assert_eq!(frames_of(envelope_fault_frame).numbers(), [2, 3, 4, 5, 6, 7]);
-    assert_eq!(frames_of(many_faults_frame).numbers(), [0, 2, 3, 4, 5, 6, 7, 8, 9, 10]);
-    assert_eq!(frames_of(random_stretch_frame).numbers(), [0, 7, 8, 9, 10]);
-    assert_eq!(frames_of(flipped_frame).numbers(), [0, 2, 3, 4, 5, 6, 7, 8, 9, 10]);
+    assert_eq!(frames_of(many_faults_frame).numbers(), [0, 2, 3, 4, 5, 6, 7, 8, 10]);
+    assert_eq!(frames_of(random_stretch_frame).numbers(), [0, 7, 8, 10]);
+    assert_eq!(frames_of(flipped_frame).numbers(), [0, 2, 3, 4, 5, 6, 7, 8, 10]);
     assert_eq!(frames_of(|random, _| gap_frame(random)).numbers(), [10]);
     assert_eq!(frames_of(|random, _| half_filled_frame(random)).numbers(), [8]);
     assert_eq!(frames_of(|random, _| random_slots_frame(random)).numbers(), [0, 8, 10]);
     assert_eq!(frames_of(|random, _| page_frame(random)).places(8), [201, 207]);
     let random_sealed = frames_of(|random, _| random_sealed_frame(random)).numbers();
-    assert!([3, 8, 9].iter().all(|number| random_sealed.contains(number)));
+    assert!([3, 8].iter().all(|number| random_sealed.contains(number)));
 }
 
 #[test]
@@ -94,7 +94,7 @@ fn slices_of_every_length_are_refused_but_one() {
 fn any_frame_reaches_every_refusal() {
     let mut random = Random::new(10);
     let seen = read_all((0..10 * COUNT).map(|_| any_frame(&mut random)));
-    assert_eq!(seen.numbers(), [0, 1, 2, 3, 4, 5, 6, 7, 8, 9, 10]);
+    assert_eq!(seen.numbers(), [0, 1, 2, 3, 4, 5, 6, 7, 8, 10]);
 }
 
 #[test]
@@ -111,6 +111,7 @@ fn each_record_builder_reaches_its_refusals() {
     assert_eq!(records_of(boundary_record).numbers(), [0, 8, 10]);
     assert_eq!(records_of(unused_filled_record).numbers(), [11]);
     assert_eq!(records_of(bad_preamble_record).numbers(), [3]);
+    assert_eq!(records_of(spare_record).numbers(), [0, 8]);
     assert_eq!(records_of(many_faults_record).numbers(), [0, 8, 10, 11]);
     assert_eq!(records_of(random_record).numbers(), [0, 3, 8, 10, 11]);
     assert_eq!(records_of(|random, _| gap_record(random)).numbers(), [10]);
@@ -120,12 +121,13 @@ fn each_record_builder_reaches_its_refusals() {
 }
 
 /// The places where a category's fields can be out of range: in a record all of
-/// them, in a frame not those of a single bit, which is always in range.
-fn places_out_of_range(category: Category, single_bits: bool) -> Vec<usize> {
+/// them, in a frame not those of a spare or of a single bit, where all that the
+/// bits hold is in range.
+fn places_out_of_range(category: Category, in_frame: bool) -> Vec<usize> {
     let layout = slot_layout(category);
     let mut rows = fields(category);
     rows.extend((0..layout.count).flat_map(|slot| layout.parts(slot)));
-    rows.retain(|row| single_bits || row.width > 1);
+    rows.retain(|row| !in_frame || row.allowed != [(0, (1 << row.width) - 1)]);
     let mut places: Vec<_> = rows.iter().map(|row| row.first).collect();
     places.sort();
     places
@@ -137,10 +139,10 @@ fn boundary_inputs_reach_every_field() {
     for category in Category::ALL {
         let frames = read_all(boundary_frames(&mut random, category));
         assert!(frames.numbers().contains(&0));
-        assert_eq!(frames.places(8), places_out_of_range(category, false));
+        assert_eq!(frames.places(8), places_out_of_range(category, true));
         let records = write_all(boundary_records(&mut random, category));
         assert!(records.numbers().contains(&0));
-        let mut expected = places_out_of_range(category, true);
+        let mut expected = places_out_of_range(category, false);
         expected.push(220);
         assert_eq!(records.places(8), expected);
     }
@@ -203,9 +205,83 @@ fn half_filled_slots_reach_every_part_that_must_not_be_zero() {
     assert_eq!(records_of(|random, _| half_filled_record(random)).places(8), expected);
 }
 
+/// Each spare of each category: the category, which of its spares, and the row.
+fn all_spares() -> Vec<(Category, usize, Field)> {
+    let numbered = |category| spares(category).into_iter().enumerate();
+    let of_category =
+        |category| numbered(category).map(move |(number, row)| (category, number, row));
+    Category::ALL.into_iter().flat_map(of_category).collect()
+}
+
 #[test]
-fn spare_frames_reach_every_spare() {
-    let spares = Category::ALL.into_iter().flat_map(spares);
-    let expected: BTreeSet<_> = spares.map(|(first, _)| first).collect();
-    assert_eq!(frames_of(spare_frame).places(9), Vec::from_iter(expected));
+fn spare_frames_reach_every_bit_of_every_spare_alone() {
+    let mut random = Random::new(14);
+    let mut seen = BTreeSet::new();
+    for category in categories() {
+        let record = read(&spare_frame(&mut random, category)).expect("the frame is valid");
+        seen.insert((category.code(), record.spares));
+    }
+    for (category, number, row) in all_spares() {
+        for bit in 0..row.width {
+            let mut alone = [0; 2];
+            alone[number] = 1 << bit;
+            assert!(seen.contains(&(category.code(), alone)), "{category:?} {number} {bit}");
+        }
+    }
+}
+
+/// In every spare of what is valid nothing, something and all bits come up.
+#[test]
+fn valid_inputs_reach_all_fillings_of_every_spare() {
+    let mut random = Random::new(15);
+    for (category, number, row) in all_spares() {
+        let highest = (1 << row.width) - 1;
+        let mut seen = BTreeSet::new();
+        for _ in 0..100 {
+            let built = valid_record(&mut random, category);
+            let frame = valid_frame(&mut random, category);
+            let records = [("record", built), ("frame", read(&frame).expect("it is valid"))];
+            seen.extend(records.map(|(source, record)| (source, record.spares[number])));
+        }
+        for source in ["record", "frame"] {
+            let has = |wanted: &dyn Fn(u64) -> bool| {
+                seen.iter().any(|&(from, value)| from == source && wanted(value))
+            };
+            assert!(has(&|value| value == 0) && has(&|value| value == highest));
+            assert!(row.width == 1 || has(&|value| 0 < value && value < highest));
+        }
+    }
+}
+
+/// Spares too wide come up alone and among other faults, in every category.
+#[test]
+fn records_reach_every_spare_too_wide() {
+    let mut random = Random::new(16);
+    for build in [spare_record, many_faults_record, boundary_record] {
+        for (category, _, row) in all_spares() {
+            let records = (0..COUNT).map(|_| build(&mut random, category));
+            assert!(write_all(records).places(8).contains(&row.first), "{category:?} {row:?}");
+        }
+    }
+}
+
+/// A number of every length from 1 to 64 bits comes up in every spare.
+#[test]
+fn spare_records_reach_every_length() {
+    let mut random = Random::new(17);
+    for (category, number, _) in all_spares() {
+        let records = (0..COUNT).map(|_| spare_record(&mut random, category));
+        let lengths: BTreeSet<u32> =
+            records.map(|record| 64 - record.spares[number].leading_zeros()).collect();
+        assert!((1..=64).all(|length| lengths.contains(&length)), "{category:?} {number}");
+    }
+}
+
+#[test]
+fn unused_filled_records_reach_the_spare_that_a_category_lacks() {
+    let mut random = Random::new(18);
+    let records: Vec<Record> =
+        (0..COUNT).map(|_| unused_filled_record(&mut random, Category::Tsunami)).collect();
+    let filled = records.iter().filter(|record| record.spares[1] != 0).count();
+    assert!(COUNT / 4 < filled && filled < COUNT / 2, "{filled}");
 }

@@ -1,11 +1,11 @@
 //! The listing: the example of document 01, and what users feed it.
 
 use reference::bits::Frame;
-use reference::generate::{any_line, gap_frame, raw_frame, spare_frame, RawValue};
+use reference::generate::{any_line, gap_frame, raw_frame, RawValue};
 use reference::line::{line_of_frame, read_line};
 use reference::listing::{list, MOST_LINES};
 use reference::random::Random;
-use reference::record::{Category, Record, Slot};
+use reference::record::{Record, Slot};
 use reference::samples;
 use reference::write::write;
 use std::io::BufReader;
@@ -84,17 +84,32 @@ fn areas_are_counted_as_slots() {
 }
 
 #[test]
-fn a_place_is_given_for_8_9_and_10_alone() {
+fn a_place_is_given_for_8_and_10_alone() {
     let mut random = Random::new(810);
     let no_day = RawValue { first: 25, width: 5, value: 0 };
     let frame = raw_frame(&sample_frame(samples::hypocenter()), &[no_day]);
     assert_eq!(rows(&line_of_frame(&frame)), ["1 8 25 - -"]);
-    for (number, frame) in
-        [(9, spare_frame(&mut random, Category::Nankai)), (10, gap_frame(&mut random))]
-    {
-        let line = line_of_frame(&frame);
-        let place = read_line(&line).expect_err("the frame has a fault").place;
-        assert_eq!(rows(&line), [format!("1 {number} {place} - -")]);
+    let line = line_of_frame(&gap_frame(&mut random));
+    let place = read_line(&line).expect_err("the frame has a fault").place;
+    assert_eq!(rows(&line), [format!("1 10 {place} - -")]);
+}
+
+/// What was spare once may say something in a later frame: it is listed as any
+/// other.
+#[test]
+fn spares_that_are_set_are_not_seen() {
+    let spare1 = RawValue { first: 43, width: 10, value: 1023 };
+    let spare2 = |first, width| RawValue { first, width, value: u64::MAX };
+    let cases = [
+        (samples::hypocenter(), vec![spare1, spare2(163, 51)], "1 0 - 2 -"),
+        (samples::intensity(), vec![spare1, spare2(213, 1)], "1 0 - 3 9"),
+        (samples::nankai(), vec![spare1, spare2(213, 1)], "1 0 - 4 -"),
+        (samples::tsunami_warning(), vec![spare1], "1 0 - 5 3"),
+        (samples::ash_fall_detailed(), vec![spare1, spare2(199, 15)], "1 0 - 9 4"),
+    ];
+    for (samples, values, row) in cases {
+        let frame = raw_frame(&sample_frame(samples), &values);
+        assert_eq!(rows(&line_of_frame(&frame)), [row]);
     }
 }
 

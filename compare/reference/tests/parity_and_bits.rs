@@ -66,6 +66,7 @@ fn fields_are_most_significant_bit_first() {
     assert_eq!(get(&frame, 7, 4), 0b1101);
     assert_eq!(get(&frame, 0, 8), 1);
     assert_eq!(get(&frame, 6, 32), 0b01_1010_0000 << 22);
+    assert_eq!(get(&frame, 6, 64), 0b01_1010_0000 << 54);
     assert!(bit(&frame, 7) && bit(&frame, 8) && !bit(&frame, 9) && bit(&frame, 10));
 }
 
@@ -86,7 +87,7 @@ fn a_field_gives_back_what_was_set() {
     for _ in 0..20_000 {
         let mut frame = [0; 32].map(|_: u8| random.byte());
         let before = frame;
-        let width = 1 + random.below(32);
+        let width = 1 + random.below(64);
         let first = random.below(257 - width);
         let value = random.bits(width);
         set(&mut frame, first, width, value);

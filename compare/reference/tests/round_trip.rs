@@ -11,7 +11,7 @@ const COUNT: usize = 100_000;
 #[test]
 fn a_valid_record_is_read_back() {
     for category in Category::ALL {
-        let mut random = Random::new(u64::from(category.code()));
+        let mut random = Random::new(category.code());
         for _ in 0..COUNT {
             let record = valid_record(&mut random, category);
             let mut frame = [0xFF; 32];
@@ -24,7 +24,7 @@ fn a_valid_record_is_read_back() {
 #[test]
 fn a_valid_frame_is_written_back() {
     for category in Category::ALL {
-        let mut random = Random::new(100 + u64::from(category.code()));
+        let mut random = Random::new(100 + category.code());
         for _ in 0..COUNT {
             let frame = valid_frame(&mut random, category);
             let record = read(&frame).expect("the frame is valid");

@@ -1,6 +1,7 @@
 //! The samples of document 004 as frames.
 
 use reference::bits::Frame;
+use reference::line::read_line;
 use reference::meaning::{prefecture, slots_used};
 use reference::read::read;
 use reference::record::{Body, Category, Record, Slot};
@@ -31,6 +32,7 @@ fn five_areas() -> Record {
         hour: 23,
         minute: 59,
         it: 2,
+        spares: [0; 2],
         body: Body::Tsunami { notifications: [101, 0, 500], warning: 15 },
         slots,
         text: [0; 18],
@@ -76,6 +78,47 @@ fn frames_laid_out_another_way() {
     for (record, expected) in cases {
         assert_eq!(digits(&record), expected);
     }
+}
+
+/// A sample with something in its spares, which no table of document 004 has.
+fn with_spares(sample: Record, spares: [u64; 2]) -> Record {
+    Record { spares, ..sample }
+}
+
+/// These were laid out in the same way apart from this package.
+#[test]
+fn spares_laid_out_another_way() {
+    let cases = [
+        (
+            with_spares(samples::hypocenter()[0], [0x2A5, 0x4_0123_4567_89AB]),
+            "53af91ac82952b88000059051440c5c82a01083010048d159e26ac1025480400",
+        ),
+        (
+            with_spares(samples::intensity()[0], [1, 1]),
+            "53af99ac82800ac82cb25ae775a8d4ca854ab80000000000000004103e25d440",
+        ),
+        (
+            with_spares(samples::nankai()[0], [1023, 1]),
+            "53afa1ac919ffaf2c6cbf35adbf1c1c471c1d4f1c1caf3595f82dc103f0babc0",
+        ),
+        (
+            with_spares(samples::tsunami_warning()[0], [0x200, 0]),
+            "53afa9ac829001e8f67c31053960414e621053be000000000000001009ec3580",
+        ),
+        (
+            with_spares(samples::ash_fall_detailed()[0], [0x155, 0x4ABC]),
+            "53afc9acaa0aaacaa43ee541f0782a1220813091811183e0f12af0103bce5c80",
+        ),
+    ];
+    for (record, expected) in cases {
+        assert_eq!(digits(&record), expected);
+        assert_eq!(read_line(&expected.as_bytes()[..63]), Ok(record));
+    }
+}
+
+#[test]
+fn no_sample_has_anything_in_its_spares() {
+    assert!(samples::all().iter().all(|sample| sample.spares == [0; 2]));
 }
 
 #[test]

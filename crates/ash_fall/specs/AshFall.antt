@@ -4,8 +4,9 @@ use mathlib.Core.Bool.{false, true}
 use mathlib.Core.List.{[], _∷_, _++_}
 use lib.ListN.{getD}
 use Rattle.ash_fall.specs.declared.Eruption.{Eruption}
+use Rattle.rows.specs.declared.fields.Spares.{Spares}
 use Rattle.rows.specs.Values.{timeFrom, timeValues, Sides}
-use Rattle.rows.specs.Layout.{time, twoOrSeven, corrected, spare1, spare, row, within, Slots, Layout}
+use Rattle.rows.specs.Layout.{time, twoOrSeven, corrected, spare1, spareRow, row, within, Slots, Layout}
 use Rattle.rows.specs.Faults.{place}
 
 -- "Four slots from 83, 29 bits each: hour (3, 1-6), strength (3, 1-7), place"
@@ -26,13 +27,13 @@ ashFall = record {
   front = spare1 ∷ time 53 ++ row 69 2 (within 1 2) ∷ row 71 12 (within 101 4000) ∷ [];  -- warning type, volcano
   slots = places;
   text = [];
-  behind = row 199 15 spare ∷ [];
+  behind = spareRow 199 15 ∷ [];
 }
 
 -- what the values of the rows say
 abbrev pub eruptionFrom : Sides → Eruption
 eruptionFrom v = record { time = timeFrom (v .front) 1; warning = getD (v .front) 4 0; volcano = getD (v .front) 5 0 }
 
--- and the values of what they say, with those of the spares
-abbrev pub eruptionValues : Eruption → ℕ → ℕ → Sides
-eruptionValues e x y = record { front = x ∷ timeValues (e .time) ++ e .warning ∷ e .volcano ∷ []; behind = y ∷ [] }
+-- and the values of what they say, with those of the spares, which stand beside it in a record
+abbrev pub eruptionValues : Eruption → Spares → Sides
+eruptionValues e z = record { front = z .first ∷ timeValues (e .time) ++ e .warning ∷ e .volcano ∷ []; behind = z .second ∷ [] }

@@ -4,8 +4,8 @@ ghost use mathlib.Core.List.{[]};
 ghost use Rattle.rows.specs.Runs.Questions.{_then_};
 ghost use Rattle.rows.specs.Runs.Verdict.{walk, bodyVerdict};
 ghost use Rattle.ash_fall.specs.AshFall.{ashFall, eruptionValues, eruptionFrom, places};
-ghost use Rattle.rows.specs.Values.{headValues, sidesAt};
-ghost use Rattle.rows.specs.Runs.Fields.{keptIn, fieldsIn, tableIn, sparesIn};
+ghost use Rattle.rows.specs.Values.{headValues, sidesAt, sparesAt};
+ghost use Rattle.rows.specs.Runs.Fields.{keptIn, fieldsIn, tableIn};
 ghost use Rattle.slots.specs.Slots.{slotsValues};
 
 pub mod meaning; // what a place says
@@ -26,11 +26,11 @@ use slots::slot::Slot;
 
 // What stands in its spares.
 pub fn spares(f: [u8; 32]) -> Spares
-    ensures { λ r. ⌜ r ≡ sparesIn f ashFall ⌝ }
+    ensures { λ r. ⌜ r ≡ sparesAt f ashFall ⌝ }
 {
     Spares {
-        front: bits::field64(f, 43, 10),
-        behind: bits::field64(f, 199, 15),
+        first: bits::field64(f, 43, 10),
+        second: bits::field64(f, 199, 15),
     }
 }
 
@@ -45,6 +45,7 @@ fn table() -> Table
         bits: 29,
         widths: [0, 3, 0, 3, 23],
         text: false,
+        second: true,
         rest: 199,
     }
 }
@@ -79,36 +80,29 @@ impl Eruption {
     }
 
     // The rows in front of the places, behind what has been found.
-    fn front(self, found: Verdict, spare: u64) -> Verdict
-        ensures { λ r. ⌜ r ≡ found then walk [] (ashFall .front) (eruptionValues self spare 0 .front) ⌝ }
+    fn front(self, found: Verdict, spares: Spares) -> Verdict
+        ensures { λ r. ⌜ r ≡ found then walk [] (ashFall .front) (eruptionValues self spares .front) ⌝ }
     {
         let time = self.time;
         found
-            .spare(43, spare)
+            .spare(43, 10, spares.first)
             .time(53, time)
             .within(69, self.warning as u64, 1, 2)
             .within(71, self.volcano as u64, 101, 4000)
     }
 
-    // All rules from bit 8 to bit 213, behind what has been found. The spares are not in the record.
-    pub fn check(
-        self,
-        found: Verdict,
-        c: Common,
-        slots: [Slot; 16],
-        spare1: u64,
-        spare2: u64,
-    ) -> Verdict
-        ensures { λ r. ⌜ r ≡ found then bodyVerdict ashFall (headValues c 9) (eruptionValues self spare1 spare2) (slotsValues places slots) ⌝ }
+    // All rules from bit 8 to bit 213, behind what has been found.
+    pub fn check(self, found: Verdict, c: Common, slots: [Slot; 16], spares: Spares) -> Verdict
+        ensures { λ r. ⌜ r ≡ found then bodyVerdict ashFall (headValues c 9) (eruptionValues self spares) (slotsValues places slots) ⌝ }
     {
         let head = found.common(c, is_two_or_seven(c.rc), is_corrected(c.it));
-        let front = self.front(head, spare1);
-        check_places(front, slots).spare(199, spare2)
+        let front = self.front(head, spares);
+        check_places(front, slots).spare(199, 15, spares.second)
     }
 
     // The rows in front of the places and behind them as numbers, in the order of the table.
-    pub fn fields(self, spare1: u64, spare2: u64) -> Fields
-        ensures { λ r. ⌜ r ≡ fieldsIn ashFall (eruptionValues self spare1 spare2) ⌝ }
+    pub fn fields(self, spares: Spares) -> Fields
+        ensures { λ r. ⌜ r ≡ fieldsIn ashFall (eruptionValues self spares) ⌝ }
     {
         let time = self.time;
         let day = time.day as u64;
@@ -120,7 +114,7 @@ impl Eruption {
             table: table(),
             ahead: [10, 5, 5, 6, 2, 12, 0, 0, 0, 0, 0, 0, 0, 0, 0, 0, 0, 0],
             front: [
-                spare1,
+                spares.first,
                 day,
                 hour,
                 minute,
@@ -140,7 +134,7 @@ impl Eruption {
                 0,
             ],
             after: [15, 0, 0],
-            behind: [spare2, 0, 0],
+            behind: [spares.second, 0, 0],
         }
     }
 }

@@ -4,6 +4,7 @@ use mathlib.Core.Path.{refl}
 use Prim.Native.Nat.{ℕ}
 use mathlib.Core.List.{List, [], _∷_}
 use lib.ListN.{replicate}
+use Rattle.rows.specs.Values.{noSpares}
 use Rattle.slots.specs.Slots.{noSlot}
 use Rattle.pages.specs.declared.name.Name.{Name}
 use Rattle.histories.specs.Frames.{Frame}
@@ -23,6 +24,7 @@ framePaged p = record {
     body = Nankai (record { serial = 1; number = p; total = 2 });
     slots = replicate 16 noSlot;
     text = replicate 18 65;
+    spares = noSpares;
   };
   slots = refl;
   text = refl;

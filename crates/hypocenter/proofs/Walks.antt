@@ -1,10 +1,11 @@
 -- The walk over the fields, cut into the pieces that the code asks.
-use Prim.Native.Nat.{ℕ}
+use Prim.Native.Nat.{_^_}
 use mathlib.Core.Path.{_≡_}
 use mathlib.Core.Bool.{_&&_}
 use mathlib.Core.List.{[], _∷_}
-use lib.Dec.{leb, eqb}
-use Rattle.rows.specs.declared.refusal.Refusal.the-variants.{Range, Spare}
+use lib.Dec.{leb, ltb}
+use Rattle.rows.specs.declared.fields.Spares.{Spares}
+use Rattle.rows.specs.declared.refusal.Refusal.the-variants.{Range}
 use Rattle.hypocenter.specs.declared.Quake.{Quake}
 use Rattle.rows.specs.Runs.Questions.{_then_, unless}
 use Rattle.rows.specs.Layout.{_to_, notified, time}
@@ -15,9 +16,9 @@ use Rattle.rows.proofs.Rules.Outcomes.{then-assoc, fine-then}
 use Rattle.rows.proofs.Rules.Spans.{allowed-one}
 
 -- category 2
-pub quake-walk : (q : Quake) (x : ℕ)
-    → walk [] (hypocenter .front) (quakeValues q x 0 .front)
-    ≡ unless (eqb x 0) (Spare 43)
+pub quake-walk : (q : Quake) (z : Spares)
+    → walk [] (hypocenter .front) (quakeValues q z .front)
+    ≡ unless (ltb (z .first) (2 ^ 10)) (Range 43)
     then unless (allowed notified (q .notification1)) (Range 53)
     then unless (allowed notified (q .notification2)) (Range 62)
     then unless (allowed notified (q .notification3)) (Range 71)
@@ -28,4 +29,4 @@ pub quake-walk : (q : Quake) (x : ℕ)
     then walk [] (angle 122 7 89) (angleValues (q .latitude))
     then walk [] (angle 142 8 179) (angleValues (q .longitude))
 unfolding walk judge
-quake-walk q x = simp (then-assoc, fine-then, allowed-one)
+quake-walk q z = simp (then-assoc, fine-then, allowed-one)

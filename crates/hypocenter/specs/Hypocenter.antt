@@ -6,10 +6,11 @@ use lib.Dec.{eqb, leb}
 use lib.ListN.{getD}
 use Rattle.hypocenter.specs.declared.angle.Angle.{Angle}
 use Rattle.hypocenter.specs.declared.Quake.{Quake}
-use Rattle.rows.specs.Layout.{_to_, time, notifications, within, among, spare, twoOrSeven, uncorrected, spare1, noSlots, row, Rule, Row, Layout}
+use Rattle.rows.specs.Layout.{_to_, time, notifications, within, among, spareRow, twoOrSeven, uncorrected, spare1, noSlots, row, Rule, Row, Layout}
 use Rattle.hypocenter.specs.declared.meaning.Depth.{Depth}
 use Rattle.hypocenter.specs.declared.meaning.Depth.the-variants.{Kilometres, Deeper, Unknown, OutOfRange}
 use Rattle.hypocenter.specs.declared.meaning.Magnitude.{Magnitude}
+use Rattle.rows.specs.declared.fields.Spares.{Spares}
 use Rattle.rows.specs.Values.{timeFrom, timeValues, Sides}
 use Rattle.hypocenter.specs.declared.meaning.Magnitude.the-variants.{InRange, UnknownAboveEight, Unknown as NoMagnitude, OutOfRange as NotAMagnitude}
 
@@ -40,7 +41,7 @@ hypocenter = record {
       ++ angle 142 8 179;  -- longitude
   slots = noSlots;
   text = [];
-  behind = row 163 51 spare ∷ [];
+  behind = spareRow 163 51 ∷ [];
 }
 
 -- ---- what the values of the rows say
@@ -66,11 +67,11 @@ quakeFrom v = record {
 abbrev pub angleValues : Angle → List ℕ
 angleValues a = a .side ∷ a .degrees ∷ a .minutes ∷ a .seconds ∷ []
 
--- with those of the spares, which are not in it
-abbrev pub quakeValues : Quake → ℕ → ℕ → Sides
-quakeValues q x y = record {
+-- with those of the spares, which stand beside it in a record
+abbrev pub quakeValues : Quake → Spares → Sides
+quakeValues q z = record {
   front =
-      x
+      z .first
       ∷ q .notification1
       ∷ q .notification2
       ∷ q .notification3
@@ -80,7 +81,7 @@ quakeValues q x y = record {
       ∷ q .epicenter
       ∷ angleValues (q .latitude)
       ++ angleValues (q .longitude);
-  behind = y ∷ [];
+  behind = z .second ∷ [];
 }
 
 -- "Depth 0 is a depth; 511 is unknown and 501 means deeper than 500 km"

@@ -4,8 +4,8 @@ ghost use mathlib.Core.List.{[]};
 ghost use Rattle.rows.specs.Runs.Questions.{_then_};
 ghost use Rattle.rows.specs.Runs.Verdict.{walk, bodyVerdict};
 ghost use Rattle.hypocenter.specs.Hypocenter.{hypocenter, quakeValues, quakeFrom};
-ghost use Rattle.rows.specs.Values.{headValues, sidesAt};
-ghost use Rattle.rows.specs.Runs.Fields.{keptIn, fieldsIn, tableIn, sparesIn};
+ghost use Rattle.rows.specs.Values.{headValues, sidesAt, sparesAt};
+ghost use Rattle.rows.specs.Runs.Fields.{keptIn, fieldsIn, tableIn};
 
 pub mod meaning; // what the numbers say
 mod codes; // which values a field may hold
@@ -28,11 +28,11 @@ use rows::time::Time;
 
 // What stands in its spares.
 pub fn spares(f: [u8; 32]) -> Spares
-    ensures { λ r. ⌜ r ≡ sparesIn f hypocenter ⌝ }
+    ensures { λ r. ⌜ r ≡ sparesAt f hypocenter ⌝ }
 {
     Spares {
-        front: bits::field64(f, 43, 10),
-        behind: bits::field64(f, 163, 51),
+        first: bits::field64(f, 43, 10),
+        second: bits::field64(f, 163, 51),
     }
 }
 
@@ -47,6 +47,7 @@ fn table() -> Table
         bits: 0,
         widths: [0, 0, 0, 0, 0],
         text: false,
+        second: true,
         rest: 163,
     }
 }
@@ -100,14 +101,14 @@ impl Quake {
     }
 
     // The rows in front, behind what has been found.
-    fn front(self, found: Verdict, spare: u64) -> Verdict
-        ensures { λ r. ⌜ r ≡ found then walk [] (hypocenter .front) (quakeValues self spare 0 .front) ⌝ }
+    fn front(self, found: Verdict, spares: Spares) -> Verdict
+        ensures { λ r. ⌜ r ≡ found then walk [] (hypocenter .front) (quakeValues self spares .front) ⌝ }
     {
         let time = self.time;
         let latitude = self.latitude;
         let longitude = self.longitude;
         let front = found
-            .spare(43, spare)
+            .spare(43, 10, spares.first)
             .ranged(53, is_notification(self.notification1))
             .ranged(62, is_notification(self.notification2))
             .ranged(71, is_notification(self.notification3))
@@ -118,23 +119,23 @@ impl Quake {
         longitude.check(latitude.check(front, 122, 7, 89), 142, 8, 179)
     }
 
-    // All rules from bit 8 to bit 213, behind what has been found. The spares are not in the record.
-    pub fn check(self, found: Verdict, c: Common, spare1: u64, spare2: u64) -> Verdict
-        ensures { λ r. ⌜ r ≡ found then bodyVerdict hypocenter (headValues c 2) (quakeValues self spare1 spare2) [] ⌝ }
+    // All rules from bit 8 to bit 213, behind what has been found.
+    pub fn check(self, found: Verdict, c: Common, spares: Spares) -> Verdict
+        ensures { λ r. ⌜ r ≡ found then bodyVerdict hypocenter (headValues c 2) (quakeValues self spares) [] ⌝ }
     {
         let head = found.common(c, is_two_or_seven(c.rc), is_uncorrected(c.it));
-        self.front(head, spare1).spare(163, spare2)
+        self.front(head, spares).spare(163, 51, spares.second)
     }
 
     // The rows in front as numbers, in the order of the table.
-    fn values(self, spare: u64) -> [u64; 18]
-        ensures { λ r. ⌜ r ≡ quakeValues self spare 0 .front ⌝ }
+    fn values(self, spares: Spares) -> [u64; 18]
+        ensures { λ r. ⌜ r ≡ quakeValues self spares .front ⌝ }
     {
         let time = self.time;
         let latitude = self.latitude;
         let longitude = self.longitude;
         [
-            spare,
+            spares.first,
             self.notification1 as u64,
             self.notification2 as u64,
             self.notification3 as u64,
@@ -156,16 +157,16 @@ impl Quake {
     }
 
     // The same with the row behind, and the widths of all.
-    pub fn fields(self, spare1: u64, spare2: u64) -> Fields
-        ensures { λ r. ⌜ r ≡ fieldsIn hypocenter (quakeValues self spare1 spare2) ⌝ }
+    pub fn fields(self, spares: Spares) -> Fields
+        ensures { λ r. ⌜ r ≡ fieldsIn hypocenter (quakeValues self spares) ⌝ }
     {
-        let front = self.values(spare1);
+        let front = self.values(spares);
         Fields {
             table: table(),
             ahead: [10, 9, 9, 9, 5, 5, 6, 9, 7, 10, 1, 7, 6, 6, 1, 8, 6, 6],
             front: front,
             after: [51, 0, 0],
-            behind: [spare2, 0, 0],
+            behind: [spares.second, 0, 0],
         }
     }
 }

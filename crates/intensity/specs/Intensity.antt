@@ -2,7 +2,8 @@
 use Prim.Native.Nat.{ℕ}
 use mathlib.Core.Bool.{false, true}
 use mathlib.Core.List.{[], _∷_}
-use Rattle.rows.specs.Layout.{time, within, spare, row, twoOrSeven, uncorrected, spare1, Slots, Layout}
+use Rattle.rows.specs.Layout.{time, within, spareRow, row, twoOrSeven, uncorrected, spare1, Slots, Layout}
+use Rattle.rows.specs.declared.fields.Spares.{Spares}
 use Rattle.rows.specs.Values.{timeFrom, timeValues, Sides}
 use Rattle.intensity.specs.declared.Shaking.{Shaking}
 
@@ -24,13 +25,13 @@ intensity = record {
   front = spare1 ∷ time 53;
   slots = prefectures;
   text = [];
-  behind = row 213 1 spare ∷ [];
+  behind = spareRow 213 1 ∷ [];
 }
 
 -- what the values of the rows say
 abbrev pub shakingFrom : Sides → Shaking
 shakingFrom v = record { time = timeFrom (v .front) 1 }
 
--- and the values of what they say, with those of the spares
-abbrev pub shakingValues : Shaking → ℕ → ℕ → Sides
-shakingValues t x y = record { front = x ∷ timeValues (t .time); behind = y ∷ [] }
+-- and the values of what they say, with those of the spares, which stand beside it in a record
+abbrev pub shakingValues : Shaking → Spares → Sides
+shakingValues t z = record { front = z .first ∷ timeValues (t .time); behind = z .second ∷ [] }

@@ -4,8 +4,8 @@ ghost use mathlib.Core.List.{[]};
 ghost use Rattle.rows.specs.Runs.Questions.{_then_};
 ghost use Rattle.rows.specs.Runs.Verdict.{walk, bodyVerdict};
 ghost use Rattle.intensity.specs.Intensity.{intensity, shakingValues, prefectures, shakingFrom};
-ghost use Rattle.rows.specs.Values.{headValues, sidesAt};
-ghost use Rattle.rows.specs.Runs.Fields.{keptIn, fieldsIn, tableIn, sparesIn};
+ghost use Rattle.rows.specs.Values.{headValues, sidesAt, sparesAt};
+ghost use Rattle.rows.specs.Runs.Fields.{keptIn, fieldsIn, tableIn};
 ghost use Rattle.slots.specs.Slots.{slotsValues};
 
 pub mod prefectures; // its slots
@@ -23,11 +23,11 @@ use slots::slot::Slot;
 
 // What stands in its spares.
 pub fn spares(f: [u8; 32]) -> Spares
-    ensures { λ r. ⌜ r ≡ sparesIn f intensity ⌝ }
+    ensures { λ r. ⌜ r ≡ sparesAt f intensity ⌝ }
 {
     Spares {
-        front: bits::field64(f, 43, 10),
-        behind: bits::field64(f, 213, 1),
+        first: bits::field64(f, 43, 10),
+        second: bits::field64(f, 213, 1),
     }
 }
 
@@ -42,6 +42,7 @@ fn table() -> Table
         bits: 9,
         widths: [0, 0, 0, 3, 6],
         text: false,
+        second: true,
         rest: 213,
     }
 }
@@ -70,32 +71,25 @@ impl Shaking {
     }
 
     // The rows in front of the prefectures, behind what has been found.
-    fn front(self, found: Verdict, spare: u64) -> Verdict
-        ensures { λ r. ⌜ r ≡ found then walk [] (intensity .front) (shakingValues self spare 0 .front) ⌝ }
+    fn front(self, found: Verdict, spares: Spares) -> Verdict
+        ensures { λ r. ⌜ r ≡ found then walk [] (intensity .front) (shakingValues self spares .front) ⌝ }
     {
         let time = self.time;
-        found.spare(43, spare).time(53, time)
+        found.spare(43, 10, spares.first).time(53, time)
     }
 
-    // All rules from bit 8 to bit 213, behind what has been found. The spares are not in the record.
-    pub fn check(
-        self,
-        found: Verdict,
-        c: Common,
-        slots: [Slot; 16],
-        spare1: u64,
-        spare2: u64,
-    ) -> Verdict
-        ensures { λ r. ⌜ r ≡ found then bodyVerdict intensity (headValues c 3) (shakingValues self spare1 spare2) (slotsValues prefectures slots) ⌝ }
+    // All rules from bit 8 to bit 213, behind what has been found.
+    pub fn check(self, found: Verdict, c: Common, slots: [Slot; 16], spares: Spares) -> Verdict
+        ensures { λ r. ⌜ r ≡ found then bodyVerdict intensity (headValues c 3) (shakingValues self spares) (slotsValues prefectures slots) ⌝ }
     {
         let head = found.common(c, is_two_or_seven(c.rc), is_uncorrected(c.it));
-        let front = self.front(head, spare1);
-        check_prefectures(front, slots).spare(213, spare2)
+        let front = self.front(head, spares);
+        check_prefectures(front, slots).spare(213, 1, spares.second)
     }
 
     // The rows in front of the prefectures and behind them as numbers, in the order of the table.
-    pub fn fields(self, spare1: u64, spare2: u64) -> Fields
-        ensures { λ r. ⌜ r ≡ fieldsIn intensity (shakingValues self spare1 spare2) ⌝ }
+    pub fn fields(self, spares: Spares) -> Fields
+        ensures { λ r. ⌜ r ≡ fieldsIn intensity (shakingValues self spares) ⌝ }
     {
         let time = self.time;
         let day = time.day as u64;
@@ -105,7 +99,7 @@ impl Shaking {
             table: table(),
             ahead: [10, 5, 5, 6, 0, 0, 0, 0, 0, 0, 0, 0, 0, 0, 0, 0, 0, 0],
             front: [
-                spare1,
+                spares.first,
                 day,
                 hour,
                 minute,
@@ -125,7 +119,7 @@ impl Shaking {
                 0,
             ],
             after: [1, 0, 0],
-            behind: [spare2, 0, 0],
+            behind: [spares.second, 0, 0],
         }
     }
 }

@@ -2,10 +2,10 @@
 use Rattle.bits.specs.Frame.{Bytes}
 use Rattle.rows.specs.declared.refusal.Verdict.the-variants.{Fine}
 use mathlib.Core.List.{List, [], _∷_}
-use Rattle.rows.specs.declared.refusal.Refusal.the-variants.{Range, Spare}
+use Rattle.rows.specs.declared.refusal.Refusal.the-variants.{Range}
 use Rattle.rows.specs.declared.refusal.Verdict.{Verdict}
-use Prim.Native.Nat.{_+_, _<_, _≤_, suc, zero, zero-le, ℕ}
-use Rattle.rows.specs.Runs.Questions.{_then_, unless}
+use Prim.Native.Nat.{_+_, _^_, _<_, _≤_, suc, zero, zero-le, ℕ}
+use Rattle.rows.specs.Runs.Questions.{_then_}
 use Rattle.rows.specs.Layout.{_to_, bytes}
 use mathlib.Core.Path.{_∙_, _≡_, ap, refl}
 use native.Mathlib.Omega.{arith}
@@ -16,7 +16,8 @@ use Rattle.rows.specs.Runs.Verdict.{judge, walk, ranged}
 use Rattle.nankai.specs.Nankai.{nankai, numberValues}
 use Rattle.nankai.specs.declared.PageNumbers.{PageNumbers}
 use mathlib.Core.Bool.{_&&_}
-use lib.Dec.{eqb, leb}
+use lib.Dec.{leb, ltb}
+use Rattle.rows.specs.declared.fields.Spares.{Spares}
 
 byte : (x : ℕ) → x < 256 → x ≤ 255
 byte x k = omega arith
@@ -35,13 +36,13 @@ pub any-text-passes : (text : List ℕ) → Bytes text → walk [] (nankai .text
 any-text-passes text h = bytes-pass 18 57 [] text h
 
 -- what is asked of a page's numbers, as the code asks it
-pub front-walk : (p : PageNumbers) (x y : ℕ) → walk [] (nankai .front) (numberValues p x y .front) ≡ unless (eqb x 0) (Spare 43) then ranged (leb 1 (p .serial) && leb (p .serial) 15) 53
+pub front-walk : (p : PageNumbers) (z : Spares) → walk [] (nankai .front) (numberValues p z .front) ≡ ranged (ltb (z .first) (2 ^ 10)) 43 then ranged (leb 1 (p .serial) && leb (p .serial) 15) 53
 unfolding walk judge
-front-walk p x y = simp (then-fine, allowed-one)
+front-walk p z = simp (then-fine, allowed-one)
 
-pub behind-walk : (p : PageNumbers) (x y : ℕ) → walk [] (nankai .behind) (numberValues p x y .behind)
+pub behind-walk : (p : PageNumbers) (z : Spares) → walk [] (nankai .behind) (numberValues p z .behind)
     ≡ ranged (leb 1 (p .number) && leb (p .number) 63) 201
     then ranged (leb (p .number) (p .total) && leb (p .total) 63) 207
-    then unless (eqb y 0) (Spare 213)
+    then ranged (ltb (z .second) (2 ^ 1)) 213
 unfolding walk judge
-behind-walk p x y = simp (then-fine, allowed-one)
+behind-walk p z = simp (then-fine, allowed-one)

@@ -3,8 +3,8 @@
 ghost use mathlib.Core.Path.{_≡_};
 ghost use mathlib.Core.List.{[]};
 ghost use Rattle.bits.specs.Frame.{laid};
-ghost use Rattle.rows.specs.Values.{widths, headValues, sidesAt};
-ghost use Rattle.rows.specs.Runs.Fields.{keptIn, fieldsIn, tableIn, sparesIn};
+ghost use Rattle.rows.specs.Values.{widths, headValues, sidesAt, sparesAt};
+ghost use Rattle.rows.specs.Runs.Fields.{keptIn, fieldsIn, tableIn};
 ghost use Rattle.rows.specs.Runs.Questions.{_then_};
 ghost use Rattle.rows.specs.Runs.Verdict.{bodyVerdict};
 ghost use Rattle.nankai.specs.Nankai.{nankai, pageText, numberValues, numbersFrom};
@@ -19,11 +19,11 @@ use rows::refusal::Verdict;
 
 // What stands in its spares.
 pub fn spares(f: [u8; 32]) -> Spares
-    ensures { λ r. ⌜ r ≡ sparesIn f nankai ⌝ }
+    ensures { λ r. ⌜ r ≡ sparesAt f nankai ⌝ }
 {
     Spares {
-        front: bits::field64(f, 43, 10),
-        behind: bits::field64(f, 213, 1),
+        first: bits::field64(f, 43, 10),
+        second: bits::field64(f, 213, 1),
     }
 }
 
@@ -38,6 +38,7 @@ fn table() -> Table
         bits: 0,
         widths: [0, 0, 0, 0, 0],
         text: true,
+        second: true,
         rest: 201,
     }
 }
@@ -72,23 +73,22 @@ impl PageNumbers {
         }
     }
 
-    // All rules from bit 8 to bit 213, behind what has been found. The spares are not in the record, and of the
-    // text nothing is asked: any byte passes.
-    pub fn check(self, found: Verdict, c: Common, spare1: u64, spare2: u64) -> Verdict
-        ensures { λ r. ⌜ r ≡ found then bodyVerdict nankai (headValues c 4) (numberValues self spare1 spare2) [] ⌝ }
+    // All rules from bit 8 to bit 213, behind what has been found. Of the text nothing is asked: any byte passes.
+    pub fn check(self, found: Verdict, c: Common, spares: Spares) -> Verdict
+        ensures { λ r. ⌜ r ≡ found then bodyVerdict nankai (headValues c 4) (numberValues self spares) [] ⌝ }
     {
         found
             .common(c, is_two_or_seven(c.rc), is_uncorrected(c.it))
-            .spare(43, spare1)
+            .spare(43, 10, spares.first)
             .within(53, self.serial as u64, 1, 15)
             .within(201, self.number as u64, 1, 63)
             .within(207, self.total as u64, self.number as u64, 63)
-            .spare(213, spare2)
+            .spare(213, 1, spares.second)
     }
 
     // The rows in front of the text and behind it as numbers, in the order of the table.
-    pub fn fields(self, spare1: u64, spare2: u64) -> Fields
-        ensures { λ r. ⌜ r ≡ fieldsIn nankai (numberValues self spare1 spare2) ⌝ }
+    pub fn fields(self, spares: Spares) -> Fields
+        ensures { λ r. ⌜ r ≡ fieldsIn nankai (numberValues self spares) ⌝ }
     {
         let serial = self.serial as u64;
         let number = self.number as u64;
@@ -97,7 +97,7 @@ impl PageNumbers {
             table: table(),
             ahead: [10, 4, 0, 0, 0, 0, 0, 0, 0, 0, 0, 0, 0, 0, 0, 0, 0, 0],
             front: [
-                spare1,
+                spares.first,
                 serial,
                 0,
                 0,
@@ -117,7 +117,7 @@ impl PageNumbers {
                 0,
             ],
             after: [6, 6, 1],
-            behind: [number, total, spare2],
+            behind: [number, total, spares.second],
         }
     }
 }

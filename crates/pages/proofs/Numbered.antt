@@ -7,6 +7,7 @@ use Rattle.nankai.specs.declared.PageNumbers.{PageNumbers}
 use Rattle.report.specs.declared.record.Record.{Record}
 use Rattle.nankai.specs.Nankai.{nankai, numberValues}
 use Rattle.report.specs.Records.{values}
+use Rattle.rows.specs.declared.fields.Spares.{Spares}
 use Rattle.rows.specs.Kept.{Kept}
 use Rattle.report.specs.Runs.Writing.{Valid}
 use Rattle.report.proofs.Claims.{valid-keeps-rules}
@@ -20,9 +21,9 @@ pub record Numbered (p : PageNumbers) : Type 0 where
   pub high : p .number ≤ p .total
   pub most : p .total ≤ 63
 
-pub kept-numbered : (p : PageNumbers) → Kept [] (nankai .behind) (numberValues p 0 0 .behind) → Numbered p
-kept-numbered p h = record { low = ⊎-elim (λ z. z .0) (λ z. absurd z) (h .0); high = h .1 .0 .0; most = h .1 .0 .1 }
+pub kept-numbered : (p : PageNumbers) (z : Spares) → Kept [] (nankai .behind) (numberValues p z .behind) → Numbered p
+kept-numbered p z h = record { low = ⊎-elim (λ z. z .0) (λ z. absurd z) (h .0); high = h .1 .0 .0; most = h .1 .0 .1 }
 
 pub numbered : (r : Record) (p : PageNumbers) → Shaped r → Valid r → r .body ≡ Nankai p → Numbered p
 unfolding values
-numbered r p s v e = kept-numbered p (subst (λ (b : Body). Kept [] (layout b .behind) (sidesOf b 0 0 .behind)) e (valid-keeps-rules r s v .rows .behind))
+numbered r p s v e = kept-numbered p (r .spares) (subst (λ (b : Body). Kept [] (layout b .behind) (sidesOf b (r .spares) .behind)) e (valid-keeps-rules r s v .rows .behind))

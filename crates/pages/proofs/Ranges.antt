@@ -22,7 +22,8 @@ use Rattle.rows.specs.Runs.Questions.{_then_, unless}
 use Rattle.nankai.proofs.Walks.{any-text-passes}
 use Rattle.rows.specs.Runs.Verdict.{bodyVerdict, verdict, allowed, judge, walk}
 use lib.ListN.{replicate}
-use Rattle.rows.specs.Values.{headValues, lastValues}
+use Rattle.rows.specs.Values.{headValues, lastValues, noSpares}
+use Rattle.rows.specs.declared.fields.Spares.{Spares}
 use lib.Dec.{lit<}
 use Rattle.rows.specs.Layout.{ending}
 
@@ -57,13 +58,13 @@ last-passes : walk [] ending (lastValues 0) ≡ Fine
 unfolding walk judge unless allowed _then_
 last-passes = refl
 
-pub name-found : (n : Name) (v : Verdict) → v ≡ Fine then bodyVerdict nankai (headValues (n .common) 4) (numberValues (pageOne n) 0 0) [] → v ≡ nameVerdict n
+pub name-found : (n : Name) (z : Spares) (v : Verdict) → z ≡ noSpares → v ≡ Fine then bodyVerdict nankai (headValues (n .common) 4) (numberValues (pageOne n) z) [] → v ≡ nameVerdict n
 unfolding nameVerdict verdict bodyVerdict
-name-found n v e = e ∙ simp (any-text-passes (replicate 18 0) (zero-bytes 18), last-passes, fine-then, then-fine, then-assoc)
+name-found n z v q e = e ∙ simp (q, any-text-passes (replicate 18 0) (zero-bytes 18), last-passes, fine-then, then-fine, then-assoc)
 
 -- its first page is page 1 of a total from 1 to 63
 name-numbered : (n : Name) → nameVerdict n ≡ Fine → Numbered (pageOne n)
-name-numbered n h = kept-numbered (pageOne n) (fine-holds n h .behind)
+name-numbered n h = kept-numbered (pageOne n) noSpares (fine-holds n h .behind)
 
 pub total-most : (n : Name) → nameVerdict n ≡ Fine → n .total ≤ 63
 total-most n h = name-numbered n h .most

@@ -11,7 +11,7 @@ use Rattle.rows.specs.Runs.Verdict.{verdict}
 use Rattle.pages.specs.declared.name.Name.{Name}
 use Rattle.rows.specs.declared.common.Common.{Common}
 use Rattle.nankai.specs.declared.PageNumbers.{PageNumbers}
-use Rattle.rows.specs.Values.{Values, headValues, lastValues}
+use Rattle.rows.specs.Values.{Values, headValues, lastValues, noSpares}
 use mathlib.Core.List.{[]}
 use Rattle.bits.specs.Frame.{number}
 
@@ -26,10 +26,10 @@ pageOne n = record { serial = n .serial; number = 1; total = n .total }
 abbrev pub nameValues : Name → Values
 nameValues n = record {
   head = headValues (n .common) 4;
-  front = numberValues (pageOne n) 0 0 .front;
+  front = numberValues (pageOne n) noSpares .front;
   slots = [];
   text = replicate 18 0;
-  behind = numberValues (pageOne n) 0 0 .behind;
+  behind = numberValues (pageOne n) noSpares .behind;
   last = lastValues 0;
 }
 

@@ -5,6 +5,7 @@ ghost use Rattle.rows.specs.Refusals.{answers};
 ghost use Rattle.pages.specs.Names.{zeroName, nameVerdict, nameSays, nameInRange, sameCommon, sameName};
 use nankai::PageNumbers;
 use rows::common::Common;
+use rows::fields::Spares;
 use rows::refusal::Verdict;
 
 pub struct Name {
@@ -65,7 +66,7 @@ impl Name {
             number: 1,
             total: self.total,
         };
-        page.check(Verdict::Fine, common, 0, 0)
+        page.check(Verdict::Fine, common, Spares::none())
     }
 
     pub fn is_in_range(self) -> bool

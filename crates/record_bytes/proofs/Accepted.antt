@@ -25,7 +25,7 @@ use Rattle.report.proofs.Shaped.{Shaped}
 use Rattle.report.specs.Records.{zeros}
 use Rattle.report.proofs.Writing.Validity.{known-is, valid-keeps}
 use Rattle.record_bytes.specs.Packed.{bodyBytes, headBytes, slotBytes, slotsBytes, packed}
-use Rattle.record_bytes.specs.Unpacked.{bodyInBytes, sidesInBytes, misplaced, slotAt, slotsFrom, slotsOrMisplaced, stray, textInBytes, recordFrom, unpackedAs, unpacked}
+use Rattle.record_bytes.specs.Unpacked.{bodyInBytes, sidesInBytes, misplaced, slotAt, slotsFrom, slotsOrMisplaced, sparesInBytes, stray, textInBytes, recordFrom, unpackedAs, unpacked}
 use Rattle.record_bytes.proofs.Cells.{wide-number}
 use Rattle.record_bytes.proofs.FromBytes.Places.{each-same, byte-behind, first-bytes}
 use Rattle.record_bytes.proofs.FromBytes.Refused.{stray-refused}
@@ -117,7 +117,7 @@ module _ (l : List ℕ) (long : length l ≡ 251) (bytes : Bytes l) (valid : Val
       by true e = absurd (not-both (writeAnswer (unpacked l) 32) _ valid (stray-refused l e (in-allowed preambles (getD l 1 0) (keeps .preamble)) has-category))
       by false e = e
 
-  own-bytes : bodyBytes body ≡ take 32 (drop 9 l)
+  own-bytes : bodyBytes body (sparesInBytes l body) ≡ take 32 (drop 9 l)
   own-bytes = sym (same-eq _ _ (unstray _ none-stray))
     where
       unstray : (b : Bool) → not b ≡ false → b ≡ true
@@ -149,8 +149,8 @@ module _ (l : List ℕ) (long : length l ≡ 251) (bytes : Bytes l) (valid : Val
   unfolding packed unpackedAs body
   accepted-bytes =
       let tail : List ℕ = slotsBytes (slotsOrMisplaced (stray (bodyInBytes l) l) (slotsFrom l)) ++ textInBytes l in
-      append-assoc (headBytes (unpacked l) ++ bodyBytes (bodyInBytes l)) (slotsBytes (slotsOrMisplaced (stray (bodyInBytes l) l) (slotsFrom l))) (textInBytes l)
-      ∙ append-assoc (headBytes (unpacked l)) (bodyBytes (bodyInBytes l)) tail
+      append-assoc (headBytes (unpacked l) ++ bodyBytes (bodyInBytes l) (sparesInBytes l (bodyInBytes l))) (slotsBytes (slotsOrMisplaced (stray (bodyInBytes l) l) (slotsFrom l))) (textInBytes l)
+      ∙ append-assoc (headBytes (unpacked l)) (bodyBytes (bodyInBytes l) (sparesInBytes l (bodyInBytes l))) tail
       ∙ (λ i. head-part i ++ (own-bytes i ++ slots-and-text i))
       ∙ ap (λ (t : List ℕ). take 9 l ++ t) (ap (λ (t : List ℕ). take 32 (drop 9 l) ++ t) (sym (drop-drop 32 9 l)) ∙ take-append-drop 32 (drop 9 l))
       ∙ take-append-drop 9 l

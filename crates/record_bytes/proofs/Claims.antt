@@ -42,7 +42,7 @@ valid-records-fit-their-bytes = ValidFits.valid-fits
 pub accepted-bytes-are-given-back : (l : List ℕ) → length l ≡ 251 → Bytes l → Valid (unpacked l) → packed (unpacked l) ≡ l
 accepted-bytes-are-given-back = Accepted.accepted-bytes
 
--- A spare that is not zero in bytes 9 to 40, or something behind the category's last field, is 11, and in its turn: "1, 3, 7, 11, then 8 and 10 by lowest bit".
+-- Something behind the category's last field in bytes 9 to 40 is 11, and in its turn: "1, 3, 7, 11, then 8 and 10 by lowest bit".
 pub stray-bytes-are-refused : (l : List ℕ) → stray (bodyInBytes l) l ≡ true → allowed preambles (getD l 1 0) ≡ true → known (bodyInBytes l) ≡ true
     → writeAnswer (unpacked l) 32 ≡ Refused Unused
 stray-bytes-are-refused = Refusing.stray-refused

@@ -10,22 +10,23 @@ use lib.Seq.{drop-at, drop-drop, take-at}
 use Rattle.bits.specs.Frame.{number}
 use Rattle.slots.specs.declared.slot.Slot.{Slot}
 use Rattle.report.specs.declared.record.Record.{Record}
-use Rattle.rows.specs.Values.{each, sameBytes, widths}
+use Rattle.rows.specs.Values.{each, hasSpare, sameBytes, sparesFrom, widths}
+use Rattle.rows.specs.declared.fields.Spares.{Spares}
 use Rattle.rows.proofs.Rules.Tests.{same-refl}
 use Rattle.lent.specs.Numbers.{wide}
 use Rattle.record_bytes.specs.Packed.{bodyBytes, cells, slotBytes, slotsBytes, packed}
-use Rattle.record_bytes.specs.Unpacked.{bodyInBytes, sidesInBytes, size, slotAt, stray, slotsFrom, slotsOrMisplaced, textInBytes, unpackedAs, unpacked}
+use Rattle.record_bytes.specs.Unpacked.{bodyInBytes, sidesInBytes, size, slotAt, sparesInBytes, stray, strayAs, slotsFrom, slotsOrMisplaced, textInBytes, unpackedAs, unpacked}
 use Rattle.record_bytes.proofs.Cells.{FitBytes, cells-back, length-cells, number-wide}
 use Rattle.record_bytes.proofs.ToBytes.Whole.{front, most, length-body, length-front, length-most}
 use Rattle.record_bytes.proofs.FromBytes.Places.{each-same, byte-behind, number-behind}
 use Rattle.report.specs.declared.body.Body.{Body}
 use Rattle.report.specs.Categories.{layout, sidesOf}
-use Rattle.report.proofs.Categories.{body-again, sides-filled}
+use Rattle.report.proofs.Categories.{body-again, sides-filled, spares-again}
 
--- ---- the numbers fit their bytes
+-- ---- the numbers fit their bytes, and a second spare has some
 
-abbrev pub BodyFits : Body → Type 0
-BodyFits b = FitBytes (widths (layout b .front)) (sidesOf b 0 0 .front) × FitBytes (widths (layout b .behind)) (sidesOf b 0 0 .behind)
+abbrev pub BodyFits : Body → Spares → Type 0
+BodyFits b z = FitBytes (widths (layout b .front)) (sidesOf b z .front) × FitBytes (widths (layout b .behind)) (sidesOf b z .behind)
 
 abbrev pub SlotsFit : List Slot → Type 0
 SlotsFit [] = Unit
@@ -34,7 +35,8 @@ SlotsFit (s ∷ ss) = (s .place < 2 ^ 64) × SlotsFit ss
 pub record Fits (r : Record) : Type 0 where
   pub slots : length (r .slots) ≡ 16
   pub text : length (r .text) ≡ 18
-  pub body : BodyFits (r .body)
+  pub body : BodyFits (r .body) (r .spares)
+  pub spare : hasSpare (layout (r .body) .behind) ≡ false → r .spares .second ≡ 0
   pub places : SlotsFit (r .slots)
 
 -- ---- one behind the other
@@ -74,20 +76,20 @@ module _ (r : Record) (f : Fits r) where
   behind-front = append-assoc (front r) (slotsBytes (r .slots)) (r .text)
 
   -- from byte 9 on
-  behind-head : drop 9 (packed r) ≡ bodyBytes (r .body) ++ (slotsBytes (r .slots) ++ r .text)
+  behind-head : drop 9 (packed r) ≡ bodyBytes (r .body) (r .spares) ++ (slotsBytes (r .slots) ++ r .text)
   unfolding packed
-  behind-head = append-assoc (bodyBytes (r .body)) (slotsBytes (r .slots)) (r .text)
+  behind-head = append-assoc (bodyBytes (r .body) (r .spares)) (slotsBytes (r .slots)) (r .text)
 
-  sides-part : sidesInBytes (packed r) (layout (r .body)) ≡ sidesOf (r .body) 0 0
+  sides-part : sidesInBytes (packed r) (layout (r .body)) ≡ sidesOf (r .body) (r .spares)
   sides-part =
       let l = layout (r .body) in
-      let v = sidesOf (r .body) 0 0 in
+      let v = sidesOf (r .body) (r .spares) in
       let a : List ℕ = cells (widths (l .front)) (v .front) in
       let b : List ℕ = cells (widths (l .behind)) (v .behind) in
       let z : List ℕ = replicate (32 - length (a ++ b)) 0 in
       let c : List ℕ = slotsBytes (r .slots) ++ r .text in
       let start : drop 9 (packed r) ≡ a ++ (b ++ (z ++ c)) = behind-head ∙ append-assoc (a ++ b) z c ∙ append-assoc a b (z ++ c) in
-      let n : length a ≡ size (widths (l .front)) = length-cells (widths (l .front)) (v .front) (length-map (l .front) (λ x. x .width) ∙ sym (sides-filled (r .body) 0 0 .0)) in
+      let n : length a ≡ size (widths (l .front)) = length-cells (widths (l .front)) (v .front) (length-map (l .front) (λ x. x .width) ∙ sym (sides-filled (r .body) (r .spares) .0)) in
       let more : drop (9 + size (widths (l .front))) (packed r) ≡ b ++ (z ++ c) =
       sym (drop-drop (size (widths (l .front))) 9 (packed r)) ∙ ap (drop (size (widths (l .front)))) start ∙ drop-at a (b ++ (z ++ c)) (size (widths (l .front))) n
       in
@@ -98,12 +100,16 @@ module _ (r : Record) (f : Fits r) where
 
   body-part : bodyInBytes (packed r) ≡ r .body
   unfolding packed
-  body-part = body-again (r .body) 0 0 (sidesInBytes (packed r)) sides-part
+  body-part = body-again (r .body) (r .spares) (sidesInBytes (packed r)) sides-part
+
+  spares-part : sparesInBytes (packed r) (r .body) ≡ r .spares
+  spares-part = ap (sparesFrom (layout (r .body))) sides-part ∙ spares-again (r .body) (r .spares) (f .spare)
 
   stray-part : stray (r .body) (packed r) ≡ false
   stray-part =
-      ap (λ (l : List ℕ). not (sameBytes l (bodyBytes (r .body)))) (ap (take 32) behind-head ∙ take-at (bodyBytes (r .body)) (slotsBytes (r .slots) ++ r .text) 32 (length-body (r .body)))
-      ∙ ap not (same-refl (bodyBytes (r .body)))
+      ap (λ (z : Spares). strayAs (r .body) z (packed r)) spares-part
+      ∙ ap (λ (l : List ℕ). not (sameBytes l (bodyBytes (r .body) (r .spares)))) (ap (take 32) behind-head ∙ take-at (bodyBytes (r .body) (r .spares)) (slotsBytes (r .slots) ++ r .text) 32 (length-body (r .body) (r .spares)))
+      ∙ ap not (same-refl (bodyBytes (r .body) (r .spares)))
 
   slots-part : slotsFrom (packed r) ≡ r .slots
   slots-part =
@@ -130,6 +136,7 @@ module _ (r : Record) (f : Fits r) where
     body = r .body;
     slots = (ap (λ (b : Bool). slotsOrMisplaced b (slotsFrom (packed r))) stray-part ∙ slots-part) i;
     text = text-part i;
+    spares = spares-part i;
   }
 
   pub back : unpacked (packed r) ≡ r

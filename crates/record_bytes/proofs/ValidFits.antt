@@ -68,12 +68,12 @@ in-bytes s (r ∷ rs) n =
     let q = and-both (leb (r .width) 64) (narrow rs) n in
     (narrower (cut s r) (r .width) (8 * bytesFor (r .width)) (field-lt s (r .first) (r .width)) (has-room (r .width) (leb-true (r .width) 64 (q .0))), in-bytes s rs (q .1))
 
-body-fits : (s : List ℕ) → Conforms s → BodyFits (bodyOf s)
+body-fits : (s : List ℕ) → Conforms s → BodyFits (bodyOf s) (recordOf s .spares)
 unfolding recordAs values valuesOf
 body-fits s c =
     let l = layout (bodyOf s) in
-    let front : map (cut s) (l .front) ≡ sidesOf (bodyOf s) 0 0 .front = sym (ap (λ (v : Values). v .front) (same-values s c)) in
-    let behind : map (cut s) (l .behind) ≡ sidesOf (bodyOf s) 0 0 .behind = sym (ap (λ (v : Values). v .behind) (same-values s c)) in
+    let front : map (cut s) (l .front) ≡ sidesOf (bodyOf s) (recordOf s .spares) .front = sym (ap (λ (v : Values). v .front) (same-values s c)) in
+    let behind : map (cut s) (l .behind) ≡ sidesOf (bodyOf s) (recordOf s .spares) .behind = sym (ap (λ (v : Values). v .behind) (same-values s c)) in
     (subst (FitBytes (widths (l .front))) front (in-bytes s (l .front) (table s c .front)), subst (FitBytes (widths (l .behind))) behind (in-bytes s (l .behind) (table s c .behind)))
 
 -- ---- slots
@@ -117,6 +117,7 @@ read-fits s c =
       slots = frame-shaped s (bodyOf s) .slots;
       text = frame-shaped s (bodyOf s) .text;
       body = body-fits s c;
+      spare = frame-keeps s c .tidy .spare;
       places = each-fits (l .slots) s (16 - l .slots .count) (l .slots .count) _ (table s c .slots);
     }
 

@@ -8,8 +8,7 @@
 --   4 to 7      month, day, hour, minute of the issue
 --   8           It
 --   9 to 40     the fields of the category's table that are no slot and no text, spares among them, in the order of the
---               frame: one byte for at most 8 bits, two for 16, four for 32, else eight; zeros behind them. A record has
---               no spares, so theirs are zero
+--               frame: one byte for at most 8 bits, two for 16, four for 32, else eight; zeros behind them
 --   41 to 232   sixteen slots of twelve bytes: day, hour, minute, strength, place (8)
 --   233 to 250  text
 use Prim.Native.Nat.{ℕ, _-_}
@@ -21,6 +20,7 @@ use Rattle.lent.specs.Numbers.{wide}
 use Rattle.slots.specs.declared.slot.Slot.{Slot}
 use Rattle.report.specs.declared.record.Record.{Record}
 use Rattle.rows.specs.Layout.{Layout}
+use Rattle.rows.specs.declared.fields.Spares.{Spares}
 use Rattle.rows.specs.Values.{Sides, widths}
 use Rattle.rows.specs.Runs.Fields.{bytesFor}
 use Rattle.report.specs.declared.body.Body.{Body}
@@ -55,8 +55,8 @@ cells (w ∷ ws) (v ∷ vs) = wide (bytesFor w) v ++ cells ws vs
 abbrev pub sidesBytes : Layout → Sides → List ℕ
 sidesBytes l v = cells (widths (l .front)) (v .front) ++ cells (widths (l .behind)) (v .behind)
 
-abbrev pub bodyBytes : Body → List ℕ
-bodyBytes b = zeroFilled 32 (sidesBytes (layout b) (sidesOf b 0 0))
+abbrev pub bodyBytes : Body → Spares → List ℕ
+bodyBytes b z = zeroFilled 32 (sidesBytes (layout b) (sidesOf b z))
 
 -- ---- 41 to 232
 
@@ -70,7 +70,7 @@ slotsBytes (s ∷ ss) = slotBytes s ++ slotsBytes ss
 -- ---- all of them
 
 unfoldable pub packed : Record → List ℕ
-packed r = headBytes r ++ bodyBytes (r .body) ++ slotsBytes (r .slots) ++ r .text
+packed r = headBytes r ++ bodyBytes (r .body) (r .spares) ++ slotsBytes (r .slots) ++ r .text
 
 -- a lent buffer of 251 bytes takes them; one of another length stays as it was
 unfoldable pub packedInto : Record → List ℕ → List ℕ

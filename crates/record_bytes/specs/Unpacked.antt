@@ -2,7 +2,7 @@
 -- the way, so that writing refuses them in their turn:
 --
 --   a first byte that is no category   gives a record without category, which is 7
---   bytes 9 to 40 that are not those of the body which they give, so a spare or something behind the last field
+--   bytes 9 to 40 that are not those of the body and the spares which they give, so something behind the last field
 --       gives slot 15 an hour, which no category uses: that is 11
 use Prim.Native.Nat.{ℕ, _+_, _*_}
 use mathlib.Core.Bool.{Bool, cond, not}
@@ -13,11 +13,13 @@ use Rattle.bits.specs.Frame.{number}
 use Rattle.slots.specs.declared.slot.Slot.{Slot}
 use Rattle.report.specs.declared.record.Record.{Record}
 use Rattle.rows.specs.Layout.{Layout}
-use Rattle.rows.specs.Values.{Sides, each, sameBytes, widths}
+use Rattle.rows.specs.Values.{Sides, each, sameBytes, sparesFrom, widths}
 use Rattle.rows.specs.Runs.Fields.{bytesFor}
 use Rattle.rows.specs.declared.common.Common.{Common}
 use Rattle.report.specs.declared.body.Body.{Body}
-use Rattle.report.specs.Categories.{bodyFrom}
+use Rattle.report.specs.Categories.{bodyFrom, layout}
+use Rattle.rows.specs.declared.fields.Spares.{Spares}
+use Rattle.report.specs.declared.body.BodyAndSpares.{BodyAndSpares}
 use Rattle.report.specs.Records.{zeros}
 use Rattle.record_bytes.specs.Packed.{bodyBytes}
 use Rattle.record_bytes.specs.Text.{textAt}
@@ -50,9 +52,18 @@ sidesInBytes l t = record { front = cellsAt l 9 (widths (t .front)); behind = ce
 abbrev pub bodyInBytes : List ℕ → Body
 bodyInBytes l = bodyFrom (sidesInBytes l) (getD l 0 0)
 
--- they are not those of the body
+abbrev pub sparesInBytes : List ℕ → Body → Spares
+sparesInBytes l b = sparesFrom (layout b) (sidesInBytes l (layout b))
+
+abbrev pub bothInBytes : List ℕ → BodyAndSpares
+bothInBytes l = record { body = bodyInBytes l; spares = sparesInBytes l (bodyInBytes l) }
+
+-- they are not those of the body with these spares
+abbrev pub strayAs : Body → Spares → List ℕ → Bool
+strayAs b z l = not (sameBytes (take 32 (drop 9 l)) (bodyBytes b z))
+
 abbrev pub stray : Body → List ℕ → Bool
-stray b l = not (sameBytes (take 32 (drop 9 l)) (bodyBytes b))
+stray b l = strayAs b (sparesInBytes l b) l
 
 -- ---- 41 to 232
 
@@ -90,6 +101,7 @@ unpackedAs l b = record {
   body = b;
   slots = slotsOrMisplaced (stray b l) (slotsFrom l);
   text = textInBytes l;
+  spares = sparesInBytes l b;
 }
 
 abbrev pub unpacked : List ℕ → Record

@@ -4,7 +4,7 @@ ghost use mathlib.Core.Bool.{not};
 ghost use Prim.Native.Nat.{_+_, _≤_};
 ghost use lib.ListN.{length, set, take, drop, replicate};
 ghost use Rattle.rows.specs.Values.{sameBytes};
-ghost use Rattle.record_bytes.specs.Unpacked.{numberAt, slotAt, commonInBytes, size, cellsAt, bodyInBytes, stray, slotsFrom, misplaced, slotsOrMisplaced, recordFrom};
+ghost use Rattle.record_bytes.specs.Unpacked.{numberAt, slotAt, commonInBytes, size, cellsAt, bothInBytes, strayAs, slotsFrom, misplaced, slotsOrMisplaced, recordFrom};
 use crate::sizes::FIELDS_AT;
 use crate::sizes::FIELDS_SIZE;
 use crate::sizes::RECORD_SIZE;
@@ -16,8 +16,10 @@ use crate::sizes::bytes_for;
 use crate::text::text_at;
 use crate::to_bytes::own_bytes;
 use report::body::Body;
+use report::body::BodyAndSpares;
 use report::record::Record;
 use rows::common::Common;
+use rows::fields::Spares;
 use slots::slot::Slot;
 
 // ---- numbers
@@ -89,15 +91,16 @@ fn read_cells(bytes: &[u8], at: usize, widths: &[u8], values: &mut [u64]) -> usi
     next
 }
 
-// The body of the category's code, whose table says the widths.
-fn body_of(bytes: &[u8]) -> Body
+// The body of the category's code, whose table says the widths, and its spares.
+fn body_of(bytes: &[u8]) -> BodyAndSpares
     requires { ⌜ length (now bytes) ≡ 251 ⌝ }
-    ensures { λ r. ⌜ r ≡ bodyInBytes (now (bytes .entry)) ⌝ }
+    ensures { λ r. ⌜ r ≡ bothInBytes (now (bytes .entry)) ⌝ }
 {
     let mut front = [0u64; 18];
     let mut behind = [0u64; 3];
     let blank = Body::of_values(bytes[0], front, behind);
-    let fields = blank.fields(0, 0);
+    let none = blank.body;
+    let fields = none.fields(Spares::none());
     let ahead = fields.ahead;
     let after = fields.after;
     let middle = read_cells(bytes, FIELDS_AT, &ahead, &mut front);
@@ -153,12 +156,12 @@ fn with_misplaced(slots: [Slot; SLOT_COUNT]) -> [Slot; SLOT_COUNT]
     next
 }
 
-fn marked_slots_of(bytes: &[u8], body: Body) -> [Slot; SLOT_COUNT]
+fn marked_slots_of(bytes: &[u8], body: Body, spares: Spares) -> [Slot; SLOT_COUNT]
     requires { ⌜ length (now bytes) ≡ 251 ⌝ }
-    ensures { λ r. ⌜ r ≡ slotsOrMisplaced (stray body (now (bytes .entry))) (slotsFrom (now (bytes .entry))) ⌝ }
+    ensures { λ r. ⌜ r ≡ slotsOrMisplaced (strayAs body spares (now (bytes .entry))) (slotsFrom (now (bytes .entry))) ⌝ }
 {
     let slots = slots_of(bytes);
-    if has_stray(bytes, own_bytes(body)) {
+    if has_stray(bytes, own_bytes(body, spares)) {
         return with_misplaced(slots);
     }
     slots
@@ -171,8 +174,10 @@ pub fn unpack(bytes: &[u8]) -> Record
     if bytes.len() != RECORD_SIZE {
         return Record::of_zeros();
     }
-    let body = body_of(bytes);
-    let slots = marked_slots_of(bytes, body);
+    let both = body_of(bytes);
+    let body = both.body;
+    let spares = both.spares;
+    let slots = marked_slots_of(bytes, body, spares);
     let text = text_at(bytes, TEXT_AT);
     Record {
         preamble: bytes[1],
@@ -181,5 +186,6 @@ pub fn unpack(bytes: &[u8]) -> Record
         body: body,
         slots: slots,
         text: text,
+        spares: spares,
     }
 }

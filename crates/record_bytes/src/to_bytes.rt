@@ -10,6 +10,7 @@ use lent::put_bytes;
 use lent::put_wide;
 use report::body::Body;
 use report::record::Record;
+use rows::fields::Spares;
 use slots::slot::Slot;
 
 // ---- 0 to 8
@@ -56,11 +57,11 @@ fn put_cells(out: &mut [u8], at: usize, widths: &[u8], values: &[u64]) -> usize
     next
 }
 
-// The bytes of a body, and zeros behind them.
-pub(crate) fn own_bytes(body: Body) -> [u8; FIELDS_SIZE]
-    ensures { λ r. ⌜ r ≡ bodyBytes body ⌝ }
+// The bytes of a body and its spares, and zeros behind them.
+pub(crate) fn own_bytes(body: Body, spares: Spares) -> [u8; FIELDS_SIZE]
+    ensures { λ r. ⌜ r ≡ bodyBytes body spares ⌝ }
 {
-    let fields = body.fields(0, 0);
+    let fields = body.fields(spares);
     let ahead = fields.ahead;
     let front = fields.front;
     let after = fields.after;
@@ -100,9 +101,10 @@ pub fn pack(r: Record, out: &mut [u8])
 {
     if out.len() == RECORD_SIZE {
         let body = r.body;
+        let spares = r.spares;
         let slots = r.slots;
         let text = r.text;
-        let own = own_bytes(body);
+        let own = own_bytes(body, spares);
         let body_at = put_head(out, r);
         let slots_at = put_bytes(out, body_at, &own);
         let text_at = put_slots(out, slots_at, slots);

@@ -8,10 +8,10 @@ use borrow.Author.Tests.{ne-eqb}
 use Rattle.rows.specs.Runs.Verdict.{allowed}
 use Rattle.rows.proofs.Rules.Spans.{allowed-in, in-allowed, not-allowed}
 use Rattle.rows.specs.Kept.{In}
-use Rattle.rows.specs.Layout.{Layout, Row, Rule, asks, noCategory, spare}
+use Rattle.rows.specs.Layout.{Layout, noCategory}
 use mathlib.Core.List.{List, [], _∷_, _++_}
-use Rattle.rows.specs.Values.{Sides, sidesAt}
-use Rattle.rows.specs.Runs.Fields.{spareIn, isSpare}
+use Rattle.rows.specs.declared.fields.Spares.{Spares}
+use Rattle.rows.specs.Values.{Sides, hasSpare, noSpares, sidesAt, sparesAt, sparesFrom}
 use mathlib.Core.Path.{_∙_, _≡_, ap, refl, subst, sym}
 use Prim.Native.Nat.{_≤_, _-_, suc, zero, ℕ}
 use mathlib.Core.Logic.{_⊎_, inl, inr, ⊎-elim}
@@ -71,23 +71,32 @@ listed test e b = ap test (sym (in-list b)) ∙ one-of-all test layouts (placeOf
 -- ---- values
 
 -- each row has its value
-pub sides-filled : (b : Body) (x y : ℕ) → (length (sidesOf b x y .front) ≡ length (layout b .front)) × (length (sidesOf b x y .behind) ≡ length (layout b .behind))
-sides-filled NoCategory x y = (refl, refl)
-sides-filled (Hypocenter q) x y = (refl, refl)
-sides-filled (Intensity t) x y = (refl, refl)
-sides-filled (Nankai p) x y = (refl, refl)
-sides-filled (Tsunami w) x y = (refl, refl)
-sides-filled (AshFall e) x y = (refl, refl)
+pub sides-filled : (b : Body) (z : Spares) → (length (sidesOf b z .front) ≡ length (layout b .front)) × (length (sidesOf b z .behind) ≡ length (layout b .behind))
+sides-filled NoCategory z = (refl, refl)
+sides-filled (Hypocenter q) z = (refl, refl)
+sides-filled (Intensity t) z = (refl, refl)
+sides-filled (Nankai p) z = (refl, refl)
+sides-filled (Tsunami w) z = (refl, refl)
+sides-filled (AshFall e) z = (refl, refl)
 
 -- a body is what its values say
-pub body-again : (b : Body) (x y : ℕ) (v : Layout → Sides) → v (layout b) ≡ sidesOf b x y → bodyFrom v (layout b .code) ≡ b
+pub body-again : (b : Body) (z : Spares) (v : Layout → Sides) → v (layout b) ≡ sidesOf b z → bodyFrom v (layout b .code) ≡ b
 unfolding bodyFrom
-body-again NoCategory x y v e = refl
-body-again (Hypocenter q) x y v e = ap (λ (s : Sides). Hypocenter (quakeFrom s)) e
-body-again (Intensity t) x y v e = ap (λ (s : Sides). Intensity (shakingFrom s)) e
-body-again (Nankai p) x y v e = ap (λ (s : Sides). Nankai (numbersFrom s)) e
-body-again (Tsunami w) x y v e = ap (λ (s : Sides). Tsunami (warningFrom s)) e
-body-again (AshFall u) x y v e = ap (λ (s : Sides). AshFall (eruptionFrom s)) e
+body-again NoCategory z v e = refl
+body-again (Hypocenter q) z v e = ap (λ (s : Sides). Hypocenter (quakeFrom s)) e
+body-again (Intensity t) z v e = ap (λ (s : Sides). Intensity (shakingFrom s)) e
+body-again (Nankai p) z v e = ap (λ (s : Sides). Nankai (numbersFrom s)) e
+body-again (Tsunami w) z v e = ap (λ (s : Sides). Tsunami (warningFrom s)) e
+body-again (AshFall u) z v e = ap (λ (s : Sides). AshFall (eruptionFrom s)) e
+
+-- so are spares, where nothing stands in a second one that the category does not have
+pub spares-again : (b : Body) (z : Spares) → (hasSpare (layout b .behind) ≡ false → z .second ≡ 0) → sparesFrom (layout b) (sidesOf b z) ≡ z
+spares-again NoCategory z h = λ i. record { first = z .first; second = sym (h refl) i }
+spares-again (Hypocenter q) z h = refl
+spares-again (Intensity t) z h = refl
+spares-again (Nankai p) z h = refl
+spares-again (Tsunami w) z h = λ i. record { first = z .first; second = sym (h refl) i }
+spares-again (AshFall e) z h = refl
 
 not-paged : (p : PageNumbers) → NoPages ≡ Numbers p → ⊥
 not-paged p e = let z : _≡_ {A = ℕ} 0 1 = cc in apart z
@@ -188,47 +197,11 @@ same-body v w = by-code (λ (dc : ℕ). v (layout (bodyFrom v dc)) ≡ w (layout
 
 pub record Suits (s : List ℕ) (dc : ℕ) : Type 0 where
   pub code : layout (bodyBy s dc) .code ≡ dc
-  pub sides : sidesOf (bodyBy s dc) (spareIn s (layout (bodyBy s dc) .front)) (spareIn s (layout (bodyBy s dc) .behind)) ≡ sidesAt s (layout (bodyBy s dc))
+  pub sides : sidesOf (bodyBy s dc) (sparesAt s (layout (bodyBy s dc))) ≡ sidesAt s (layout (bodyBy s dc))
 
 pub suits : (s : List ℕ) (dc : ℕ) → In categories dc → Suits s dc
 unfolding bodyFrom
 suits s = by-category (Suits s) (record { code = refl; sides = refl }) (record { code = refl; sides = refl }) (record { code = refl; sides = refl }) (record { code = refl; sides = refl }) (record { code = refl; sides = refl })
-
--- ---- spares of zero
-
--- a spare has the value zero
-abbrev pub Spared : Rule → ℕ → Type 0
-Spared (asks a) v = Unit
-Spared spare v = v ≡ 0
-
-abbrev pub AllSpared : List Row → List ℕ → Type 0
-AllSpared [] vs = Unit
-AllSpared (r ∷ rs) [] = Unit
-AllSpared (r ∷ rs) (v ∷ vs) = Spared (r .rule) v × AllSpared rs vs
-
--- rows without a spare
-abbrev pub ruled : List Row → Bool
-ruled [] = true
-ruled (r ∷ rs) = not (isSpare (r .rule)) && ruled rs
-
-rule-spared : (r : Rule) (v : ℕ) → not (isSpare r) ≡ true → Spared r v
-rule-spared (asks a) v e = tt
-rule-spared spare v e = absurd (false-not-true e)
-
-pub all-spared : (rs : List Row) (vs : List ℕ) → ruled rs ≡ true → AllSpared rs vs
-all-spared [] vs e = tt
-all-spared (r ∷ rs) [] e = tt
-all-spared (r ∷ rs) (v ∷ vs) e =
-    let q = and-both (not (isSpare (r .rule))) (ruled rs) e in
-    (rule-spared (r .rule) v (q .0), all-spared rs vs (q .1))
-
-pub sides-spared : (b : Body) → AllSpared (layout b .front) (sidesOf b 0 0 .front) × AllSpared (layout b .behind) (sidesOf b 0 0 .behind)
-sides-spared NoCategory = search
-sides-spared (Hypocenter q) = ((refl, all-spared (drop 1 (hypocenter .front)) (drop 1 (quakeValues q 0 0 .front)) refl), (refl, tt))
-sides-spared (Intensity t) = search
-sides-spared (Nankai p) = search
-sides-spared (Tsunami w) = search
-sides-spared (AshFall e) = search
 
 -- ---- a record of each category, so that there is one
 
@@ -241,6 +214,7 @@ sample b ss t = record {
   body = b;
   slots = ss ++ replicate (16 - length ss) noSlot;
   text = t;
+  spares = noSpares;
 }
 
 abbrev midnight : Time

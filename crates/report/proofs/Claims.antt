@@ -73,9 +73,8 @@ pub values-never-run-short : (s : List ℕ) (b : Body) → Filled (layout b) (va
 values-never-run-short s b = frame-filled s (layout b)
 
 -- .. and so has a record with "sixteen slots (hour, strength or intensity, place) and 18 text bytes".
-pub record-values-never-run-short : (r : Record) (x y : ℕ) → length (r .slots) ≡ 16 → length (r .text) ≡ 18
-    → Filled (layout (r .body)) (values r x y)
-record-values-never-run-short r x y n m = record-filled r x y (record { slots = n; text = m })
+pub record-values-never-run-short : (r : Record) → length (r .slots) ≡ 16 → length (r .text) ≡ 18 → Filled (layout (r .body)) (values r)
+record-values-never-run-short r n m = record-filled r (record { slots = n; text = m })
 
 -- "hour, strength or intensity, place": what a slot of the record holds is told by its fields of those names and no other; "in category 3 each
 -- slot's hour is zero".

@@ -15,6 +15,7 @@ use Rattle.rows.specs.declared.refusal.Said.{Said}
 use Rattle.rows.specs.Refusals.{at, plain, answers}
 use Rattle.rows.specs.Runs.Questions.{_then_, unless}
 use Rattle.rows.specs.Layout.{Row}
+use Rattle.rows.specs.Values.{noSpares}
 use Rattle.rows.specs.Runs.Verdict.{allowed, judge, walk, empty, later, slotsVerdict, verdict}
 use Rattle.slots.specs.Slots.{noSlot, slotValues}
 use Rattle.report.specs.Records.{values}
@@ -40,7 +41,8 @@ judgedAs rc it body slots = answers (verdict (layout body) (values (record {
   body = body;
   slots = slots ++ replicate (16 - length slots) noSlot;
   text = replicate 18 0;
-}) 0 0))
+  spares = noSpares;
+})))
 
 abbrev pub judged : Body → List Slot → Said
 judged body slots = judgedAs 2 0 body slots

@@ -39,16 +39,16 @@ text-filled : (rs : List Row) (text : List ℕ) → (rs ≡ []) ⊎ (rs ≡ nank
 text-filled rs text (inl e) n = rw e refl
 text-filled rs text (inr e) n = rw e (length-take-le 18 text (omega arith))
 
-pub record-filled : (r : Record) (x y : ℕ) → Shaped r → Filled (layout (r .body)) (values r x y)
+pub record-filled : (r : Record) → Shaped r → Filled (layout (r .body)) (values r)
 unfolding values
-record-filled r x y s =
+record-filled r s =
     let l = layout (r .body) in
     record {
       head = refl;
-      front = sides-filled (r .body) x y .0;
+      front = sides-filled (r .body) (r .spares) .0;
       slots = slots-counted (l .slots) (suited-slots (r .body)) (r .slots) (s .slots);
       fields = slots-filled (l .slots) (suited-slots (r .body)) (l .slots .first) (take (l .slots .count) (r .slots));
       text = text-filled (l .text) (r .text) (text-apart (r .body)) (s .text);
-      behind = sides-filled (r .body) x y .1;
+      behind = sides-filled (r .body) (r .spares) .1;
       last = refl;
     }

@@ -3,13 +3,13 @@ use Rattle.report.specs.declared.body.Body.{Body}
 use mathlib.Core.Bool.{_&&_, _||_, true, Bool, cond, not}
 use Rattle.rows.proofs.Rules.JudgedFrames.{JudgesAll, judged, ordered}
 use mathlib.Core.List.{List, _∷_, map, [], _++_}
-use Rattle.rows.specs.Layout.{allFit, allRows, row, spare, tiles, Layout, ending, slotsRows}
+use Rattle.rows.specs.Layout.{allFit, allRows, spareRow, tiles, Layout, ending, slotsRows}
 use Rattle.slots.proofs.Tables.{Suited, is-suited, suited}
 use Rattle.rows.specs.Values.{Values, cut, lastValues, widths}
 use Rattle.rows.specs.Runs.Fields.{hasRows, firstBit}
 use Prim.Native.Nat.{_/_, _^_, ℕ, zero, suc, _*_, _+_}
 use mathlib.Core.Path.{_≡_, refl}
-use Rattle.report.proofs.Categories.{all, layouts, listed, ruled}
+use Rattle.report.proofs.Categories.{all, layouts, listed}
 use Rattle.bits.specs.Layout.{decode, total}
 use lib.Dec.{eqb, leb}
 use Rattle.bits.specs.Frame.{fieldOf, number}
@@ -40,8 +40,8 @@ tables-rise = refl
 pub slots-suit : all (λ l. suited (l .slots)) layouts ≡ true
 slots-suit = refl
 
--- a slot has no spare, and where there are slots one of its fields may not be zero
-pub slots-named : all (λ l. ruled (l .slots .rows) && (eqb (l .slots .count) 0 || names (l .slots .rows))) layouts ≡ true
+-- where there are slots one of their fields may not be zero
+pub slots-named : all (λ l. eqb (l .slots .count) 0 || names (l .slots .rows)) layouts ≡ true
 unfolding allowed
 slots-named = refl
 
@@ -90,7 +90,7 @@ pub front-total : (b : Body) → total (frontWidths (layout b)) ≡ 226
 front-total b = tiled-total 8 (allRows (layout b)) (tiles-all b)
 
 pub front-fields : (s : List ℕ) (b : Body) → decode (frontWidths (layout b)) (number s / 2 ^ 30) ≡ fieldOf s 0 8 ∷ map (cut s) (allRows (layout b))
-front-fields s b = tiled s 0 (row 0 8 spare ∷ allRows (layout b)) (tiles-all b)
+front-fields s b = tiled s 0 (spareRow 0 8 ∷ allRows (layout b)) (tiles-all b)
 
 -- ---- the last two rows: the version is what it is
 

@@ -38,12 +38,12 @@ text-passes rs text (inr e) h n =
     ∙ any-text-passes text h
 
 -- so it plays no part in the verdict on a record
-pub record-verdict : (r : Record) (x y : ℕ) → Bytes (r .text) → length (r .text) ≡ 18
-    → verdict (layout (r .body)) (values r x y)
-    ≡ bodyVerdict (layout (r .body)) (headValues (r .common) (layout (r .body) .code)) (sidesOf (r .body) x y) (slotsValues (layout (r .body) .slots) (r .slots))
+pub record-verdict : (r : Record) → Bytes (r .text) → length (r .text) ≡ 18
+    → verdict (layout (r .body)) (values r)
+    ≡ bodyVerdict (layout (r .body)) (headValues (r .common) (layout (r .body) .code)) (sidesOf (r .body) (r .spares)) (slotsValues (layout (r .body) .slots) (r .slots))
     then ranged (leb 0 (r .reserved) && leb (r .reserved) 63) 220
 unfolding verdict values bodyVerdict
-record-verdict r x y h n = simp (text-passes (layout (r .body) .text) (r .text) (text-apart (r .body)) h n, last-walk (r .reserved), fine-then, then-assoc)
+record-verdict r h n = simp (text-passes (layout (r .body) .text) (r .text) (text-apart (r .body)) h n, last-walk (r .reserved), fine-then, then-assoc)
 
 -- ---- what is behind it
 

@@ -4,6 +4,7 @@ use Rattle.report.specs.declared.body.Body.the-variants.{AshFall, Hypoce
 use Rattle.report.specs.declared.body.Body.{Body}
 use Rattle.rows.specs.Layout.{Layout, Span, _to_, noCategory}
 use mathlib.Core.List.{List, [], _∷_}
+use Rattle.rows.specs.declared.fields.Spares.{Spares}
 use Rattle.rows.specs.Values.{Sides}
 use Rattle.ash_fall.specs.AshFall.{ashFall, eruptionFrom, eruptionValues}
 use mathlib.Core.Bool.{cond}
@@ -40,14 +41,14 @@ bodyFrom v dc =
     (cond (eqb dc 4) (Nankai (numbersFrom (v nankai)))
     (cond (eqb dc 5) (Tsunami (warningFrom (v tsunami))) (cond (eqb dc 9) (AshFall (eruptionFrom (v ashFall))) NoCategory))))
 
--- those values, with the ones of the spares in front and behind, which are not in a record
-abbrev pub sidesOf : Body → ℕ → ℕ → Sides
-sidesOf NoCategory x y = record { front = x ∷ []; behind = y ∷ [] }
-sidesOf (Hypocenter q) x y = quakeValues q x y
-sidesOf (Intensity t) x y = shakingValues t x y
-sidesOf (Nankai p) x y = numberValues p x y
-sidesOf (Tsunami w) x y = warningValues w x
-sidesOf (AshFall e) x y = eruptionValues e x y
+-- those values, with the ones of the spares, which a record has beside its body
+abbrev pub sidesOf : Body → Spares → Sides
+sidesOf NoCategory z = record { front = z .first ∷ []; behind = 0 ∷ [] }
+sidesOf (Hypocenter q) z = quakeValues q z
+sidesOf (Intensity t) z = shakingValues t z
+sidesOf (Nankai p) z = numberValues p z
+sidesOf (Tsunami w) z = warningValues w z
+sidesOf (AshFall e) z = eruptionValues e z
 
 -- the page that a body brings: category 4 alone has pages
 abbrev pub pagedOf : Body → Paged

@@ -43,4 +43,4 @@ writeQuestions r size =
     ∷ []
 
 abbrev pub WhyNotWritten : Record → ℕ → Refusal → Type 0
-WhyNotWritten r size x = First (writeQuestions r size) x (Lowest (layout (r .body)) (values r 0 0) x)
+WhyNotWritten r size x = First (writeQuestions r size) x (Lowest (layout (r .body)) (values r) x)

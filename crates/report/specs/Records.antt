@@ -1,15 +1,16 @@
--- The record of a frame (document 01, "The record"), and the values of a record, in the order of the frame.
+-- The record of a frame (document 01, "The record", and document 02: "Keep every spare's bits in the record"), and the values of a
+-- record, in the order of the frame.
 use Rattle.report.specs.declared.body.Body.{Body}
 use Rattle.rows.specs.Layout.{Layout, common}
 use mathlib.Core.List.{List, map}
 use Rattle.report.specs.declared.body.Body.the-variants.{NoCategory}
 use Rattle.report.specs.declared.record.Record.{Record}
-use Rattle.rows.specs.Values.{Values, commonOf, cut, filled, headValues, lastValues, noCommon, sidesAt}
+use Rattle.rows.specs.Values.{Values, commonOf, cut, filled, headValues, lastValues, noCommon, noSpares, sidesAt, sparesAt}
 use Rattle.report.specs.Categories.{bodyFrom, layout, sidesOf}
 use Rattle.bits.specs.Frame.{fieldOf}
+use Prim.Native.Nat.{ℕ}
 use lib.ListN.{length, replicate, take}
 use Rattle.slots.specs.Slots.{noSlot, slotsOf, slotsValues}
-use Prim.Native.Nat.{ℕ}
 
 -- ---- from a frame
 
@@ -32,6 +33,7 @@ recordAs s b = record {
   body = b;
   slots = slotsOf s (layout b .slots);
   text = textOf s (layout b);
+  spares = sparesAt s (layout b);
 }
 
 abbrev pub recordOf : List ℕ → Record
@@ -46,16 +48,17 @@ zeros = record {
   body = NoCategory;
   slots = replicate 16 noSlot;
   text = replicate 18 0;
+  spares = noSpares;
 }
 
--- ---- the values of a record, with those of the two spares, which are not in it
+-- ---- the values of a record
 
-unfoldable pub values : Record → ℕ → ℕ → Values
-values r x y = record {
+unfoldable pub values : Record → Values
+values r = record {
   head = headValues (r .common) (layout (r .body) .code);
-  front = sidesOf (r .body) x y .front;
+  front = sidesOf (r .body) (r .spares) .front;
   slots = slotsValues (layout (r .body) .slots) (r .slots);
   text = take (length (layout (r .body) .text)) (r .text);
-  behind = sidesOf (r .body) x y .behind;
+  behind = sidesOf (r .body) (r .spares) .behind;
   last = lastValues (r .reserved);
 }

@@ -9,7 +9,7 @@ ghost use Rattle.report.specs.Runs.Reading.{contentAs};
 ghost use Rattle.rows.specs.Values.{headValues};
 ghost use Rattle.rows.specs.Runs.Fields.{fieldsIn, keptIn};
 ghost use Rattle.report.specs.Categories.{layout, bodyFrom, sidesOf, pagedOf};
-ghost use Rattle.report.specs.Runs.Told.{toldOf};
+ghost use Rattle.report.specs.Runs.Told.{toldOf, withSpares};
 ghost use Rattle.rows.specs.Layout.{noCategory};
 ghost use Rattle.slots.specs.Slots.{slotsValues};
 use ash_fall::Eruption;
@@ -50,6 +50,12 @@ pub enum Paged {
 pub struct Told {
     pub found: Verdict,
     pub fields: Fields,
+}
+
+// A body, and the spares that stand before and behind its fields.
+pub struct BodyAndSpares {
+    pub body: Body,
+    pub spares: Spares,
 }
 
 // What stands from bit 43 up to bit 213.
@@ -100,8 +106,8 @@ impl Content {
                 slots: [Slot::none(); 16],
                 text: [0u8; 18],
                 spares: Spares {
-                    front: bits::field64(f, 43, 10),
-                    behind: 0,
+                    first: bits::field64(f, 43, 10),
+                    second: 0,
                 },
             },
         }
@@ -109,18 +115,17 @@ impl Content {
 }
 
 // What is asked where there is no category.
-fn check_none(found: Verdict, c: Common, spare1: u64, spare2: u64) -> Verdict
-    ensures { λ r. ⌜ r ≡ found then bodyVerdict noCategory (headValues c 0) (sidesOf Body.NoCategory spare1 spare2) [] ⌝ }
+fn check_none(found: Verdict, c: Common, spares: Spares) -> Verdict
+    ensures { λ r. ⌜ r ≡ found then bodyVerdict noCategory (headValues c 0) (sidesOf Body.NoCategory spares) [] ⌝ }
 {
     found
         .common(c, is_two_or_seven(c.rc), is_uncorrected(c.it))
-        .spare(43, spare1)
-        .spare(53, spare2)
+        .spare(43, 10, spares.first)
 }
 
-// The table of no category, all spare.
-fn fields_none(spare1: u64, spare2: u64) -> Fields
-    ensures { λ r. ⌜ r ≡ fieldsIn noCategory (sidesOf Body.NoCategory spare1 spare2) ⌝ }
+// The table of no category, which knows nothing of bits 53 to 213.
+fn fields_none(spares: Spares) -> Fields
+    ensures { λ r. ⌜ r ≡ fieldsIn noCategory (sidesOf Body.NoCategory spares) ⌝ }
 {
     let table = Table {
         code: 0,
@@ -129,29 +134,64 @@ fn fields_none(spare1: u64, spare2: u64) -> Fields
         bits: 0,
         widths: [0u8; 5],
         text: false,
+        second: false,
         rest: 53,
     };
     Fields {
         table: table,
         ahead: [10, 0, 0, 0, 0, 0, 0, 0, 0, 0, 0, 0, 0, 0, 0, 0, 0, 0],
-        front: [spare1, 0, 0, 0, 0, 0, 0, 0, 0, 0, 0, 0, 0, 0, 0, 0, 0, 0],
+        front: [
+            spares.first,
+            0,
+            0,
+            0,
+            0,
+            0,
+            0,
+            0,
+            0,
+            0,
+            0,
+            0,
+            0,
+            0,
+            0,
+            0,
+            0,
+            0,
+        ],
         after: [161, 0, 0],
-        behind: [spare2, 0, 0],
+        behind: [0, 0, 0],
     }
 }
 
 impl Body {
-    // The body of a category's code that numbers say, of each as much as its field holds.
-    pub fn of_values(code: u8, front: [u64; 18], behind: [u64; 3]) -> Body
-        ensures { λ r. ⌜ r ≡ bodyFrom (keptIn front behind) code ⌝ }
+    fn with_spares(self, first: u64, second: u64) -> BodyAndSpares
+        ensures { λ r. ⌜ r ≡ record { body = self; spares = record { first = first; second = second } } ⌝ }
+    {
+        BodyAndSpares {
+            body: self,
+            spares: Spares {
+                first: first,
+                second: second,
+            },
+        }
+    }
+
+    // The body of a category's code that numbers say, of each as much as its field holds, and the spares among them.
+    pub fn of_values(code: u8, front: [u64; 18], behind: [u64; 3]) -> BodyAndSpares
+        ensures { λ r. ⌜ r ≡ withSpares front behind (bodyFrom (keptIn front behind) code) ⌝ }
     {
         match code {
-            2 => Body::Hypocenter(Quake::of_values(front)),
-            3 => Body::Intensity(Shaking::of_values(front)),
-            4 => Body::Nankai(PageNumbers::of_values(front, behind)),
-            5 => Body::Tsunami(Warning::of_values(front)),
-            9 => Body::AshFall(Eruption::of_values(front)),
-            _ => Body::NoCategory,
+            2 => Body::Hypocenter(Quake::of_values(front)).with_spares(front[0], behind[0]),
+            3 => Body::Intensity(Shaking::of_values(front)).with_spares(front[0], behind[0]),
+            4 => Body::Nankai(PageNumbers::of_values(front, behind)).with_spares(
+                front[0],
+                behind[2],
+            ),
+            5 => Body::Tsunami(Warning::of_values(front)).with_spares(front[0], 0),
+            9 => Body::AshFall(Eruption::of_values(front)).with_spares(front[0], behind[0]),
+            _ => Body::NoCategory.with_spares(front[0], 0),
         }
     }
 
@@ -185,54 +225,46 @@ impl Body {
 
     // What is found by all rules from bit 8 to bit 213, behind what has been found, and its table and its fields. One
     // `match` for both: whoever writes a record asks for both.
-    pub(crate) fn told(
-        self,
-        found: Verdict,
-        c: Common,
-        slots: [Slot; 16],
-        spare1: u64,
-        spare2: u64,
-    ) -> Told
-        ensures { λ r. ⌜ r ≡ toldOf self found c slots spare1 spare2 ⌝ }
+    pub(crate) fn told(self, found: Verdict, c: Common, slots: [Slot; 16], spares: Spares) -> Told
+        ensures { λ r. ⌜ r ≡ toldOf self found c slots spares ⌝ }
     {
         match self {
             Body::NoCategory => Told {
-                found: check_none(found, c, spare1, spare2),
-                fields: fields_none(spare1, spare2),
+                found: check_none(found, c, spares),
+                fields: fields_none(spares),
             },
             Body::Hypocenter(q) => Told {
-                found: q.check(found, c, spare1, spare2),
-                fields: q.fields(spare1, spare2),
+                found: q.check(found, c, spares),
+                fields: q.fields(spares),
             },
             Body::Intensity(s) => Told {
-                found: s.check(found, c, slots, spare1, spare2),
-                fields: s.fields(spare1, spare2),
+                found: s.check(found, c, slots, spares),
+                fields: s.fields(spares),
             },
             Body::Nankai(p) => Told {
-                found: p.check(found, c, spare1, spare2),
-                fields: p.fields(spare1, spare2),
+                found: p.check(found, c, spares),
+                fields: p.fields(spares),
             },
             Body::Tsunami(w) => Told {
-                found: w.check(found, c, slots, spare1),
-                fields: w.fields(spare1),
+                found: w.check(found, c, slots, spares),
+                fields: w.fields(spares),
             },
             Body::AshFall(e) => Told {
-                found: e.check(found, c, slots, spare1, spare2),
-                fields: e.fields(spare1, spare2),
+                found: e.check(found, c, slots, spares),
+                fields: e.fields(spares),
             },
         }
     }
 
     // Its table, and its fields in the table's order.
-    pub fn fields(self, spare1: u64, spare2: u64) -> Fields
-        ensures { λ r. ⌜ r ≡ fieldsIn (layout self) (sidesOf self spare1 spare2) ⌝ }
+    pub fn fields(self, spares: Spares) -> Fields
+        ensures { λ r. ⌜ r ≡ fieldsIn (layout self) (sidesOf self spares) ⌝ }
     {
         let told = self.told(
             Verdict::Fine,
             Common::of_zeros(),
             [Slot::none(); 16],
-            spare1,
-            spare2,
+            spares,
         );
         told.fields
     }

@@ -8,15 +8,15 @@ use crate::record::Record;
 use rows::refusal::Verdict;
 
 impl Record {
-    // What all rules of bits 8 to 225 find, and the record's fields. The two spares are not in a record, and come
-    // beside it.
-    pub fn told(self, spare1: u64, spare2: u64) -> Told
-        ensures { λ t. ⌜ t ≡ recordTold self spare1 spare2 ⌝ }
+    // What all rules of bits 8 to 225 find, and the record's fields.
+    pub fn told(self) -> Told
+        ensures { λ t. ⌜ t ≡ recordTold self ⌝ }
     {
         let common = self.common;
         let body = self.body;
         let slots = self.slots;
-        let told = body.told(Verdict::Fine, common, slots, spare1, spare2);
+        let spares = self.spares;
+        let told = body.told(Verdict::Fine, common, slots, spares);
         let found = told.found;
         let fields = told.fields;
         Told {

@@ -71,7 +71,7 @@ fn lay_body(f: [u8; 32], fields: Fields, slots: [Slot; 16], text: [u8; 18]) -> [
 
 // Bits 0 to 225 of a record.
 fn lay_front(f: [u8; 32], r: Record, fields: Fields) -> [u8; 32]
-    requires { ⌜ (known (r .body) ≡ true) × (fields ≡ fieldsIn (layout (r .body)) (sidesOf (r .body) 0 0)) ⌝ }
+    requires { ⌜ (known (r .body) ≡ true) × (fields ≡ fieldsIn (layout (r .body)) (sidesOf (r .body) (r .spares))) ⌝ }
     ensures { λ next. ⌜ next ≡ laid f 0 (frontWidths (layout (r .body))) (frontValues r) ⌝ }
 {
     let common = r.common;
@@ -87,7 +87,7 @@ fn lay_front(f: [u8; 32], r: Record, fields: Fields) -> [u8; 32]
 
 // The frame of a valid record, whose fields these are: the parity is that of all bits before it.
 pub(crate) fn encode(r: Record, fields: Fields) -> [u8; 32]
-    requires { ⌜ Valid r × (fields ≡ fieldsIn (layout (r .body)) (sidesOf (r .body) 0 0)) ⌝ }
+    requires { ⌜ Valid r × (fields ≡ fieldsIn (layout (r .body)) (sidesOf (r .body) (r .spares))) ⌝ }
     ensures { λ f. ⌜ f ≡ bytesOf (frame r) ⌝ }
 {
     let blank = bits::blank();

@@ -48,7 +48,7 @@ fn conclude(found: Verdict, read: Record) -> Reading
     }
 }
 
-// 7 to 10, and the record. The category is looked up where its content is taken out of the frame.
+// 7, 8 and 10, and the record. The category is looked up where its content is taken out of the frame.
 fn inner(f: [u8; 32]) -> Reading
     requires { ⌜ outerOf f ≡ Verdict.Fine ⌝ }
     ensures { λ r. ⌜ r ≡ reading (contentAnswer f) (recordOf f) ⌝ }
@@ -65,8 +65,9 @@ fn inner(f: [u8; 32]) -> Reading
         body: body,
         slots: slots,
         text: text,
+        spares: spares,
     };
-    let told = record.told(spares.front, spares.behind);
+    let told = record.told();
     let rules = told.found;
     let found = Verdict::Fine
         .unless(body.code() != 0, Refusal::Category)

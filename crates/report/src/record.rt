@@ -5,10 +5,12 @@ ghost use Rattle.report.specs.Meaning.{usedOf};
 ghost use Rattle.report.specs.Records.{zeros};
 use crate::body::Body;
 use rows::common::Common;
+use rows::fields::Spares;
 use slots::silence::used;
 use slots::slot::Slot;
 
-// A report. What its category does not use is zero.
+// A report. What its category does not use is zero. Of its spares nobody knows what they say, and they are
+// written as they were read.
 pub struct Record {
     pub preamble: u8,
     pub reserved: u8,
@@ -16,6 +18,7 @@ pub struct Record {
     pub body: Body,
     pub slots: [Slot; 16],
     pub text: [u8; 18],
+    pub spares: Spares,
 }
 
 impl Record {
@@ -30,6 +33,7 @@ impl Record {
             body: Body::NoCategory,
             slots: [Slot::none(); 16],
             text: [0u8; 18],
+            spares: Spares::none(),
         }
     }
 

@@ -10,12 +10,11 @@ use crate::record::Record;
 use rows::refusal::Refusal;
 use rows::refusal::Verdict;
 
-// What writing a record to a buffer of this size answers, and the fields that are written. The spares are not in a
-// record: they are zero.
+// What writing a record to a buffer of this size answers, and the fields that are written.
 fn asked(r: Record, size: usize) -> Told
     ensures { λ t. ⌜ t ≡ writingTold r size ⌝ }
 {
-    let told = r.told(0, 0);
+    let told = r.told();
     let found = told.found;
     let fields = told.fields;
     let table = fields.table;

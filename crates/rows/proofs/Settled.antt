@@ -59,3 +59,6 @@ Verdict-in-group-is-settled κs a x y = answer
 
 pub is-notification-is-settled : Settled rows.codes.is_notification.ended rows.codes.is_notification.Reads.Post
 is-notification-is-settled κs a x y = answer
+
+pub Spares-none-is-settled : Settled rows.fields.Spares.none.ended rows.fields.Spares.none.Reads.Post
+Spares-none-is-settled κs a x y = answer

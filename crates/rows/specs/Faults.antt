@@ -5,22 +5,18 @@ use mathlib.Core.Bool.{Bool, true, false}
 use mathlib.Core.Logic.{_⊎_}
 use mathlib.Core.List.{List, _∷_, []}
 use Rattle.rows.specs.declared.refusal.Refusal.{Refusal}
-use Rattle.rows.specs.declared.refusal.Refusal.the-variants.{Range, Spare, Gap}
+use Rattle.rows.specs.declared.refusal.Refusal.the-variants.{Range, Gap}
 use Rattle.rows.specs.Refusals.{says}
-use Rattle.rows.specs.Layout.{Rule, asks, spare, Row, Slots, Layout, common, ending, slotRows}
+use Rattle.rows.specs.Layout.{Row, Slots, Layout, common, ending, slotRows}
 use Rattle.rows.specs.Values.{Values}
 use Rattle.rows.specs.Kept.{Keeps, Empty}
 
--- 9 for a spare that is not zero, 8 for any other field that does not keep its rule
-abbrev pub blame : Rule → ℕ → Refusal
-blame (asks a) at = Range at
-blame spare at = Spare at
-
+-- 8 for a field that does not keep its rule
 abbrev pub RowFault : List ℕ → List Row → List ℕ → Refusal → Type 0
 RowFault past [] vs x = ⊥
 RowFault past (r ∷ rs) [] x = ⊥
 RowFault past (r ∷ rs) (v ∷ vs) x =
-    ((Keeps (r .rule) past v vs → ⊥) × (x ≡ blame (r .rule) (r .first))) ⊎ RowFault (v ∷ past) rs vs x
+    ((Keeps (r .rule) past v vs → ⊥) × (x ≡ Range (r .first))) ⊎ RowFault (v ∷ past) rs vs x
 
 -- a slot behind the first that is not empty: 10 where an empty one stands before it (`gap`), and its fields' own faults
 abbrev pub LaterFault : Slots → Bool → ℕ → List (List ℕ) → Refusal → Type 0

@@ -1,9 +1,9 @@
 -- What it is for values to keep the rules of rows, without an order.
-use Prim.Native.Nat.{ℕ, _+_, _≤_}
+use Prim.Native.Nat.{ℕ, _+_, _^_, _≤_, _<_}
 use mathlib.Core.Path.{_≡_}
 use mathlib.Core.Logic.{_⊎_}
 use mathlib.Core.List.{List, _∷_, []}
-use Rattle.rows.specs.Layout.{Span, _to_, Codes, Member, Ask, inSpans, fromLast, inGroup, Rule, asks, spare, Row, Slots, Layout, common, ending, slotRows}
+use Rattle.rows.specs.Layout.{Span, _to_, Codes, Member, Rule, among, rising, inGroup, spare, Row, Slots, Layout, common, ending, slotRows}
 use Rattle.rows.specs.Values.{Values}
 
 -- the value lies in one of the spans
@@ -26,16 +26,12 @@ StartsWith (c ∷ cs) (v ∷ vs) = (v ≡ c) × StartsWith cs vs
 abbrev pub Together : Codes → List ℕ → ℕ → List ℕ → Type 0
 Together c past v next = StartsWith (c .before) past × ((v ≡ c .own) × StartsWith (c .behind) next)
 
--- the value is what is asked for; `past` are the values before it, the latest first, and `next` those behind it
-abbrev pub Asked : Ask → List ℕ → ℕ → List ℕ → Type 0
-Asked (inSpans ss) past v next = In ss v
-Asked (fromLast hi) past v next = (latest past ≤ v) × (v ≤ hi)
-Asked (inGroup ss c) past v next = In ss v ⊎ Together c past v next
-
--- the value keeps the rule
+-- the value keeps the rule; `past` are the values before it, the latest first, and `next` those behind it
 abbrev pub Keeps : Rule → List ℕ → ℕ → List ℕ → Type 0
-Keeps (asks a) past v next = Asked a past v next
-Keeps spare past v next = v ≡ 0
+Keeps (among ss) past v next = In ss v
+Keeps (rising hi) past v next = (latest past ≤ v) × (v ≤ hi)
+Keeps (inGroup ss c) past v next = In ss v ⊎ Together c past v next
+Keeps (spare w) past v next = v < 2 ^ w
 
 -- each value keeps its row's rule
 abbrev pub Kept : List ℕ → List Row → List ℕ → Type 0

@@ -1,6 +1,6 @@
 -- The tables of a frame (document 01, "The frame on the wire"): first bit, width, and what may stand there. Bits 0 to 7 are
 -- the preamble, bits 226 to 249 the parity. What each category has is for its own crate.
-use Prim.Native.Nat.{ℕ, zero, suc, _+_, _^_}
+use Prim.Native.Nat.{ℕ, zero, suc, _+_, _-_, _^_}
 use mathlib.Core.Bool.{Bool, true, false, _&&_}
 use mathlib.Core.List.{List, _∷_, _++_, []}
 use lib.Dec.{leb, eqb, ltb}
@@ -17,23 +17,13 @@ pub record Codes : Type 0 where
   pub own : ℕ
   pub behind : List ℕ
 
--- what may be asked of a value: that it lies in one of these spans; that it lies between the value before it and this one; that it
--- lies in one of these spans, or all fields of its group have their codes
-pub data Ask : Type 0 where
-  inSpans : List Span → Ask
-  fromLast : ℕ → Ask
-  inGroup : List Span → Codes → Ask
-
--- what a field may hold: a value of which something is asked; nothing
+-- what a field may hold: a value in one of these spans; one from the value before it up to this one; one in one of these spans, or
+-- all fields of its group have their codes; anything of so many bits, since nobody knows yet what it says
 pub data Rule : Type 0 where
-  asks : Ask → Rule
-  spare : Rule
-
-abbrev pub among : List Span → Rule
-among ss = asks (inSpans ss)
-
-abbrev pub rising : ℕ → Rule
-rising hi = asks (fromLast hi)
+  among : List Span → Rule
+  rising : ℕ → Rule
+  inGroup : List Span → Codes → Rule
+  spare : ℕ → Rule
 
 pub record Row : Type 0 where
   pub first : ℕ
@@ -42,6 +32,9 @@ pub record Row : Type 0 where
 
 abbrev pub row : ℕ → ℕ → Rule → Row
 row a w r = record { first = a; width = w; rule = r }
+
+abbrev pub spareRow : ℕ → ℕ → Row
+spareRow a w = row a w (spare w)
 
 abbrev pub within : ℕ → ℕ → Rule
 within lo hi = among (lo to hi ∷ [])
@@ -68,7 +61,7 @@ codesOf (m ∷ ms) = m .code ∷ codesOf ms
 abbrev pub grouped : ℕ → List ℕ → List Member → List Row
 grouped a past [] = []
 grouped a past (m ∷ ms) =
-    row a (m .width) (asks (inGroup (m .normal) (record { before = past; own = m .code; behind = codesOf ms })))
+    row a (m .width) (inGroup (m .normal) (record { before = past; own = m .code; behind = codesOf ms }))
     ∷ grouped (a + m .width) (m .code ∷ past) ms
 
 abbrev pub group : ℕ → List Member → List Row
@@ -97,7 +90,8 @@ pub record Slots : Type 0 where
   pub parts : Parts
 
 -- a category: its code (Dc), its classifications (Rc), its information types (It), and what stands from bit 43 up to bit 213:
--- rows in front, slots, the rows of a text, and rows behind. Spares are rows like any other.
+-- rows in front, slots, the rows of a text, and rows behind. Spares are rows like any other: Spare1 is among the rows in front,
+-- Spare2, where there is one, among those behind.
 pub record Layout : Type 0 where
   pub code : ℕ
   pub rcs : List Span
@@ -149,7 +143,7 @@ corrected = 0 to 2 ∷ []
 
 -- "Spare1 at 43, 10 long"
 abbrev pub spare1 : Row
-spare1 = row 43 10 spare
+spare1 = spareRow 43 10
 
 -- day, hour, minute
 abbrev pub time : ℕ → List Row
@@ -163,9 +157,9 @@ bytes (suc n) a = row a 8 (within 0 255) ∷ bytes n (a + 8)
 abbrev pub noSlots : Slots
 noSlots = record { count = 0; first = 0; bits = 0; rows = []; parts = record { day = false; hour = false; minute = false; strength = false; place = false } }
 
--- no category: all spare
+-- no category: of bits 53 to 213 nothing is known
 abbrev pub noCategory : Layout
-noCategory = record { code = 0; rcs = twoOrSeven; types = uncorrected; front = spare1 ∷ []; slots = noSlots; text = []; behind = row 53 161 spare ∷ [] }
+noCategory = record { code = 0; rcs = twoOrSeven; types = uncorrected; front = spare1 ∷ []; slots = noSlots; text = []; behind = row 53 161 (within 0 (2 ^ 161 - 1)) ∷ [] }
 
 -- ---- slots on the wire
 
@@ -201,15 +195,12 @@ abbrev pub allBelow : ℕ → List Span → Bool
 allBelow n [] = true
 allBelow n ((lo to hi) ∷ ss) = leb lo hi && (ltb hi n && allBelow n ss)
 
-abbrev pub bounded : Ask → ℕ → Bool
-bounded (inSpans ss) n = allBelow n ss
-bounded (fromLast hi) n = ltb hi n
+abbrev pub bounded : Rule → ℕ → Bool
+bounded (among ss) n = allBelow n ss
+bounded (rising hi) n = ltb hi n
 bounded (inGroup ss c) n = allBelow n ss && ltb (c .own) n
-
-abbrev pub fitting : Rule → ℕ → Bool
-fitting (asks a) w = bounded a (2 ^ w)
-fitting spare w = true
+bounded (spare w) n = leb (2 ^ w) n
 
 abbrev pub allFit : List Row → Bool
 allFit [] = true
-allFit (r ∷ rs) = fitting (r .rule) (r .width) && allFit rs
+allFit (r ∷ rs) = bounded (r .rule) (2 ^ r .width) && allFit rs

@@ -1,7 +1,8 @@
--- The refusals and their numbers (document 01, "What each number says").
+-- The refusals and their numbers (document 01, "What each number says"). 9 was given for a spare that is not zero: "9 no longer
+-- occurs".
 use Prim.Native.Nat.{ℕ}
 use Rattle.rows.specs.declared.refusal.Refusal.{Refusal}
-use Rattle.rows.specs.declared.refusal.Refusal.the-variants.{Length, Padding, Preamble, Parity, Message, Version, Category, Range, Spare, Gap, Unused, NoPage, OtherBulletin, Unsound, NotHeld, Short, Line}
+use Rattle.rows.specs.declared.refusal.Refusal.the-variants.{Length, Padding, Preamble, Parity, Message, Version, Category, Range, Gap, Unused, NoPage, OtherBulletin, Unsound, NotHeld, Short, Line}
 use Rattle.rows.specs.declared.refusal.Said.{Said}
 use Rattle.rows.specs.declared.refusal.Verdict.{Verdict}
 use Rattle.rows.specs.declared.refusal.Verdict.the-variants.{Fine, Refused}
@@ -22,7 +23,6 @@ says Message = plain 5
 says Version = plain 6
 says Category = plain 7
 says (Range p) = at 8 p
-says (Spare p) = at 9 p
 says (Gap p) = at 10 p
 says Unused = plain 11
 says NoPage = plain 12

@@ -5,8 +5,9 @@ use lib.ListN.{getD, length, replicate}
 use Rattle.bits.specs.Frame.{fieldOf}
 use Rattle.rows.specs.declared.common.Common.{Common}
 use Rattle.rows.specs.declared.time.Time.{Time}
-use Rattle.rows.specs.Layout.{Row, Layout, common, ending, noCategory, slotRows, Parts, Slots}
-use mathlib.Core.Bool.{Bool, false, true, _&&_}
+use Rattle.rows.specs.declared.fields.Spares.{Spares}
+use Rattle.rows.specs.Layout.{Rule, among, rising, inGroup, spare, Row, Layout, common, ending, noCategory, slotRows, Parts, Slots}
+use mathlib.Core.Bool.{Bool, false, true, _&&_, _||_, cond}
 use lib.Dec.{eqb}
 
 -- the values in the order of the frame, bits 8 to 225
@@ -49,6 +50,34 @@ pub record Sides : Type 0 where
 -- those of a frame
 abbrev pub sidesAt : List ℕ → Layout → Sides
 sidesAt s l = record { front = map (cut s) (l .front); behind = map (cut s) (l .behind) }
+
+-- ---- the spares among them
+
+abbrev pub isSpare : Rule → Bool
+isSpare (among ss) = false
+isSpare (rising hi) = false
+isSpare (inGroup ss c) = false
+isSpare (spare w) = true
+
+abbrev pub hasSpare : List Row → Bool
+hasSpare [] = false
+hasSpare (r ∷ rs) = isSpare (r .rule) || hasSpare rs
+
+-- the value of the first spare among rows whose values stand from the one at k on, 0 where there is none
+abbrev pub spareAmong : List Row → List ℕ → ℕ → ℕ
+spareAmong [] vs k = 0
+spareAmong (r ∷ rs) vs k = cond (isSpare (r .rule)) (getD vs k 0) (spareAmong rs vs (suc k))
+
+-- Spare1 and Spare2
+abbrev pub sparesFrom : Layout → Sides → Spares
+sparesFrom l v = record { first = spareAmong (l .front) (v .front) 0; second = spareAmong (l .behind) (v .behind) 0 }
+
+-- those of a frame
+abbrev pub sparesAt : List ℕ → Layout → Spares
+sparesAt s l = sparesFrom l (sidesAt s l)
+
+abbrev pub noSpares : Spares
+noSpares = record { first = 0; second = 0 }
 
 -- l, and zeros behind it up to n numbers
 abbrev pub filled : ℕ → List ℕ → List ℕ

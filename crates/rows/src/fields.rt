@@ -1,10 +1,11 @@
 // What the table of a category says, and the fields of a record in its order, as numbers.
 ghost use mathlib.Core.Path.{_≡_};
 ghost use Prim.Native.Nat.{_%_, _^_};
+ghost use Rattle.rows.specs.Values.{noSpares};
 
 // The category's code, 0 for none; how many slots it has, the first bit of the first one, how many bits each
-// has, and how many of them its day, hour, minute, strength and place have; whether it has text; and the first
-// bit behind the slots and the text.
+// has, and how many of them its day, hour, minute, strength and place have; whether it has text, and a second
+// spare; and the first bit behind the slots and the text.
 pub struct Table {
     pub code: u8,
     pub count: usize,
@@ -12,6 +13,7 @@ pub struct Table {
     pub bits: u8,
     pub widths: [u8; 5],
     pub text: bool,
+    pub second: bool,
     pub rest: u8,
 }
 
@@ -25,10 +27,22 @@ pub struct Fields {
     pub behind: [u64; 3],
 }
 
-// What stands in the spares in front of the slots and behind them; 0 where there is none.
+// The bits of a frame that nobody knows yet: Spare1 in front of a category's fields and Spare2 behind them, 0
+// where a category has none. A later edition may put a field there, so they are kept as they are.
 pub struct Spares {
-    pub front: u64,
-    pub behind: u64,
+    pub first: u64,
+    pub second: u64,
+}
+
+impl Spares {
+    pub fn none() -> Spares
+        ensures { λ r. ⌜ r ≡ noSpares ⌝ }
+    {
+        Spares {
+            first: 0,
+            second: 0,
+        }
+    }
 }
 
 // What is left of a number in a field of one byte, and in one of two.

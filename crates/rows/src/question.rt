@@ -1,7 +1,8 @@
 // One question after another; the first refusal is the answer.
 ghost use mathlib.Core.Path.{_≡_};
 ghost use mathlib.Core.Bool.{_&&_, _||_};
-ghost use lib.Dec.{leb, eqb};
+ghost use Prim.Native.Nat.{_^_};
+ghost use lib.Dec.{leb, ltb};
 ghost use Rattle.rows.specs.Runs.Questions.{_then_, unless};
 ghost use Rattle.rows.specs.Runs.Verdict.{ranged};
 use crate::refusal::Refusal;
@@ -11,6 +12,15 @@ fn between(v: u64, lo: u64, hi: u64) -> bool
     ensures { λ r. ⌜ r ≡ leb lo v && leb v hi ⌝ }
 {
     lo <= v && v <= hi
+}
+
+fn fits(v: u64, width: u8) -> bool
+    ensures { λ r. ⌜ r ≡ ltb v (2 ^ width) ⌝ }
+{
+    if width > 63 {
+        return true;
+    }
+    v >> width == 0
 }
 
 impl Verdict {
@@ -53,9 +63,10 @@ impl Verdict {
         self.within(at, v, lo, hi)
     }
 
-    pub fn spare(self, at: u8, v: u64) -> Verdict
-        ensures { λ r. ⌜ r ≡ self then unless (eqb v 0) (Refusal.Spare at) ⌝ }
+    // A spare of so many bits: 8, unless the value fits them.
+    pub fn spare(self, at: u8, width: u8, v: u64) -> Verdict
+        ensures { λ r. ⌜ r ≡ self then ranged (ltb v (2 ^ width)) at ⌝ }
     {
-        self.unless(v == 0, Refusal::Spare(at))
+        self.ranged(at, fits(v, width))
     }
 }

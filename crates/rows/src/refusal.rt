@@ -1,5 +1,5 @@
 // Why a call is refused: a variant for each row of document 01, "What each number says". A place is
-// the first bit of the field, spare or slot that is meant.
+// the first bit of the field or slot that is meant.
 ghost use mathlib.Core.Path.{_≡_};
 ghost use Rattle.rows.specs.Refusals.{plain, at, says};
 ghost use Rattle.rows.specs.Runs.Questions.{_then_};
@@ -13,8 +13,7 @@ pub enum Refusal {
     Version, // 6
     Category, // 7
     Range(u8), // 8
-    Spare(u8), // 9
-    Gap(u8), // 10
+    Gap(u8), // 10: 9 was given for a spare that is not zero, and is not used again
     Unused, // 11
     NoPage, // 12
     OtherBulletin, // 13
@@ -71,7 +70,6 @@ impl Refusal {
             Refusal::Version => Said::plain(6),
             Refusal::Category => Said::plain(7),
             Refusal::Range(place) => Said::at(8, place),
-            Refusal::Spare(place) => Said::at(9, place),
             Refusal::Gap(place) => Said::at(10, place),
             Refusal::Unused => Said::plain(11),
             Refusal::NoPage => Said::plain(12),

@@ -10,6 +10,7 @@ use nankai::PageNumbers;
 use report::body::Body;
 use report::record::Record;
 use rows::common::Common;
+use rows::fields::Spares;
 use rows::time::Time;
 use slots::slot::Slot;
 use tsunami::Warning;
@@ -91,6 +92,7 @@ fn issued(at: Time, body: Body, slots: [Slot; 16], text: [u8; 18]) -> Record {
         body: body,
         slots: slots,
         text: text,
+        spares: Spares::none(),
     }
 }
 

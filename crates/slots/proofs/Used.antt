@@ -1,8 +1,8 @@
 -- What the number of used slots says.
-use Rattle.rows.specs.Kept.{AllEmpty, Asked, Empty, Keeps, Kept, LaterKept, SlotsKept}
+use Rattle.rows.specs.Kept.{AllEmpty, Empty, Keeps, Kept, LaterKept, SlotsKept}
 use mathlib.Core.Bool.{Bool, _||_, false, not, true, cond}
 use mathlib.Core.List.{List, [], _∷_, _++_, map}
-use Rattle.rows.specs.Layout.{Row, Rule, Slots, asks, slotRows, spare, shifted}
+use Rattle.rows.specs.Layout.{Row, Slots, slotRows, shifted}
 use Rattle.rows.proofs.Layouts.Lengths.{SlotsFilled}
 use Prim.Native.Nat.{_+_, _<_, _≤_, suc, zero, ℕ, _*_, _-_}
 use mathlib.Core.Path.{_∙_, _≡_, ap, refl, subst, sym, ap₂}
@@ -10,7 +10,7 @@ use Rattle.rows.specs.Runs.Verdict.{empty}
 use Rattle.rows.proofs.Rules.JudgedSlots.{empty-is, is-empty}
 use Rattle.rows.proofs.Rules.Outcomes.{false-not-true}
 use lib.ListN.{getD, length, replicate}
-use Rattle.rows.proofs.Rules.Kinds.{mayBeZero, zero-asked}
+use Rattle.rows.proofs.Rules.Kinds.{mayBeZero, zero-kept}
 use native.Mathlib.Nat.{le-of-suc-le-suc, not-suc-le-zero, suc-inj, suc-ne-zero}
 use Rattle.slots.specs.Slots.{usedAmong, noSlot, slotOf, slotParts, slotsOf}
 use mathlib.Core.Logic.{⊎-elim}
@@ -95,26 +95,19 @@ later-empty k at (v ∷ vs) h (suc i) u l =
     h
 
 -- the first slot is used, for one of its fields may not be zero: one test on the table
-abbrev pub allows : Rule → Bool
-allows (asks a) = mayBeZero a
-allows spare = true
-
 abbrev pub names : List Row → Bool
 names [] = false
-names (r ∷ rs) = not (allows (r .rule)) || names rs
+names (r ∷ rs) = not (mayBeZero (r .rule)) || names rs
 
 not-silent : (past : List ℕ) (rs : List Row) (v : List ℕ) → length v ≡ length rs → names rs ≡ true → Kept past rs v → Empty v → ⊥
 not-silent past [] v l n h e = false-not-true n
 not-silent past (r ∷ rs) [] l n h e = suc-ne-zero (length rs) (sym l)
-not-silent past (r ∷ rs) (v ∷ vs) l n h e = by (r .rule) (λ m. not-silent (v ∷ past) rs vs (suc-inj l) m (h .1) (e .1)) n (h .0)
+not-silent past (r ∷ rs) (v ∷ vs) l n h e =
+    by (mayBeZero (r .rule)) (λ m. not-silent (v ∷ past) rs vs (suc-inj l) m (h .1) (e .1)) (zero-kept (r .rule) past vs (subst (λ (x : ℕ). Keeps (r .rule) past x vs) (e .0) (h .0))) n
   where
-    asked : (b : Bool) → (names rs ≡ true → ⊥) → b ≡ true → not b || names rs ≡ true → ⊥
-    asked true rest f m = rest m
-    asked false rest f m = false-not-true f
-
-    by : (x : Rule) → (names rs ≡ true → ⊥) → not (allows x) || names rs ≡ true → Keeps x past v vs → ⊥
-    by (asks a) rest m k = asked (mayBeZero a) rest (zero-asked a past vs (subst (λ (x : ℕ). Asked a past x vs) (e .0) k)) m
-    by spare rest m k = rest m
+    by : (b : Bool) → (names rs ≡ true → ⊥) → b ≡ true → not b || names rs ≡ true → ⊥
+    by true rest f m = rest m
+    by false rest f m = false-not-true f
 
 pub behind-used : (k : Slots) (vs : List (List ℕ)) → SlotsFilled k (k .first) vs → names (k .rows) ≡ true → SlotsKept k vs
     → (i : ℕ) → usedAmong vs ≤ i → i < length vs → empty (getD vs i []) ≡ true
@@ -123,7 +116,7 @@ behind-used k (v ∷ vs) f n h i u l = by i (rw (first-counted v vs used) at u) 
   where
     shifted-names : (a : ℕ) (rs : List Row) → names (shifted a rs) ≡ names rs
     shifted-names a [] = refl
-    shifted-names a (r ∷ rs) = ap (λ (b : Bool). not (allows (r .rule)) || b) (shifted-names a rs)
+    shifted-names a (r ∷ rs) = ap (λ (b : Bool). not (mayBeZero (r .rule)) || b) (shifted-names a rs)
 
     used : empty v ≡ false
     used = not-empty v (empty v) refl (not-silent [] (slotRows k (k .first)) v (f .0) (shifted-names (k .first) (k .rows) ∙ n) (h .0))

@@ -4,6 +4,7 @@ use mathlib.Core.Bool.{true}
 use mathlib.Core.List.{List, [], _∷_, _++_}
 use lib.ListN.{getD}
 use Rattle.tsunami.specs.declared.Warning.{Warning}
+use Rattle.rows.specs.declared.fields.Spares.{Spares}
 use Rattle.rows.specs.Values.{Sides}
 use Rattle.rows.specs.Layout.{_to_, Span, Member, member, group, notifications, uncorrected, spare1, row, within, Slots, Layout}
 
@@ -45,6 +46,6 @@ warningFrom v = record {
   code = getD (v .front) 4 0;
 }
 
--- and the values of what they say, with that of the spare
-abbrev pub warningValues : Warning → ℕ → Sides
-warningValues w x = record { front = x ∷ w .notification1 ∷ w .notification2 ∷ w .notification3 ∷ w .code ∷ []; behind = [] }
+-- and the values of what they say, with that of the first spare, which stands beside it in a record; there is no second one
+abbrev pub warningValues : Warning → Spares → Sides
+warningValues w z = record { front = z .first ∷ w .notification1 ∷ w .notification2 ∷ w .notification3 ∷ w .code ∷ []; behind = [] }

@@ -4,8 +4,8 @@ ghost use mathlib.Core.List.{[]};
 ghost use Rattle.rows.specs.Runs.Questions.{_then_};
 ghost use Rattle.rows.specs.Runs.Verdict.{allowed, walk, bodyVerdict};
 ghost use Rattle.tsunami.specs.Tsunami.{tsunami, classifications, warningValues, warningFrom, areas};
-ghost use Rattle.rows.specs.Values.{headValues, sidesAt};
-ghost use Rattle.rows.specs.Runs.Fields.{keptIn, fieldsIn, tableIn, sparesIn};
+ghost use Rattle.rows.specs.Values.{headValues, sidesAt, sparesAt};
+ghost use Rattle.rows.specs.Runs.Fields.{keptIn, fieldsIn, tableIn};
 ghost use Rattle.slots.specs.Slots.{slotsValues};
 
 pub mod meaning; // what the arrival and the height of an area say
@@ -25,11 +25,11 @@ use slots::slot::Slot;
 
 // What stands in its one spare.
 pub fn spares(f: [u8; 32]) -> Spares
-    ensures { λ r. ⌜ r ≡ sparesIn f tsunami ⌝ }
+    ensures { λ r. ⌜ r ≡ sparesAt f tsunami ⌝ }
 {
     Spares {
-        front: bits::field64(f, 43, 10),
-        behind: 0,
+        first: bits::field64(f, 43, 10),
+        second: 0,
     }
 }
 
@@ -44,6 +44,7 @@ fn table() -> Table
         bits: 26,
         widths: [1, 5, 6, 4, 10],
         text: false,
+        second: false,
         rest: 214,
     }
 }
@@ -92,29 +93,29 @@ impl Warning {
     }
 
     // The rows in front of the areas, behind what has been found.
-    fn front(self, found: Verdict, spare: u64) -> Verdict
-        ensures { λ r. ⌜ r ≡ found then walk [] (tsunami .front) (warningValues self spare .front) ⌝ }
+    fn front(self, found: Verdict, spares: Spares) -> Verdict
+        ensures { λ r. ⌜ r ≡ found then walk [] (tsunami .front) (warningValues self spares .front) ⌝ }
     {
         found
-            .spare(43, spare)
+            .spare(43, 10, spares.first)
             .ranged(53, is_notification(self.notification1))
             .ranged(62, is_notification(self.notification2))
             .ranged(71, is_notification(self.notification3))
             .within(80, self.code as u64, 1, 15)
     }
 
-    // All rules from bit 8 to bit 213, behind what has been found. The spare is not in the record.
-    pub fn check(self, found: Verdict, c: Common, slots: [Slot; 16], spare: u64) -> Verdict
-        ensures { λ r. ⌜ r ≡ found then bodyVerdict tsunami (headValues c 5) (warningValues self spare) (slotsValues areas slots) ⌝ }
+    // All rules from bit 8 to bit 213, behind what has been found.
+    pub fn check(self, found: Verdict, c: Common, slots: [Slot; 16], spares: Spares) -> Verdict
+        ensures { λ r. ⌜ r ≡ found then bodyVerdict tsunami (headValues c 5) (warningValues self spares) (slotsValues areas slots) ⌝ }
     {
         let head = found.common(c, is_classification(c.rc), is_uncorrected(c.it));
-        let front = self.front(head, spare);
+        let front = self.front(head, spares);
         check_areas(front, slots)
     }
 
     // The rows in front of the areas as numbers, in the order of the table.
-    pub fn fields(self, spare: u64) -> Fields
-        ensures { λ r. ⌜ r ≡ fieldsIn tsunami (warningValues self spare) ⌝ }
+    pub fn fields(self, spares: Spares) -> Fields
+        ensures { λ r. ⌜ r ≡ fieldsIn tsunami (warningValues self spares) ⌝ }
     {
         let first = self.notification1 as u64;
         let second = self.notification2 as u64;
@@ -124,7 +125,7 @@ impl Warning {
             table: table(),
             ahead: [10, 9, 9, 9, 4, 0, 0, 0, 0, 0, 0, 0, 0, 0, 0, 0, 0, 0],
             front: [
-                spare,
+                spares.first,
                 first,
                 second,
                 third,

@@ -1,12 +1,12 @@
 //! Names of bulletins, and records for a store to take or to refuse.
 
-use super::{allowed_value, any_record, random_bytes, valid_record};
+use super::{allowed_value, any_record, random_bytes, too_wide, valid_record, valid_spares};
 use crate::random::Random;
 use crate::record::{Category, Record, PREAMBLES};
 use crate::store::{Name, PAGE_LENGTH};
 
 /// The values of a name in its order, each with the ranges of document 01.
-const NAME_VALUES: [&[(u32, u32)]; 8] = [
+const NAME_VALUES: [&[(u64, u64)]; 8] = [
     &[(2, 2), (7, 7)],
     &[(1, 12)],
     &[(1, 31)],
@@ -59,10 +59,10 @@ pub fn bad_name(random: &mut Random, name: &Name) -> Name {
     Name::of_bytes(bytes)
 }
 
-fn value_outside(random: &mut Random, allowed: &[(u32, u32)]) -> u8 {
+fn value_outside(random: &mut Random, allowed: &[(u64, u64)]) -> u8 {
     loop {
         let (lowest, highest) = random.pick(allowed);
-        let far = u32::from(random.byte());
+        let far = random.bits(8);
         let value = random.pick(&[lowest.saturating_sub(1), highest + 1, highest + 64, far]);
         if !allowed.iter().any(|&(lowest, highest)| (lowest..=highest).contains(&value)) {
             return value as u8;
@@ -87,10 +87,17 @@ pub fn few_texts(random: &mut Random) -> Vec<[u8; PAGE_LENGTH]> {
 
 /// A valid page of a bulletin, with one of the texts.
 pub fn bulletin_page(random: &mut Random, name: &Name, texts: &[[u8; PAGE_LENGTH]]) -> Record {
-    let page = allowed_value(random, &[(1, u32::from(name.total))]) as u8;
+    let page = allowed_value(random, &[(1, name.total.into())]) as u8;
+    let text = random.pick(texts);
+    sent_again(random, &name.page(page, text))
+}
+
+/// The same page with any preamble, Reserved and spares, which play no part.
+pub fn sent_again(random: &mut Random, page: &Record) -> Record {
     let preamble = random.pick(&PREAMBLES);
     let reserved = random.bits(6) as u8;
-    Record { preamble, reserved, ..name.page(page, random.pick(texts)) }
+    let spares = valid_spares(random, Category::Nankai);
+    Record { preamble, reserved, spares, ..*page }
 }
 
 /// A record for the store of a bulletin: mostly one of its pages.
@@ -112,18 +119,20 @@ pub fn any_taking(random: &mut Random, bulletin: &Bulletin) -> Record {
 
 /// Page 0, or a page beyond the total, near or far.
 pub fn wrong_page(random: &mut Random, name: &Name, texts: &[[u8; PAGE_LENGTH]]) -> Record {
-    let beyond = random.between(u32::from(name.total) + 1, 255) as u8;
+    let beyond = random.between(u64::from(name.total) + 1, 255) as u8;
     let page = random.pick(&[0, name.total + 1, beyond]);
     name.page(page, random.pick(texts))
 }
 
-/// A page of the bulletin with a bad preamble, too much in Reserved, or
-/// something in a slot.
+/// A page of the bulletin with a bad preamble, too much in Reserved or in a
+/// spare, or something in a slot.
 pub fn spoiled_page(random: &mut Random, name: &Name, texts: &[[u8; PAGE_LENGTH]]) -> Record {
     let mut record = bulletin_page(random, name, texts);
-    match random.below(3) {
+    match random.below(5) {
         0 => record.preamble = random.pick(&[0, 0x52, 0x54, 0xFF]),
         1 => record.reserved = random.between(64, 255) as u8,
+        2 => record.spares[0] = too_wide(random, 10),
+        3 => record.spares[1] = too_wide(random, 1),
         _ => record.slots[random.below(16)].strength = 1,
     }
     record

@@ -14,7 +14,8 @@ use crate::record::{Category, PREAMBLES};
 /// The categories that have slots.
 pub const WITH_SLOTS: [Category; 3] = [Category::Intensity, Category::Tsunami, Category::AshFall];
 
-/// A frame that must be read, with a random number of used slots.
+/// A frame that must be read, with a random number of used slots and whatever
+/// its spares hold.
 pub fn valid_frame(random: &mut Random, category: Category) -> Frame {
     let count = slot_layout(category).count;
     let used = if count == 0 { 0 } else { 1 + random.below(count) };
@@ -82,9 +83,13 @@ pub fn half_filled_frame(random: &mut Random) -> Frame {
     raw_frame(&base, &[part_of_zero(random, category, used - 1)])
 }
 
-/// A frame with a bit set in one spare or in more.
+/// A frame that must be read, with one or two bits set in its spares and no
+/// other there.
 pub fn spare_frame(random: &mut Random, category: Category) -> Frame {
     let mut frame = valid_frame(random, category);
+    for spare in spares(category) {
+        set(&mut frame, spare.first, spare.width, 0);
+    }
     use_spare(random, &mut frame, category);
     if random.one_in(3) {
         use_spare(random, &mut frame, category);
@@ -219,7 +224,7 @@ pub fn slices(random: &mut Random) -> Vec<Vec<u8>> {
 
 /// Preamble, message type, category and version as they must be.
 fn put_envelope(random: &mut Random, frame: &mut Frame, category: Category) {
-    set(frame, 0, 8, u32::from(random.pick(&PREAMBLES)));
+    set(frame, 0, 8, random.pick(&PREAMBLES).into());
     set(frame, 8, 6, 43);
     set(frame, 17, 4, category.code());
     set(frame, 214, 6, 1);
@@ -258,12 +263,13 @@ fn clear_slot(frame: &mut Frame, category: Category, slot: usize) {
 /// Sets one bit of a spare; the first and the last are the likeliest to be
 /// forgotten and come up most often.
 fn use_spare(random: &mut Random, frame: &mut Frame, category: Category) {
-    let (first, width) = random.pick(&spares(category));
-    let position = allowed_value(random, &[(first as u32, (first + width - 1) as u32)]);
-    set_bit(frame, position as usize, true);
+    let Field { first, width, .. } = random.pick(&spares(category));
+    let any = first + random.below(width);
+    set_bit(frame, random.pick(&[first, first + width - 1, any, any]), true);
 }
 
-/// One disturbance behind the envelope; the parity is left to be renewed.
+/// One disturbance behind the envelope; the parity is left to be renewed. A bit
+/// in a spare is no fault and must hide none.
 fn disturb(random: &mut Random, frame: &mut Frame, category: Category) {
     let layout = slot_layout(category);
     match random.below(if layout.count == 0 { 2 } else { 4 }) {
@@ -283,10 +289,10 @@ fn disturb(random: &mut Random, frame: &mut Frame, category: Category) {
 
 /// Makes one of refusals 2 to 7 true; the parity stays right in all but 4.
 fn break_envelope(random: &mut Random, frame: &mut Frame) {
-    let right_preambles = PREAMBLES.map(u32::from);
+    let right_preambles = PREAMBLES.map(u64::from);
     let right_categories = Category::ALL.map(Category::code);
     let right_parity = [get(frame, 226, 24)];
-    let (first, width, right): (usize, usize, &[u32]) = random.pick(&[
+    let (first, width, right): (usize, usize, &[u64]) = random.pick(&[
         (250, 6, &[0][..]),
         (0, 8, &right_preambles[..]),
         (226, 24, &right_parity[..]),
@@ -301,7 +307,7 @@ fn break_envelope(random: &mut Random, frame: &mut Frame) {
 }
 
 /// A number of some width that is none of the right ones.
-fn other_than(random: &mut Random, width: usize, right: &[u32]) -> u32 {
+fn other_than(random: &mut Random, width: usize, right: &[u64]) -> u64 {
     loop {
         let value = random.bits(width);
         if !right.contains(&value) {

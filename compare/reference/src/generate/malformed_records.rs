@@ -1,11 +1,12 @@
 //! Records for the writer to refuse.
 
 use super::{
-    any_category, bounds, part_of_zero, slot_count, valid_record, valid_slot, Bounds, WITH_SLOTS,
+    any_category, bounds, part_of_zero, set_number, slot_count, valid_record, valid_slot, Bounds,
+    WITH_SLOTS,
 };
-use crate::fields::RESERVED;
+use crate::fields::{spares, RESERVED};
 use crate::random::Random;
-use crate::record::{Body, Category, Hypocenter, Record, Slot, Time, PREAMBLES};
+use crate::record::{Body, Category, Record, Slot, PREAMBLES};
 
 /// Every number of a category at its bounds, just outside and far outside,
 /// one at a time, in records that are otherwise valid with all slots used.
@@ -111,15 +112,23 @@ pub fn arrival_record(random: &mut Random) -> Record {
     record
 }
 
+/// A record with a number of any size in a spare, which fits or is too wide.
+pub fn spare_record(random: &mut Random, category: Category) -> Record {
+    let mut record = valid_record(random, category);
+    put_spare(random, &mut record, category);
+    record
+}
+
 /// A record disturbed in two to six places.
 pub fn many_faults_record(random: &mut Random, category: Category) -> Record {
     let mut record = valid_record(random, category);
     let count = slot_count(category);
     for _ in 0..2 + random.below(5) {
-        let choices = if count == 0 { 1 } else { 3 };
+        let choices = if count == 0 { 2 } else { 4 };
         match random.below(choices) {
             0 => put_edge(random, &mut record, category),
-            1 => record.slots[random.below(count)] = Slot::default(),
+            1 => put_spare(random, &mut record, category),
+            2 => record.slots[random.below(count)] = Slot::default(),
             _ => {
                 let slot = random.below(count);
                 clear_part(random, &mut record, category, slot);
@@ -140,7 +149,7 @@ pub fn random_record(random: &mut Random, category: Category) -> Record {
         if random.one_in(3) {
             let most = if random.one_in(8) { 64 } else { 32 };
             let width = 1 + random.below(most);
-            set_number(&mut record, row.first, random.wide_bits(width));
+            set_number(&mut record, row.first, random.bits(width));
         }
     }
     if random.one_in(4) {
@@ -152,102 +161,6 @@ pub fn random_record(random: &mut Random, category: Category) -> Record {
     record
 }
 
-/// Sets the number that goes to a bit of the frame. A value above what the
-/// record's number can hold becomes the most that it can hold.
-pub fn set_number(record: &mut Record, first: usize, value: u64) {
-    match first {
-        14 => record.rc = byte(value),
-        21 => record.month = byte(value),
-        25 => record.day = byte(value),
-        30 => record.hour = byte(value),
-        35 => record.minute = byte(value),
-        41 => record.it = byte(value),
-        220 => record.reserved = byte(value),
-        _ => set_in_category(record, first, value),
-    }
-}
-
-fn set_in_category(record: &mut Record, first: usize, value: u64) {
-    match &mut record.body {
-        Body::Nothing => {}
-        Body::Hypocenter(hypocenter) => set_in_hypocenter(hypocenter, first, value),
-        Body::Intensity(time) if first < 69 => set_in_time(time, first - 53, value),
-        Body::Intensity(_) => {
-            let slot = &mut record.slots[(first - 69) / 9];
-            set_in_slot(slot, 3 + (first - 69) % 9, value);
-        }
-        Body::Nankai { serial, page, total } => match first {
-            53 => *serial = byte(value),
-            201 => *page = byte(value),
-            _ => *total = byte(value),
-        },
-        Body::Tsunami { notifications, warning } => match first {
-            53..=79 => notifications[(first - 53) / 9] = short(value),
-            80 => *warning = byte(value),
-            _ => set_in_area(&mut record.slots[(first - 84) / 26], (first - 84) % 26, value),
-        },
-        Body::AshFall { time, warning, volcano } => match first {
-            53..=68 => set_in_time(time, first - 53, value),
-            69 => *warning = byte(value),
-            71 => *volcano = short(value),
-            _ => set_in_slot(&mut record.slots[(first - 83) / 29], (first - 83) % 29, value),
-        },
-    }
-}
-
-fn set_in_hypocenter(hypocenter: &mut Hypocenter, first: usize, value: u64) {
-    match first {
-        53..=79 => hypocenter.notifications[(first - 53) / 9] = short(value),
-        80..=95 => set_in_time(&mut hypocenter.time, first - 80, value),
-        96 => hypocenter.depth = short(value),
-        105 => hypocenter.magnitude = byte(value),
-        112 => hypocenter.epicenter = short(value),
-        122 => hypocenter.latitude.side = byte(value),
-        123 => hypocenter.latitude.degrees = byte(value),
-        130 => hypocenter.latitude.minutes = byte(value),
-        136 => hypocenter.latitude.seconds = byte(value),
-        142 => hypocenter.longitude.side = byte(value),
-        143 => hypocenter.longitude.degrees = byte(value),
-        151 => hypocenter.longitude.minutes = byte(value),
-        _ => hypocenter.longitude.seconds = byte(value),
-    }
-}
-
-fn set_in_time(time: &mut Time, offset: usize, value: u64) {
-    match offset {
-        0 => time.day = byte(value),
-        5 => time.hour = byte(value),
-        _ => time.minute = byte(value),
-    }
-}
-
-/// The offset is that of ash fall, where the hour comes first.
-fn set_in_slot(slot: &mut Slot, offset: usize, value: u64) {
-    match offset {
-        0 => slot.hour = byte(value),
-        3 => slot.strength = byte(value),
-        _ => slot.place = value,
-    }
-}
-
-fn set_in_area(slot: &mut Slot, offset: usize, value: u64) {
-    match offset {
-        0 => slot.day = byte(value),
-        1 => slot.hour = byte(value),
-        6 => slot.minute = byte(value),
-        12 => slot.strength = byte(value),
-        _ => slot.place = value,
-    }
-}
-
-fn byte(value: u64) -> u8 {
-    value.min(u8::MAX.into()) as u8
-}
-
-fn short(value: u64) -> u16 {
-    value.min(u16::MAX.into()) as u16
-}
-
 /// The rows of a category and Reserved, which only a record can have wrong.
 fn record_bounds(category: Category) -> Vec<Bounds> {
     let mut rows = bounds(category);
@@ -257,13 +170,13 @@ fn record_bounds(category: Category) -> Vec<Bounds> {
 
 /// The edges and what is beyond them. A record's numbers are wider than the
 /// frame's fields, so the value just above is there even if no frame has it.
-/// A place is wider still: what is above 32 bits must not get lost either.
+/// A place and a spare are wider still: what is above 32 bits must not get lost
+/// either.
 fn record_edges(row: &Bounds) -> Vec<u64> {
     let mut values = row.edges();
     values.push(row.highest + 1);
     values.extend(row.far_outside());
-    let mut values: Vec<u64> = values.into_iter().map(u64::from).collect();
-    values.extend([u64::from(row.lowest) + (1 << 32), 1 << 32, u64::MAX]);
+    values.extend([u32::MAX.into(), 1 << 32, row.lowest + (1 << 32)]);
     values
 }
 
@@ -272,13 +185,25 @@ fn put_edge(random: &mut Random, record: &mut Record, category: Category) {
     set_number(record, row.first, random.pick(&record_edges(&row)));
 }
 
+/// Puts a number of 1 to 64 bits into a spare, each length as often as another.
+fn put_spare(random: &mut Random, record: &mut Record, category: Category) {
+    let spare = random.pick(&spares(category));
+    let length = 1 + random.below(64);
+    set_number(record, spare.first, 1 << (length - 1) | random.bits(length));
+}
+
 fn clear_part(random: &mut Random, record: &mut Record, category: Category, slot: usize) {
     set_number(record, part_of_zero(random, category, slot).first, 0);
 }
 
-/// Puts something into a part of a slot or a text byte that the category does
-/// not use.
+/// Puts something into a spare, a text byte or a part of a slot that the
+/// category does not use.
 fn fill_unused(random: &mut Random, record: &mut Record, category: Category) {
+    let spare2_is_unused = category == Category::Tsunami;
+    if spare2_is_unused && random.one_in(3) {
+        record.spares[1] = 1 << random.below(64);
+        return;
+    }
     let text_is_unused = category != Category::Nankai;
     if text_is_unused && random.one_in(2) {
         record.text[random.below(18)] = 1 + random.bits(7) as u8;

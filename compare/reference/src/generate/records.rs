@@ -5,7 +5,8 @@ use super::allowed_value;
 use crate::random::Random;
 use crate::record::{Angle, Body, Category, Hypocenter, Record, Slot, Time, PREAMBLES};
 
-/// A record that must be written, with a random number of used slots.
+/// A record that must be written, with a random number of used slots and
+/// whatever its spares hold.
 pub fn valid_record(random: &mut Random, category: Category) -> Record {
     Record {
         preamble: random.pick(&PREAMBLES),
@@ -16,6 +17,7 @@ pub fn valid_record(random: &mut Random, category: Category) -> Record {
         hour: byte(random, &[(0, 23)]),
         minute: byte(random, &[(0, 59)]),
         it: valid_it(random, category),
+        spares: valid_spares(random, category),
         body: valid_body(random, category),
         slots: valid_slots(random, category),
         text: valid_text(random, category),
@@ -29,12 +31,12 @@ pub fn valid_slot(random: &mut Random, category: Category) -> Slot {
         Category::AshFall => Slot {
             hour: byte(random, &[(1, 6)]),
             strength: byte(random, &[(1, 7)]),
-            place: allowed_value(random, &[(110_000, 4_799_999)]).into(),
+            place: allowed_value(random, &[(110_000, 4_799_999)]),
             ..Slot::default()
         },
         _ => Slot {
             strength: byte(random, &[(1, 7)]),
-            place: allowed_value(random, &[(1, 47)]).into(),
+            place: allowed_value(random, &[(1, 47)]),
             ..Slot::default()
         },
     }
@@ -50,6 +52,17 @@ pub fn slot_count(category: Category) -> usize {
     }
 }
 
+/// Spare1 and Spare2, of which category 5 has the first alone.
+pub fn valid_spares(random: &mut Random, category: Category) -> [u64; 2] {
+    let widths = match category {
+        Category::Hypocenter => [10, 51],
+        Category::Intensity | Category::Nankai => [10, 1],
+        Category::Tsunami => [10, 0],
+        Category::AshFall => [10, 15],
+    };
+    widths.map(|width| allowed_value(random, &[(0, (1 << width) - 1)]))
+}
+
 /// An area of category 5, which the wave may have reached already.
 fn valid_area(random: &mut Random) -> Slot {
     let arrival = (byte(random, &[(0, 23)]), byte(random, &[(0, 59)]));
@@ -59,7 +72,7 @@ fn valid_area(random: &mut Random) -> Slot {
         hour,
         minute,
         strength: byte(random, &[(1, 15)]),
-        place: allowed_value(random, &[(100, 1000)]).into(),
+        place: allowed_value(random, &[(100, 1000)]),
     }
 }
 
@@ -85,7 +98,7 @@ fn valid_body(random: &mut Random, category: Category) -> Body {
         Category::Intensity => Body::Intensity(valid_time(random)),
         Category::Nankai => {
             let page = byte(random, &[(1, 63)]);
-            let total = byte(random, &[(u32::from(page), 63)]);
+            let total = byte(random, &[(page.into(), 63)]);
             Body::Nankai { serial: byte(random, &[(1, 15)]), page, total }
         }
         Category::Tsunami => Body::Tsunami {
@@ -116,7 +129,7 @@ fn valid_notifications(random: &mut Random) -> [u16; 3] {
     [0; 3].map(|_: u16| short(random, &[(0, 0), (101, 500)]))
 }
 
-fn valid_angle(random: &mut Random, most_degrees: u32) -> Angle {
+fn valid_angle(random: &mut Random, most_degrees: u64) -> Angle {
     Angle {
         side: random.pick(&[0, 1]),
         degrees: byte(random, &[(0, most_degrees)]),
@@ -151,10 +164,10 @@ fn valid_text(random: &mut Random, category: Category) -> [u8; 18] {
     [0; 18].map(|_: u8| random.byte())
 }
 
-fn byte(random: &mut Random, allowed: &[(u32, u32)]) -> u8 {
+fn byte(random: &mut Random, allowed: &[(u64, u64)]) -> u8 {
     allowed_value(random, allowed) as u8
 }
 
-fn short(random: &mut Random, allowed: &[(u32, u32)]) -> u16 {
+fn short(random: &mut Random, allowed: &[(u64, u64)]) -> u16 {
     allowed_value(random, allowed) as u16
 }

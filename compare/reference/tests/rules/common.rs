@@ -32,8 +32,8 @@ pub fn written(record: &Record) -> Frame {
 
 /// A frame with values overwritten, each as first bit, width and value, and
 /// the parity made right again.
-pub fn changed(base: &Frame, values: &[(usize, usize, u32)]) -> Frame {
-    let raw = |&(first, width, value): &(usize, usize, u32)| RawValue { first, width, value };
+pub fn changed(base: &Frame, values: &[(usize, usize, u64)]) -> Frame {
+    let raw = |&(first, width, value): &(usize, usize, u64)| RawValue { first, width, value };
     raw_frame(base, &values.iter().map(raw).collect::<Vec<_>>())
 }
 
@@ -54,6 +54,6 @@ pub fn writing(category: Category, change: impl Fn(&mut Record)) -> (u8, u8) {
 }
 
 /// What reading says of a changed sample frame.
-pub fn reading(category: Category, values: &[(usize, usize, u32)]) -> (u8, u8) {
+pub fn reading(category: Category, values: &[(usize, usize, u64)]) -> (u8, u8) {
     outcome(read(&changed(&base_frame(category), values)))
 }

@@ -3,5 +3,6 @@
 mod common;
 mod ranges;
 mod reading;
+mod spares;
 mod tsunami;
 mod writing;

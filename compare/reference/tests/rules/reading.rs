@@ -2,7 +2,6 @@
 
 use crate::common::{base_frame, changed, outcome, reading};
 use reference::bits::{set, Frame};
-use reference::fields::spares;
 use reference::read::read;
 use reference::record::Category::{self, AshFall, Hypocenter, Intensity, Nankai, Tsunami};
 
@@ -10,7 +9,8 @@ use reference::record::Category::{self, AshFall, Hypocenter, Intensity, Nankai, 
 fn of_digits(digits: &str) -> Frame {
     let mut frame = [0; 32];
     for (number, digit) in digits.chars().enumerate() {
-        set(&mut frame, 4 * number, 4, digit.to_digit(16).expect("a hexadecimal digit"));
+        let digit = digit.to_digit(16).expect("a hexadecimal digit");
+        set(&mut frame, 4 * number, 4, digit.into());
     }
     frame
 }
@@ -78,7 +78,7 @@ fn only_ash_fall_knows_a_correction() {
 #[test]
 fn tsunami_reports_have_an_rc_of_their_own() {
     for category in Category::ALL {
-        let right: &[u32] = if category == Tsunami { &[1, 3, 7] } else { &[2, 7] };
+        let right: &[u64] = if category == Tsunami { &[1, 3, 7] } else { &[2, 7] };
         for rc in 0..8 {
             let expected = if right.contains(&rc) { (0, 0) } else { (8, 14) };
             assert_eq!(reading(category, &[(14, 3, rc)]), expected, "{category:?} {rc}");
@@ -104,7 +104,7 @@ fn every_other_category_is_7() {
 fn the_refusals_of_the_envelope_come_in_order() {
     for category in Category::ALL {
         let base = base_frame(category);
-        let bad = [(0, 8, 0), (8, 6, 44), (214, 6, 2), (17, 4, 8), (14, 3, 0), (43, 10, 1)];
+        let bad = [(0, 8, 0), (8, 6, 44), (214, 6, 2), (17, 4, 8), (14, 3, 0), (41, 2, 3)];
         let mut worst = changed(&base, &bad);
         set(&mut worst, 250, 6, 1);
         assert_eq!(outcome(read(&worst[..31])), (1, 0));
@@ -117,7 +117,7 @@ fn the_refusals_of_the_envelope_come_in_order() {
         assert_eq!(outcome(read(&changed(&base, &bad[2..]))), (6, 0));
         assert_eq!(outcome(read(&changed(&base, &bad[3..]))), (7, 0));
         assert_eq!(outcome(read(&changed(&base, &bad[4..]))), (8, 14));
-        assert_eq!(outcome(read(&changed(&base, &bad[5..]))), (9, 43));
+        assert_eq!(outcome(read(&changed(&base, &bad[5..]))), (8, 41));
         assert_eq!(outcome(read(&base)), (0, 0));
     }
 }
@@ -132,28 +132,12 @@ fn every_single_padding_bit_is_refused() {
 }
 
 #[test]
-fn every_single_spare_bit_is_refused_at_the_spare() {
-    // Spares are bits 43 to 52, and those from here on up to the version.
-    let own = [(Hypocenter, 163), (Intensity, 213), (Nankai, 213), (Tsunami, 214), (AshFall, 199)];
-    for (category, first) in own {
-        let expected = if first < 214 { vec![43, first] } else { vec![43] };
-        assert_eq!(spares(category).iter().map(|spare| spare.0).collect::<Vec<_>>(), expected);
-        (43..53).for_each(|one| assert_eq!(reading(category, &[(one, 1, 1)]), (9, 43)));
-        (first..214).for_each(|one| {
-            assert_eq!(reading(category, &[(one, 1, 1)]), (9, first as u8));
-        });
-    }
-}
-
-#[test]
-fn the_lowest_bit_decides_between_range_spare_and_gap() {
-    // It before Spare1 before the category's fields before its own spare.
-    assert_eq!(reading(Hypocenter, &[(41, 2, 3), (43, 10, 1), (96, 9, 502)]), (8, 41));
-    assert_eq!(reading(Hypocenter, &[(43, 10, 1), (96, 9, 502), (163, 3, 7)]), (9, 43));
-    assert_eq!(reading(Hypocenter, &[(96, 9, 502), (163, 3, 7)]), (8, 96));
+fn the_lowest_bit_decides_between_range_and_gap() {
+    assert_eq!(reading(Hypocenter, &[(41, 2, 3), (96, 9, 502)]), (8, 41));
+    assert_eq!(reading(Hypocenter, &[(96, 9, 502), (157, 6, 60)]), (8, 96));
     // A slot out of range before a gap, and a gap before a slot out of range.
     assert_eq!(reading(Intensity, &[(72, 6, 48), (78, 9, 0)]), (8, 72));
-    assert_eq!(reading(Intensity, &[(78, 9, 0), (96, 3, 0), (213, 1, 1)]), (10, 87));
+    assert_eq!(reading(Intensity, &[(78, 9, 0), (96, 3, 0)]), (10, 87));
 }
 
 #[test]

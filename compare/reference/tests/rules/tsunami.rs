@@ -167,7 +167,6 @@ fn the_lowest_bit_decides() {
         (80, 4, 0, (8, 80)),
         (71, 9, 100, (8, 71)),
         (53, 9, 501, (8, 53)),
-        (43, 10, 1, (9, 43)),
         (41, 2, 1, (8, 41)),
         (14, 3, 2, (8, 14)),
     ];
@@ -181,13 +180,14 @@ fn the_lowest_bit_decides() {
 #[test]
 fn writing_has_the_same_order() {
     type Fault = (fn(&mut Record), (u8, u8));
-    let faults: [Fault; 8] = [
+    let faults: [Fault; 9] = [
         (|record| record.reserved = 64, (8, 220)),
         (|record| record.slots[2].place = 99, (8, 152)),
         (|record| record.slots[1] = Slot::default(), (10, 136)),
         (|record| record.slots[0].strength = 0, (8, 96)),
         (|record| record.slots[0].minute = 63, (8, 90)),
         (|record| record.slots[0].hour = 30, (8, 85)),
+        (|record| record.spares[0] = 1024, (8, 43)),
         (|record| record.rc = 2, (8, 14)),
         (|record| record.slots[5].day = 1, (11, 0)),
     ];

@@ -7,6 +7,7 @@ use reference::history::History;
 use reference::player::{Histories, Player, Step, Stores, STORES};
 use reference::random::Random;
 use reference::store::{Store, PAGES};
+use reference::write::write;
 use std::collections::BTreeSet;
 
 const COUNT: usize = 10_000;
@@ -111,6 +112,46 @@ fn histories_reach_every_answer() {
     assert_eq!(answers("merge"), [(0, 0), (13, 0), (14, 0)]);
     assert_eq!(answers("report"), [(0, 0), (14, 0)]);
     assert_eq!(answers("text"), [(0, 0), (0, 1), (14, 0), (15, 1), (15, 2), (16, 0)]);
+}
+
+/// Pages with every filling of the spares are taken, as new and once more, and
+/// those with a spare too wide are not.
+#[test]
+fn histories_reach_pages_that_differ_in_spares() {
+    let mut random = Random::new(9);
+    let mut taken = BTreeSet::new();
+    let mut refused = BTreeSet::new();
+    for _ in 0..COUNT {
+        let mut stores = Stores::default();
+        for step in any_history(&mut random) {
+            let [number, place, _, low] = stores.play(&step).answer;
+            let Step::Take { record, .. } = step else {
+                continue;
+            };
+            if number == 0 {
+                taken.insert((low, record.spares.map(|spare| spare != 0)));
+            } else if number == 8 {
+                refused.insert(place);
+            }
+        }
+    }
+    let fillings = [[false, false], [false, true], [true, false], [true, true]];
+    let all = [1, 2, 3].map(|answer| fillings.map(|filling| (answer, filling)));
+    assert_eq!(taken, BTreeSet::from_iter(all.concat()));
+    assert!([43, 163, 199, 213].iter().all(|place| refused.contains(place)), "{refused:?}");
+}
+
+#[test]
+fn spoiled_pages_reach_every_way_to_be_refused() {
+    let mut random = Random::new(10);
+    let mut seen = BTreeSet::new();
+    for _ in 0..COUNT {
+        let Bulletin { name, texts, .. } = any_bulletin(&mut random);
+        let page = spoiled_page(&mut random, &name, &texts);
+        let refusal = write(&page, &mut [0; 32]).expect_err("the page is spoiled");
+        seen.insert((refusal.number, refusal.place));
+    }
+    assert_eq!(seen, BTreeSet::from([(3, 0), (8, 43), (8, 213), (8, 220), (11, 0)]));
 }
 
 /// Damage reaches every page and every value of the name.

@@ -172,6 +172,39 @@ fn other_categories_are_12_and_wrong_pages_8() {
     assert_eq!(store, opened(NAME));
 }
 
+/// What writing refuses is refused before another category or bulletin is seen,
+/// a spare too wide among it.
+#[test]
+fn a_page_with_a_spare_too_wide_is_8_at_the_spare() {
+    let at = |place| Err::<Taken, _>(Refusal { number: 8, place, page: 0, mark: 0 });
+    let sound = store_of(&[(1, SPRING)]);
+    let page = NAME.page(1, SPRING);
+    let other_bulletin = Name { serial: 6, ..NAME }.page(1, SPRING);
+    for (spares, place) in [
+        ([1024, 0], 43),
+        ([u64::MAX, 0], 43),
+        ([0, 2], 213),
+        ([1023, 3], 213),
+        ([0, u64::MAX], 213),
+        ([1024, 2], 43),
+    ] {
+        for record in [page, other_bulletin] {
+            let (mut store, mut unsound) = (sound, Store::ZEROS);
+            assert_eq!(store.take(&Record { spares, ..record }), at(place));
+            assert_eq!(store, sound);
+            assert_eq!(unsound.take(&Record { spares, ..record }), refused(14));
+        }
+    }
+    let mut store = sound;
+    let quake = samples::hypocenter()[0];
+    assert_eq!(store.take(&Record { spares: [0, 1 << 51], ..quake }), at(163));
+    assert_eq!(store.take(&Record { spares: [0, (1 << 51) - 1], ..quake }), refused(12));
+    assert_eq!(store.take(&Record { spares: [1023, 1], ..other_bulletin }), refused(13));
+    let tsunami = samples::tsunami_warning()[0];
+    assert_eq!(store.take(&Record { spares: [0, 1], ..tsunami }), refused(11));
+    assert_eq!(store, sound);
+}
+
 #[test]
 fn text_is_15_with_the_lowest_page_and_its_mark_then_16() {
     let not_held = |page, mark| Err(Refusal { number: 15, place: 0, page, mark });

@@ -56,12 +56,27 @@ fn a_page_of_18_zero_bytes_is_a_page() {
 }
 
 #[test]
-fn preamble_and_reserved_play_no_part() {
-    let mut store = opened(NAME);
-    let sent = |preamble, reserved| Record { preamble, reserved, ..NAME.page(1, SPRING) };
-    assert_eq!(store.take(&sent(PREAMBLES[0], 0)), Ok(Taken::New));
-    assert_eq!(store.take(&sent(PREAMBLES[1], 63)), Ok(Taken::Same));
-    assert_eq!(store.take(&sent(PREAMBLES[2], 21)), Ok(Taken::Same));
+fn preamble_reserved_and_spares_play_no_part() {
+    let sent = |preamble, reserved, spares, text| Record {
+        preamble,
+        reserved,
+        spares,
+        ..NAME.page(1, text)
+    };
+    let mut sendings = vec![([0, 0], 0), ([1023, 1], 63), ([0, 1], 21), ([512, 0], 0)];
+    sendings.extend((0..10).map(|bit| ([1 << bit, 0], 0)));
+    for &(first, reserved) in &sendings {
+        let mut store = opened(NAME);
+        assert_eq!(store.take(&sent(PREAMBLES[0], reserved, first, SPRING)), Ok(Taken::New));
+        assert_eq!(store, store_of(&[(1, SPRING)]));
+        for &(again, reserved) in &sendings {
+            assert_eq!(store.take(&sent(PREAMBLES[1], reserved, again, SPRING)), Ok(Taken::Same));
+            assert_eq!(store, store_of(&[(1, SPRING)]));
+        }
+        // Another text is another one, and equal spares do not make up for it.
+        assert_eq!(store.take(&sent(PREAMBLES[0], reserved, first, SUMMER)), Ok(Taken::Disputed));
+        assert_eq!(store.take(&sent(PREAMBLES[2], 21, first, SPRING)), Ok(Taken::Disputed));
+    }
 }
 
 #[test]

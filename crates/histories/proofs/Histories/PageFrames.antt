@@ -42,6 +42,7 @@ module _ (n : Name) (range : InRange n) (p : ℕ) (t : Text) (low : 1 ≤ p) (hi
     tidy = record {
       slots = λ i h. absurd (none h);
       others = λ i h. subst (λ (x : Slot). Empty (slotParts x)) (sym (no-slots i)) (refl, (refl, (refl, (refl, (refl, tt)))));
+      spare = λ e. refl;
       text = let all : length t ≤ 18 = omega (arith, is .long) in subst Empty (sym (drop-of-length-le t all)) tt;
     };
     rows = page-holds 0x53 n p (replicate 16 noSlot) t range low high is;

@@ -16,6 +16,8 @@ use Rattle.pages.proofs.States.{Text}
 use Rattle.histories.specs.Soundness.{InRange}
 use Rattle.report.specs.declared.body.Body.the-variants.{Nankai}
 use lib.Seq.{take-all}
+use lib.Dec.{lit<}
+use Rattle.rows.specs.Values.{noSpares}
 
 -- "18 bytes, any"
 pub record Bytes18 (t : Text) : Type 0 where
@@ -53,7 +55,7 @@ kept-bytes (suc k) a past (x ∷ t) b = (inl (omega arith, omega (arith, b 0)), 
 
 -- ---- the record of a page
 
--- without slots, and with Reserved zero
+-- without slots, and with zeros in Reserved and in the spares
 abbrev pub pageRecord : ℕ → Name → ℕ → List Slot → Text → Record
 pageRecord preamble n p slots t = record {
   preamble = preamble;
@@ -62,10 +64,11 @@ pageRecord preamble n p slots t = record {
   body = Nankai (record { serial = n .serial; number = p; total = n .total });
   slots = slots;
   text = t;
+  spares = noSpares;
 }
 
 pub page-holds : (preamble : ℕ) (n : Name) (p : ℕ) (slots : List Slot) (t : Text) → InRange n → 1 ≤ p → p ≤ n .total → Bytes18 t
-    → Holds nankai (values (pageRecord preamble n p slots t) 0 0)
+    → Holds nankai (values (pageRecord preamble n p slots t))
 unfolding values
 page-holds preamble n p slots t range low high is = record {
   head = (
@@ -90,9 +93,9 @@ page-holds preamble n p slots t range low high is = record {
       ),
     ),
   );
-  front = (refl, (inl (range .1 .1 .1 .1 .1 .1 .0), tt));
+  front = (lit< tt, (inl (range .1 .1 .1 .1 .1 .1 .0), tt));
   slots = tt;
   text = subst (Kept [] (nankai .text)) (sym (take-all 18 t (omega (arith, is .long)))) (kept-bytes 18 57 [] t (is .bytes));
-  behind = (inl (low, omega (arith, total-in-range n range .1)), ((high, total-in-range n range .1), (refl, tt)));
+  behind = (inl (low, omega (arith, total-in-range n range .1)), ((high, total-in-range n range .1), (lit< tt, tt)));
   last = (only 1, (inl (omega arith, omega arith), tt));
 }

@@ -4,8 +4,9 @@ use mathlib.Core.Bool.{true, _&&_}
 use native.Mathlib.Omega.{arith}
 use lib.Dec.{leb}
 use Rattle.rows.specs.declared.refusal.Verdict.the-variants.{Fine}
-use Rattle.rows.specs.declared.refusal.Refusal.the-variants.{Range, Spare}
+use Rattle.rows.specs.declared.refusal.Refusal.the-variants.{Range}
 use Rattle.rows.specs.Layout.{twoOrSeven, uncorrected}
+use Rattle.rows.specs.Values.{noSpares}
 use Rattle.rows.specs.Runs.Questions.{_then_}
 use Rattle.rows.specs.Runs.Verdict.{allowed, ranged, commonVerdict, slotsVerdict, bodyVerdict}
 use Rattle.rows.proofs.Rules.Outcomes.{then-assoc, fine-then, then-fine, unless-true}
@@ -26,9 +27,9 @@ name-asked : (n : Name) → nameVerdict n
     then ranged (leb 1 (n .total) && leb (n .total) 63) 207
 unfolding bodyVerdict slotsVerdict
 name-asked n =
-    sym (name-found n _ refl)
-    ∙ simp (common-walk nankai (n .common), front-walk (pageOne n) 0 0, behind-walk (pageOne n) 0 0)
-    (simp (unless-true true (Spare 43) refl, unless-true true (Range 201) refl, unless-true true (Spare 213) refl, fine-then, then-fine))
+    sym (name-found n noSpares _ refl refl)
+    ∙ simp (common-walk nankai (n .common), front-walk (pageOne n) noSpares, behind-walk (pageOne n) noSpares)
+    (simp (unless-true true (Range 43) refl, unless-true true (Range 201) refl, unless-true true (Range 213) refl, fine-then, then-fine))
 
 pub name-answered : (n : Name) → Answers (nameVerdict n) (openQuestions n) Fine
 name-answered n =

@@ -1,24 +1,26 @@
--- What a body is read from: the numbers in its bytes, each as its field keeps it.
+-- What a body and its spares are read from: the numbers in their bytes, each as its field keeps it.
 use mathlib.Core.Path.{_≡_, refl, sym, ap, _∙_}
 use Prim.Native.Nat.{ℕ, suc, _+_, _-_, _*_, _%_, _^_, _≤_}
 use native.Mathlib.Nat.{mod-eq-of-lt}
 use native.Mathlib.Numerals.{add-one}
 use native.Mathlib.Omega.{arith}
-use mathlib.Core.Bool.{Bool, true}
+use mathlib.Core.Bool.{Bool, true, cond}
 use mathlib.Core.List.{List, [], _∷_, _++_}
 use lib.Dec.{leb}
-use lib.ListN.{length, getD, drop, replicate}
+use lib.ListN.{length, length-map, getD, List·getD-append, drop, replicate}
 use lib.Seq.{drop-drop, getD-drop}
 use borrow.Author.Tests.{leb-true}
 use Rattle.bits.specs.Frame.{Bytes}
 use Rattle.rows.specs.Layout.{Layout, Row}
-use Rattle.rows.specs.Values.{Sides, filled, widths}
+use Rattle.rows.specs.declared.fields.Spares.{Spares}
+use Rattle.rows.specs.Values.{Sides, filled, isSpare, spareAmong, sparesFrom, widths}
 use Rattle.rows.specs.Runs.Fields.{bytesFor, fieldsIn, keptFrom, keptIn}
 use Rattle.rows.specs.declared.fields.Fields.{Fields}
 use Rattle.report.specs.declared.body.Body.{Body}
 use Rattle.report.specs.Categories.{bodyFrom, layout, sidesOf}
 use Rattle.report.proofs.Categories.{all, layouts, listed, made-alike, same-body}
-use Rattle.record_bytes.specs.Unpacked.{bodyInBytes, cellsAt, sidesInBytes, size}
+use Rattle.record_bytes.specs.Unpacked.{bodyInBytes, bothInBytes, cellsAt, sidesInBytes, size, sparesInBytes}
+use Rattle.report.specs.Runs.Told.{withSpares}
 use Rattle.record_bytes.proofs.Cells.{FitBytes, cells-append, cells-fit, size-padded}
 
 -- computed of all tables: the fields have room in bytes 9 to 40
@@ -45,6 +47,16 @@ kept-same (r ∷ rs) vs (u ∷ us) more k e h =
     zeros : (a : ℕ) → a ≡ a + 0
     zeros a = omega arith
 
+-- more numbers behind those of the rows
+spare-before : (rs : List Row) (us more : List ℕ) (k : ℕ) → k + length rs ≤ length us → spareAmong rs (us ++ more) k ≡ spareAmong rs us k
+spare-before [] us more k h = refl
+spare-before (r ∷ rs) us more k h = λ i. cond (isSpare (r .rule)) (List·getD-append us more 0 k (omega arith) i) (spare-before rs us more (suc k) (omega arith) i)
+
+length-cells-at : (l : List ℕ) (k : ℕ) (ws : List ℕ) → length (cellsAt l k ws) ≡ length ws
+unfolding cellsAt
+length-cells-at l k [] = refl
+length-cells-at l k (w ∷ ws) = ap suc (length-cells-at l (k + bytesFor w) ws)
+
 module _ (l : List ℕ) (bytes : Bytes l) where
   kept-cells : (rs : List Row) (k n : ℕ) → k + size (widths rs) ≤ length l → keptFrom rs (cellsAt l k (widths rs ++ replicate n 0)) 0 ≡ cellsAt l k (widths rs)
   kept-cells rs k n h = kept-same rs _ (cellsAt l k (widths rs)) _ 0 (cells-append l k (widths rs) (replicate n 0)) (cells-fit l k (widths rs) bytes h)
@@ -63,25 +75,49 @@ module _ (l : List ℕ) (bytes : Bytes l) where
       in
       λ i. record { front = first i; behind = last i }
 
+  -- a spare stands among the numbers of its rows, whatever is behind them
+  spare-among : (rs : List Row) (k n : ℕ) → spareAmong rs (cellsAt l k (widths rs ++ replicate n 0)) 0 ≡ spareAmong rs (cellsAt l k (widths rs)) 0
+  spare-among rs k n =
+      ap (λ (vs : List ℕ). spareAmong rs vs 0) (cells-append l k (widths rs) (replicate n 0))
+      ∙ spare-before rs (cellsAt l k (widths rs)) _ 0 (omega (arith, length-map rs (λ (r : Row). r .width), length-cells-at l k (widths rs)))
+
+  spares-read : (t : Layout) (front behind : List ℕ) (at : ℕ)
+      → front ≡ cellsAt l 9 (filled 18 (widths (t .front))) → at ≡ 9 + size (filled 18 (widths (t .front))) → behind ≡ cellsAt l at (filled 3 (widths (t .behind)))
+      → sparesFrom t (record { front = front; behind = behind }) ≡ sparesFrom t (sidesInBytes l t)
+  spares-read t front behind at f p b =
+      let first = ap (λ (vs : List ℕ). spareAmong (t .front) vs 0) f ∙ spare-among (t .front) 9 (18 - length (widths (t .front))) in
+      let second = ap (λ (vs : List ℕ). spareAmong (t .behind) vs 0) (b ∙ ap (λ (k : ℕ). cellsAt l k (filled 3 (widths (t .behind)))) (p ∙ ap (λ (n : ℕ). 9 + n) (size-padded (widths (t .front)) (18 - length (widths (t .front))))))
+      ∙ spare-among (t .behind) (9 + size (widths (t .front))) (3 - length (widths (t .behind))) in
+      λ i. record { first = first i; second = second i }
+
   -- the body that is made from what is read where the table of a blank body of its code says so
-  pub body-read : (dc : ℕ) (none : Layout → Sides) (blank : Body) (v : Fields) (front behind : List ℕ) (at : ℕ) → length l ≡ 251 → dc ≡ getD l 0 0
-      → blank ≡ bodyFrom none dc → v ≡ fieldsIn (layout blank) (sidesOf blank 0 0)
+  pub body-read : (dc : ℕ) (none : Layout → Sides) (blank : Body) (z : Spares) (v : Fields) (front behind : List ℕ) (at : ℕ) → length l ≡ 251 → dc ≡ getD l 0 0
+      → blank ≡ bodyFrom none dc → v ≡ fieldsIn (layout blank) (sidesOf blank z)
       → front ≡ cellsAt l 9 (v .ahead) → at ≡ 9 + size (v .ahead) → behind ≡ cellsAt l at (v .after)
-      → bodyFrom (keptIn front behind) dc ≡ bodyInBytes l
-  body-read dc none blank v front behind at long e q w f p b =
+      → withSpares front behind (bodyFrom (keptIn front behind) dc) ≡ bothInBytes l
+  body-read dc none blank z v front behind at long e q w f p b =
       let kept : Layout → Sides = keptIn front behind in
       let t : Layout = layout blank in
       let alike : t ≡ layout (bodyFrom kept dc) = ap layout q ∙ made-alike none kept dc in
-      let same : kept t ≡ sidesInBytes l t =
-      kept-sides t front behind at (omega (arith, fields-fit blank)) (f ∙ ap (λ (z : Fields). cellsAt l 9 (z .ahead)) w) (p ∙ ap (λ (z : Fields). 9 + size (z .ahead)) w)
-      (b ∙ ap (λ (z : Fields). cellsAt l at (z .after)) w)
-      in
+      let ahead : front ≡ cellsAt l 9 (filled 18 (widths (t .front))) = f ∙ ap (λ (x : Fields). cellsAt l 9 (x .ahead)) w in
+      let middle : at ≡ 9 + size (filled 18 (widths (t .front))) = p ∙ ap (λ (x : Fields). 9 + size (x .ahead)) w in
+      let after : behind ≡ cellsAt l at (filled 3 (widths (t .behind))) = b ∙ ap (λ (x : Fields). cellsAt l at (x .after)) w in
+      let same : kept t ≡ sidesInBytes l t = kept-sides t front behind at (omega (arith, fields-fit blank)) ahead middle after in
+      let body : bodyFrom kept dc ≡ bodyInBytes l =
       same-body kept (sidesInBytes l) dc (ap kept (sym alike) ∙ same ∙ ap (sidesInBytes l) alike) ∙ ap (bodyFrom (sidesInBytes l)) e
+      in
+      let table : layout (bodyInBytes l) ≡ t = sym (ap layout body) ∙ sym alike in
+      let spares : sparesFrom (layout (bodyInBytes l)) (record { front = front; behind = behind }) ≡ sparesInBytes l (bodyInBytes l) =
+      ap (λ (x : Layout). sparesFrom x (record { front = front; behind = behind })) table
+      ∙ spares-read t front behind at ahead middle after
+      ∙ ap (λ (x : Layout). sparesFrom x (sidesInBytes l x)) (sym table)
+      in
+      ap (withSpares front behind) body ∙ (λ i. record { body = bodyInBytes l; spares = spares i })
 
 -- there is room for what is read
-pub room : (b : Body) (v : Fields) → v ≡ fieldsIn (layout b) (sidesOf b 0 0) → size (v .ahead) + size (v .after) ≤ 32
-room b v e =
+pub room : (b : Body) (z : Spares) (v : Fields) → v ≡ fieldsIn (layout b) (sidesOf b z) → size (v .ahead) + size (v .after) ≤ 32
+room b z v e =
     let same : size (v .ahead) + size (v .after) ≡ size (widths (layout b .front)) + size (widths (layout b .behind)) =
-    ap (λ (z : Fields). size (z .ahead) + size (z .after)) e ∙ (λ i. size-padded (widths (layout b .front)) (18 - length (widths (layout b .front))) i + size-padded (widths (layout b .behind)) (3 - length (widths (layout b .behind))) i)
+    ap (λ (x : Fields). size (x .ahead) + size (x .after)) e ∙ (λ i. size-padded (widths (layout b .front)) (18 - length (widths (layout b .front))) i + size-padded (widths (layout b .behind)) (3 - length (widths (layout b .behind))) i)
     in
     rw same (fields-fit b)

@@ -1,6 +1,7 @@
 -- Bytes that are not those of the body that they give are refused, in their turn.
 use mathlib.Core.Path.{_≡_, refl, ap, _∙_}
-use mathlib.Core.Bool.{Bool, true, false, _&&_, not}
+use mathlib.Core.Bool.{Bool, true, false, _&&_, _||_, not}
+use lib.Dec.{eqb}
 use Prim.Native.Nat.{ℕ, zero, suc, _+_, _*_}
 use mathlib.Core.List.{List, [], _∷_, _++_}
 use lib.ListN.{length, getD, drop}
@@ -9,10 +10,10 @@ use Rattle.rows.specs.declared.refusal.Refusal.the-variants.{Unused}
 use Rattle.slots.specs.declared.slot.Slot.{Slot}
 use Rattle.rows.specs.Runs.Questions.{_then_, unless}
 use Rattle.rows.specs.Runs.Verdict.{allowed, empty}
-use Rattle.rows.specs.Values.{each, partWidths}
+use Rattle.rows.specs.Values.{each, hasSpare, partWidths}
 use Rattle.report.specs.Runs.Writing.{known, tidy, writeAnswer}
 use Rattle.slots.specs.Slots.{tidySlots, slotParts, vacant}
-use Rattle.record_bytes.specs.Unpacked.{slotAt, bodyInBytes, stray, slotsFrom, misplaced, slotsOrMisplaced, textInBytes, unpackedAs, unpacked}
+use Rattle.record_bytes.specs.Unpacked.{slotAt, bodyInBytes, sparesInBytes, stray, slotsFrom, misplaced, slotsOrMisplaced, textInBytes, unpackedAs, unpacked}
 use Rattle.report.specs.declared.body.Body.{Body}
 use Rattle.rows.specs.Layout.{Layout, Slots}
 use Rattle.report.proofs.Categories.{all, layouts, listed}
@@ -49,7 +50,7 @@ untidy : (l : List ℕ) (b : Body) → stray b l ≡ true → tidy (unpackedAs l
 unfolding unpackedAs
 untidy l b e =
     let k : Slots = layout b .slots in
-    let blank : Bool = empty (drop (length (layout b .text)) (textInBytes l)) in
+    let blank : Bool = (hasSpare (layout b .behind) || eqb (sparesInBytes l b .second) 0) && empty (drop (length (layout b .text)) (textInBytes l)) in
     let ss : List Slot = each 15 (λ i. slotAt l (41 + 12 * i)) in
     let last : slotsOrMisplaced (stray b l) (slotsFrom l) ≡ ss ++ misplaced ∷ [] = ap (λ (x : Bool). slotsOrMisplaced x (slotsFrom l)) e in
     ap (λ (x : List Slot). tidySlots (partWidths k) (k .count) x && blank) last

@@ -7,6 +7,7 @@ use lib.ListN.{length, drop, length-append, length-map, length-replicate, replic
 use lib.Seq.{sets, sets-eq}
 use borrow.Author.Tests.{eq-eqb, ne-eqb}
 use Rattle.rows.specs.declared.fields.Fields.{Fields}
+use Rattle.rows.specs.declared.fields.Spares.{Spares}
 use Rattle.rows.specs.Values.{widths}
 use Rattle.rows.specs.Runs.Fields.{fieldsIn}
 use Rattle.report.specs.declared.record.Record.{Record}
@@ -22,22 +23,22 @@ use Rattle.record_bytes.proofs.FromBytes.Read.{fields-fit}
 use Rattle.record_bytes.proofs.ToBytes.Slots.{length-slots}
 
 -- the bytes of a body: those of its fields, and zeros
-sides-long : (b : Body) → length (sidesBytes (layout b) (sidesOf b 0 0)) ≡ size (widths (layout b .front)) + size (widths (layout b .behind))
-sides-long b =
+sides-long : (b : Body) (z : Spares) → length (sidesBytes (layout b) (sidesOf b z)) ≡ size (widths (layout b .front)) + size (widths (layout b .behind))
+sides-long b z =
     let l = layout b in
-    let v = sidesOf b 0 0 in
-    let filled = sides-filled b 0 0 in
+    let v = sidesOf b z in
+    let filled = sides-filled b z in
     length-append (cells (widths (l .front)) (v .front)) (cells (widths (l .behind)) (v .behind))
     ∙ (λ i. length-cells (widths (l .front)) (v .front) (length-map (l .front) (λ r. r .width) ∙ sym (filled .0)) i
     + length-cells (widths (l .behind)) (v .behind) (length-map (l .behind) (λ r. r .width) ∙ sym (filled .1)) i)
 
-sides-fit : (b : Body) → length (sidesBytes (layout b) (sidesOf b 0 0)) ≤ 32
-sides-fit b = rw (sides-long b) (fields-fit b)
+sides-fit : (b : Body) (z : Spares) → length (sidesBytes (layout b) (sidesOf b z)) ≤ 32
+sides-fit b z = rw (sides-long b z) (fields-fit b)
 
-pub length-body : (b : Body) → length (bodyBytes b) ≡ 32
-length-body b =
-    let t : List ℕ = sidesBytes (layout b) (sidesOf b 0 0) in
-    length-append t (replicate (32 - length t) 0) ∙ ap (λ (n : ℕ). length t + n) (length-replicate (32 - length t) 0) ∙ whole-of (length t) (sides-fit b)
+pub length-body : (b : Body) (z : Spares) → length (bodyBytes b z) ≡ 32
+length-body b z =
+    let t : List ℕ = sidesBytes (layout b) (sidesOf b z) in
+    length-append t (replicate (32 - length t) 0) ∙ ap (λ (n : ℕ). length t + n) (length-replicate (32 - length t) 0) ∙ whole-of (length t) (sides-fit b z)
   where
     whole-of : (n : ℕ) → n ≤ 32 → n + (32 - n) ≡ 32
     whole-of n h = omega arith
@@ -54,29 +55,29 @@ put-into-zeros t h =
     sets-eq t (replicate 32 0) 0 (omega (arith, h)) ∙ ap (λ (n : ℕ). t ++ drop n (replicate 32 0)) at ∙ ap (λ (z : List ℕ). t ++ z) (zeros-left 32 (length t))
 
 -- the fields as code hands them on have zeros behind them, which leave no byte
-pub own-put : (b : Body) (v : Fields) (out : List ℕ) (middle end : ℕ) (mid : List ℕ) → v ≡ fieldsIn (layout b) (sidesOf b 0 0)
-    → Wrote (replicate 32 0) mid 0 middle (cells (v .ahead) (v .front)) → Wrote mid out middle end (cells (v .after) (v .behind)) → out ≡ bodyBytes b
-own-put b v out middle end mid e x y =
+pub own-put : (b : Body) (z : Spares) (v : Fields) (out : List ℕ) (middle end : ℕ) (mid : List ℕ) → v ≡ fieldsIn (layout b) (sidesOf b z)
+    → Wrote (replicate 32 0) mid 0 middle (cells (v .ahead) (v .front)) → Wrote mid out middle end (cells (v .after) (v .behind)) → out ≡ bodyBytes b z
+own-put b z v out middle end mid e x y =
     let l = layout b in
-    let s = sidesOf b 0 0 in
-    let filled = sides-filled b 0 0 in
+    let s = sidesOf b z in
+    let filled = sides-filled b z in
     let bytes : cells (v .ahead) (v .front) ++ cells (v .after) (v .behind) ≡ sidesBytes l s =
-    ap (λ (z : Fields). cells (z .ahead) (z .front) ++ cells (z .after) (z .behind)) e
+    ap (λ (f : Fields). cells (f .ahead) (f .front) ++ cells (f .after) (f .behind)) e
     ∙ (λ i. cells-padded (widths (l .front)) (s .front) (replicate (18 - length (s .front)) 0) (18 - length (widths (l .front))) (length-map (l .front) (λ r. r .width) ∙ sym (filled .0)) i
     ++ cells-padded (widths (l .behind)) (s .behind) (replicate (3 - length (s .behind)) 0) (3 - length (widths (l .behind))) (length-map (l .behind) (λ r. r .width) ∙ sym (filled .1)) i)
     in
-    (x then y) .bytes ∙ ap (sets (replicate 32 0) 0) bytes ∙ put-into-zeros (sidesBytes l s) (sides-fit b)
+    (x then y) .bytes ∙ ap (sets (replicate 32 0) 0) bytes ∙ put-into-zeros (sidesBytes l s) (sides-fit b z)
 
 module _ (r : Record) where
   -- bytes 0 to 40, and 0 to 232
   abbrev pub front : List ℕ
-  front = headBytes r ++ bodyBytes (r .body)
+  front = headBytes r ++ bodyBytes (r .body) (r .spares)
 
   abbrev pub most : List ℕ
   most = front ++ slotsBytes (r .slots)
 
   pub length-front : length front ≡ 41
-  length-front = length-append (headBytes r) (bodyBytes (r .body)) ∙ ap (λ (n : ℕ). 9 + n) (length-body (r .body))
+  length-front = length-append (headBytes r) (bodyBytes (r .body) (r .spares)) ∙ ap (λ (n : ℕ). 9 + n) (length-body (r .body) (r .spares))
 
   pub length-most : length (r .slots) ≡ 16 → length most ≡ 233
   length-most n = length-append front (slotsBytes (r .slots)) ∙ rw (length-front, length-slots (r .slots), n)
@@ -87,7 +88,7 @@ module _ (r : Record) where
 
   -- each part written where the one before it ends
   pub packed-in-parts : {l a b c d : List ℕ} {i j k n : ℕ} → length (r .slots) ≡ 16 → length (r .text) ≡ 18 → length l ≡ 251 → Wrote l a 0 i (headBytes r)
-      → Wrote a b i j (bodyBytes (r .body)) → Wrote b c j k (slotsBytes (r .slots)) → Wrote c d k n (r .text) → d ≡ packed r
+      → Wrote a b i j (bodyBytes (r .body) (r .spares)) → Wrote b c j k (slotsBytes (r .slots)) → Wrote c d k n (r .text) → d ≡ packed r
   unfolding packed
   packed-in-parts s t e x y z w = whole (length-packed s t ∙ sym e) (((x then y) then z) then w)
 

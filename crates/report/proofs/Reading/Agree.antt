@@ -13,7 +13,6 @@ use Rattle.report.specs.declared.record.Record.{Record}
 use Rattle.report.specs.declared.read.Reading.{Reading}
 use Rattle.rows.specs.Layout.{Layout, common, ending}
 use Rattle.rows.specs.Values.{Values, cut, valuesOf, lastValues, Sides, commonOf, headValues}
-use Rattle.rows.specs.Runs.Fields.{spareIn}
 use Rattle.rows.specs.Runs.Verdict.{allowed, verdict}
 use Rattle.report.specs.Records.{bodyOf, textOf, recordAs, recordOf, values}
 use Rattle.report.specs.Runs.Reading.{outerOf, contentAnswer, innerOf, reading}
@@ -57,14 +56,7 @@ same : (h h′ f f′ : List ℕ) (t t′ : List (List ℕ)) (x x′ b b′ e e�
     → _≡_ {A = Values} (record { head = h; front = f; slots = t; text = x; behind = b; last = e }) (record { head = h′; front = f′; slots = t′; text = x′; behind = b′; last = e′ })
 same h h′ f f′ t t′ x x′ b b′ e e′ p q r u v w = λ i. record { head = p i; front = q i; slots = r i; text = u i; behind = v i; last = w i }
 
--- the spares of a frame
-abbrev pub spareFront : List ℕ → ℕ
-spareFront s = spareIn s (layout (bodyOf s) .front)
-
-abbrev pub spareBehind : List ℕ → ℕ
-spareBehind s = spareIn s (layout (bodyOf s) .behind)
-
-pub agree : (s : List ℕ) → Outer s → values (recordOf s) (spareFront s) (spareBehind s) ≡ valuesOf s (layout (bodyOf s))
+pub agree : (s : List ℕ) → Outer s → values (recordOf s) ≡ valuesOf s (layout (bodyOf s))
 unfolding values valuesOf recordAs
 agree s o =
     let fits = suits s (fieldOf s 17 4) (o .category) in
@@ -72,22 +64,21 @@ agree s o =
     same _ _ _ _ _ _ _ _ _ _ _ _ (head-agrees s l (o .message) (fits .code)) (ap (λ (v : Sides). v .front) (fits .sides)) (slots-agree (l .slots) (suited-slots (bodyOf s)) s)
     (text-agrees s l) (ap (λ (v : Sides). v .behind) (fits .sides)) (last-agrees s (o .version))
 
--- so a record that is checked beside its spares is judged as its frame is: 7 first, then its rules
-pub judged : (s : List ℕ) (r : Record) (x y : ℕ) (known : Bool) (v : Verdict) (out : Reading) → outerOf s ≡ Fine → r ≡ recordOf s → x ≡ spareFront s → y ≡ spareBehind s
+-- so a record is judged as its frame is: 7 first, then its rules
+pub judged : (s : List ℕ) (r : Record) (known : Bool) (v : Verdict) (out : Reading) → outerOf s ≡ Fine → r ≡ recordOf s
     → known ≡ allowed categories (fieldOf s 17 4)
-    → v ≡ unless known Category then verdict (layout (r .body)) (values r x y)
+    → v ≡ unless known Category then verdict (layout (r .body)) (values r)
     → out ≡ reading v r → out ≡ reading (contentAnswer s) (recordOf s)
 unfolding recordAs unless _then_
-judged s r x y known v out o e f g c h k =
-    let inside : Verdict = verdict (layout (r .body)) (values r x y) in
+judged s r known v out o e c h k =
+    let inside : Verdict = verdict (layout (r .body)) (values r) in
     k ∙ ap₂ reading (h ∙ ap (λ (b : Bool). unless b Category then inside) c ∙ by (allowed categories (fieldOf s 17 4)) refl) e
   where
-    same : In categories (fieldOf s 17 4) → verdict (layout (r .body)) (values r x y) ≡ innerOf s
+    same : In categories (fieldOf s 17 4) → verdict (layout (r .body)) (values r) ≡ innerOf s
     same i =
-        ap₂ (λ (x y : ℕ). verdict (layout (r .body)) (values r x y)) f g
-        ∙ ap (λ (q : Record). verdict (layout (q .body)) (values q (spareFront s) (spareBehind s))) e
+        ap (λ (q : Record). verdict (layout (q .body)) (values q)) e
         ∙ ap (verdict (layout (bodyOf s))) (agree s (outer s o i))
 
-    by : (b : Bool) → allowed categories (fieldOf s 17 4) ≡ b → unless b Category then verdict (layout (r .body)) (values r x y) ≡ unless b Category then innerOf s
+    by : (b : Bool) → allowed categories (fieldOf s 17 4) ≡ b → unless b Category then verdict (layout (r .body)) (values r) ≡ unless b Category then innerOf s
     by true a = same (allowed-in categories _ a)
     by false a = refl

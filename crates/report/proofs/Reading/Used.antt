@@ -30,7 +30,7 @@ use Rattle.tsunami.specs.declared.meaning.Arrival.the-variants.{At, Arrived}
 use Rattle.tsunami.specs.declared.meaning.Height.the-variants.{Code, Unknown}
 use Rattle.tsunami.proofs.Claims.{an-area-keeps-its-rules, each-height-is-told-by-its-code, each-time-is-told, height-14-is-unknown, hour-31-with-minute-63-has-arrived}
 use Rattle.report.specs.Categories.{bodyFrom, layout}
-use Rattle.report.proofs.Categories.{listed, ruled}
+use Rattle.report.proofs.Categories.{listed}
 use Rattle.slots.proofs.Tables.{slot-agrees, slots-agree}
 use Rattle.report.proofs.Tables.{slots-named, suited-slots}
 use Rattle.slots.specs.Slots.{noSlot, slotParts, slotValues, slotsValues, usedAmong}
@@ -54,7 +54,7 @@ body-behind-used : (s : List ℕ) (b : Body) → SlotsKept (layout b .slots) (sl
 unfolding valuesOf
 body-behind-used s b h i u l =
     let k = layout b .slots in
-    let test = and-both (ruled (k .rows)) _ (listed (λ l. ruled (l .slots .rows) && (eqb (l .slots .count) 0 || names (l .slots .rows))) slots-named b) .1 in
+    let test = listed (λ l. eqb (l .slots .count) 0 || names (l .slots .rows)) slots-named b in
     behind-used k (slotsAt s k) (frame-filled s (layout b) .fields) (named k (eqb (k .count) 0) (names (k .rows)) i refl test l) h i u
     (subst (λ (n : ℕ). i < n) (sym (length-each (k .count) _)) l)
 

@@ -1,13 +1,13 @@
 -- What is read and then written is the frame.
-use mathlib.Core.Bool.{true, Bool, cond, false}
-use mathlib.Core.Path.{ap₂, _≡_, refl, sym, ap, _∙_, subst}
+use mathlib.Core.Bool.{true}
+use mathlib.Core.Path.{_≡_, refl, sym, ap, _∙_, subst}
 use Prim.Native.Nat.{ℕ, _+_, _*_, _/_, _%_, _^_, _<_}
 use native.Mathlib.Nat.{mod-eq-of-lt}
-use mathlib.Core.List.{map, [], List, _∷_}
+use mathlib.Core.List.{List, _∷_}
 use lib.ListN.{length}
 use lib.Pow.{shr-lt}
 use Rattle.bits.specs.Layout.{encode}
-use Rattle.bits.specs.Frame.{Bytes, number, bytesOf, fieldOf, fieldIn, lies}
+use Rattle.bits.specs.Frame.{Bytes, number, bytesOf, fieldOf}
 use Rattle.bits.proofs.Layouts.{encode-decode}
 use Rattle.bits.proofs.Bytes.{bytesOf-number}
 use Rattle.bits.proofs.Frames.{number-256}
@@ -17,11 +17,10 @@ use Rattle.rows.specs.declared.refusal.Verdict.{Verdict}
 use Rattle.rows.specs.declared.refusal.Verdict.the-variants.{Fine, Refused}
 use Rattle.report.specs.declared.record.Record.{Record}
 use Rattle.report.specs.Records.{bodyOf, recordAs, recordOf, values}
-use Rattle.rows.specs.Values.{cut, valuesOf, flat}
-use Rattle.rows.specs.Runs.Fields.{isSpare, spareIn}
+use Rattle.rows.specs.Values.{flat}
 use Rattle.report.specs.Runs.Reading.{readAnswer, reading, readOf}
 use Rattle.report.specs.Conforms.{Conforms}
-use Rattle.rows.specs.Kept.{Kept, Holds, In, Keeps}
+use Rattle.rows.specs.Kept.{Holds, In}
 use Rattle.report.specs.Runs.Writing.{known, frontWidths, front, frame, written, writeAnswer, writeOf, Valid, tidy}
 use Rattle.report.specs.Rules.{KeepsRules}
 use Rattle.report.proofs.Reading.Agree.{Outer, agree}
@@ -30,7 +29,6 @@ use Rattle.rows.proofs.Layouts.Rows.{values-flat}
 use Rattle.report.proofs.Writing.Unused.{is-tidy, frame-tidy}
 use Rattle.report.proofs.Writing.Validity.{is-known, keeps-valid, above}
 use Rattle.report.proofs.Writing.Ends.{ended-again}
-use Rattle.rows.specs.Layout.{Row, Rule, asks, spare}
 use Rattle.report.specs.Categories.{categories, layout}
 use Rattle.report.proofs.Shaped.{frame-shaped}
 use Rattle.report.proofs.Tables.{front-fields, front-total}
@@ -38,32 +36,13 @@ use borrow.Author.Tests.{lt-ltb}
 use lib.Dec.{ltb}
 use Rattle.report.proofs.Categories.{suits}
 
--- ---- the values of the record are those of the frame, for the frame's spares are zero
+-- ---- the values of the record are those of the frame
 
 outer-of : (s : List ℕ) → Conforms s → Outer s
 outer-of s c = record { message = c .message; version = c .version; category = c .category }
 
--- a spare that keeps its rule is zero
-zero-in : (s : List ℕ) (r : Row) → fieldOf s (r .first) (r .width) ≡ 0 → fieldIn 57 s (r .first) (r .width) ≡ 0
-zero-in s r e = by (lies 57 (r .first) (r .width))
-  where
-    by : (b : Bool) → cond b (fieldOf s (r .first) (r .width)) 0 ≡ 0
-    by true = e
-    by false = refl
-
-spare-zero : (s : List ℕ) (past : List ℕ) (rs : List Row) → Kept past rs (map (cut s) rs) → spareIn s rs ≡ 0
-spare-zero s past [] k = refl
-spare-zero s past (r ∷ rs) k = by (r .rule) (k .0) (spare-zero s (cut s r ∷ past) rs (k .1))
-  where
-    by : (x : Rule) → Keeps x past (cut s r) (map (cut s) rs) → spareIn s rs ≡ 0 → cond (isSpare x) (fieldIn 57 s (r .first) (r .width)) (spareIn s rs) ≡ 0
-    by (asks a) h e = e
-    by spare h e = zero-in s r h
-
-pub same-values : (s : List ℕ) → Conforms s → values (recordOf s) 0 0 ≡ frameValues s
-unfolding valuesOf
-same-values s c =
-    ap₂ (values (recordOf s)) (sym (spare-zero s [] (layout (bodyOf s) .front) (c .rows .front))) (sym (spare-zero s [] (layout (bodyOf s) .behind) (c .rows .behind)))
-    ∙ agree s (outer-of s c)
+pub same-values : (s : List ℕ) → Conforms s → values (recordOf s) ≡ frameValues s
+same-values s c = agree s (outer-of s c)
 
 -- ---- so it is valid
 

@@ -14,7 +14,7 @@ use Rattle.parity.proofs.Front.{parity-of-front}
 use Rattle.rows.specs.declared.refusal.Verdict.the-variants.{Fine}
 use Rattle.report.specs.declared.record.Record.{Record}
 use Rattle.rows.specs.Layout.{allRows}
-use Rattle.rows.specs.Values.{Values, cut, valuesOf, partWidths, sidesAt}
+use Rattle.rows.specs.Values.{Values, cut, valuesOf, partWidths, sidesAt, sparesFrom}
 use Rattle.report.specs.Records.{bodyOf, recordAs, recordOf, values, bodyBy}
 use Rattle.slots.specs.Slots.{slotsOf, tidySlots}
 use Rattle.report.specs.Runs.Reading.{reading, readOf}
@@ -36,7 +36,7 @@ use Rattle.report.proofs.RoundTrips.ReadThenWritten.{valid-written}
 use Rattle.report.specs.declared.body.Body.{Body}
 use Rattle.report.specs.declared.body.Body.the-variants.{NoCategory}
 use Rattle.report.proofs.Shaped.{Shaped, frame-shaped, record-filled}
-use Rattle.report.proofs.Categories.{body-again, text-apart, told-apart}
+use Rattle.report.proofs.Categories.{body-again, spares-again, text-apart, told-apart}
 use Rattle.report.specs.Categories.{categories, layout, preambles, sidesOf}
 use Rattle.report.proofs.Tables.{fits-all, front-fields, front-total, suited-slots}
 use Rattle.slots.proofs.Tables.{frame-slots-tidy, same-slots, slots-agree}
@@ -48,7 +48,7 @@ use Rattle.report.proofs.Texts.{same-text}
 pub front-fit : (r : Record) → Shaped r → KeepsRules r → Fit (frontWidths (layout (r .body))) (frontValues r)
 front-fit r s k =
     let l = layout (r .body) in
-    (in-below 256 preambles (r .preamble) refl (k .preamble), holds-fit l (values r 0 0) (record-filled r 0 0 s) (fits-all (r .body)) (k .rows))
+    (in-below 256 preambles (r .preamble) refl (k .preamble), holds-fit l (values r) (record-filled r s) (fits-all (r .body)) (k .rows))
 
 pub front-lt : (r : Record) → Shaped r → KeepsRules r → front r < 2 ^ 226
 unfolding front
@@ -68,7 +68,7 @@ record Wrote (r : Record) (s : List ℕ) : Type 0 where
   padding : fieldOf s 250 6 ≡ 0
   parity : parityOf s ≡ fieldOf s 226 24
   preamble : fieldOf s 0 8 ≡ r .preamble
-  same : valuesOf s (layout (r .body)) ≡ values r 0 0
+  same : valuesOf s (layout (r .body)) ≡ values r
 
 wrote : (r : Record) → Shaped r → KeepsRules r → Wrote r (bytesOf (frame r))
 unfolding frame
@@ -88,7 +88,7 @@ wrote r h k =
       padding = ap (λ (x : ℕ). x / 1 % 2 ^ 6) n ∙ ended-padding m p small;
       parity = parity-of-front s ∙ ap parityOfFront f ∙ sym (ap (λ (x : ℕ). x / 2 ^ 6 % 2 ^ 24) n ∙ ended-parity m p small);
       preamble = ap (λ (vs : List ℕ). getD vs 0 0) e;
-      same = flat-same l (valuesOf s l) (values r 0 0) (frame-filled s l) (record-filled r 0 0 h) (values-flat s l ∙ ap (drop 1) e);
+      same = flat-same l (valuesOf s l) (values r) (frame-filled s l) (record-filled r h) (values-flat s l ∙ ap (drop 1) e);
     }
 
 -- ---- its record
@@ -109,20 +109,21 @@ seen r s h keeps w =
     let fits = suited-slots (r .body) in
     let e = w .same in
     -- the value i of the head, and of the last fields
-    let head : (i : ℕ) → getD (valuesOf s l .head) i 0 ≡ getD (values r 0 0 .head) i 0 = λ i. ap (λ (v : Values). getD (v .head) i 0) e in
-    let last : (i : ℕ) → getD (valuesOf s l .last) i 0 ≡ getD (values r 0 0 .last) i 0 = λ i. ap (λ (v : Values). getD (v .last) i 0) e in
-    let sides : sidesAt s l ≡ sidesOf (r .body) 0 0 = λ i. record { front = e i .front; behind = e i .behind } in
+    let head : (i : ℕ) → getD (valuesOf s l .head) i 0 ≡ getD (values r .head) i 0 = λ i. ap (λ (v : Values). getD (v .head) i 0) e in
+    let last : (i : ℕ) → getD (valuesOf s l .last) i 0 ≡ getD (values r .last) i 0 = λ i. ap (λ (v : Values). getD (v .last) i 0) e in
+    let sides : sidesAt s l ≡ sidesOf (r .body) (r .spares) = λ i. record { front = e i .front; behind = e i .behind } in
     let t = and-both (tidySlots (partWidths k) (k .count) (r .slots)) _ (tidy-is r (keeps .tidy)) in
     let slots : slotsOf s k ≡ r .slots =
     same-slots k fits (k .count) (slotsOf s k) (r .slots) (frame-shaped s (r .body) .slots ∙ sym (h .slots)) (frame-slots-tidy k fits s) (t .0)
     (slots-agree k fits s ∙ ap (λ (v : Values). v .slots) e)
     in
     let text = same-text s l (r .text) (text-apart (r .body)) (h .text) (keeps .tidy .text) (ap (λ (v : Values). v .text) e) in
+    let spares = ap (sparesFrom l) sides ∙ spares-again (r .body) (r .spares) (keeps .tidy .spare) in
     record {
       message = head 0;
       version = last 0;
       code = head 2;
-      body = ap (bodyBy s) (head 2) ∙ body-again (r .body) 0 0 (sidesAt s) sides;
+      body = ap (bodyBy s) (head 2) ∙ body-again (r .body) (r .spares) (sidesAt s) sides;
       whole = λ i. record {
         preamble = w .preamble i;
         reserved = last 1 i;
@@ -130,6 +131,7 @@ seen r s h keeps w =
         body = r .body;
         slots = slots i;
         text = text i;
+        spares = spares i;
       };
     }
 

@@ -166,18 +166,18 @@ module _ (r : Record) (s : Shaped r) (k : known (r .body) ≡ true) where
       )
   text-put x = text-laid (layout (r .body) .text) x (r .text) (textAt (layout (r .body))) (text-apart (r .body)) (s .text) (pieces (r .body) k .text)
 
-  behind-put : (x : List ℕ) → let l = layout (r .body) in let v = sidesOf (r .body) 0 0 in (
+  behind-put : (x : List ℕ) → let l = layout (r .body) in let v = sidesOf (r .body) (r .spares) in (
       laidIn x (firstBit (l .behind ++ ending)) (filled 3 (widths (l .behind))) (filled 3 (v .behind)) ≡ laid x (behindAt l) (widths (l .behind)) (v .behind)
       )
   behind-put x =
       let l = layout (r .body) in
       let p = pieces (r .body) k in
-      let v = sidesOf (r .body) 0 0 in
-      fields-laid x (widths (l .behind)) (v .behind) (firstBit (l .behind ++ ending)) 3 (many (l .behind) (v .behind) (sides-filled (r .body) 0 0 .1)) (p .behind) (p .behind-in)
+      let v = sidesOf (r .body) (r .spares) in
+      fields-laid x (widths (l .behind)) (v .behind) (firstBit (l .behind ++ ending)) 3 (many (l .behind) (v .behind) (sides-filled (r .body) (r .spares) .1)) (p .behind) (p .behind-in)
       ∙ ap (λ (a : ℕ). laid x a (widths (l .behind)) (v .behind)) (p .rest)
 
   -- bits 43 to 213
-  body-laid : (g : List ℕ) → let l = layout (r .body) in let v = sidesOf (r .body) 0 0 in (
+  body-laid : (g : List ℕ) → let l = layout (r .body) in let v = sidesOf (r .body) (r .spares) in (
       bodyLaid g (fieldsIn l v) (r .slots) (r .text)
       ≡ laid (laid (laid (laid g 43 (widths (l .front)) (v .front)) (slotsAt l) (slotsWidths l) (joined (slotsValues (l .slots) (r .slots)))) (textAt l) (widths (l .text)) (take (length (l .text)) (r .text)))
       (behindAt l) (widths (l .behind)) (v .behind)
@@ -186,10 +186,10 @@ module _ (r : Record) (s : Shaped r) (k : known (r .body) ≡ true) where
   body-laid g =
       let l = layout (r .body) in
       let p = pieces (r .body) k in
-      let v = sidesOf (r .body) 0 0 in
+      let v = sidesOf (r .body) (r .spares) in
       let vs = joined (slotsValues (l .slots) (r .slots)) in
       let vt = take (length (l .text)) (r .text) in
-      let front = fields-laid g (widths (l .front)) (v .front) 43 18 (many (l .front) (v .front) (sides-filled (r .body) 0 0 .0)) (p .ahead) (p .front-in) in
+      let front = fields-laid g (widths (l .front)) (v .front) 43 18 (many (l .front) (v .front) (sides-filled (r .body) (r .spares) .0)) (p .ahead) (p .front-in) in
       behind-put _
       ∙ ap (λ (x : List ℕ). laid x (behindAt l) (widths (l .behind)) (v .behind))
       (text-put _
@@ -199,15 +199,15 @@ module _ (r : Record) (s : Shaped r) (k : known (r .body) ≡ true) where
   pub all-laid : (z f g h j : List ℕ) → let l = layout (r .body) in (
       f ≡ placed z 0 8 (r .preamble)
       → g ≡ laid f 8 (widths (common noCategory)) (headValues (r .common) (l .code))
-      → h ≡ bodyLaid g (fieldsIn l (sidesOf (r .body) 0 0)) (r .slots) (r .text)
+      → h ≡ bodyLaid g (fieldsIn l (sidesOf (r .body) (r .spares))) (r .slots) (r .text)
       → j ≡ placed (placed h 214 6 1) 220 6 (r .reserved)
       → j ≡ laid z 0 (frontWidths l) (frontValues r)
       )
   unfolding values
   all-laid z f g h j ef eg eh ej =
       let l = layout (r .body) in
-      let v = sidesOf (r .body) 0 0 in
-      let full = record-filled r 0 0 s in
+      let v = sidesOf (r .body) (r .spares) in
+      let full = record-filled r s in
       let first = placed z 0 8 (r .preamble) in
       let head = headValues (r .common) (l .code) in
       let wc = widths (common l) in

@@ -38,12 +38,12 @@ use mathlib.Core.Logic.{⊎-elim}
 
 -- ---- 8, 10
 
--- the layout and the values of a record, whose spares are zero
+-- the layout and the values of a record
 abbrev pub recordLayout : Record → Layout
 recordLayout r = layout (r .body)
 
 abbrev pub recordValues : Record → Values
-recordValues r = values r 0 0
+recordValues r = values r
 
 abbrev pub innerWrite : Record → Verdict
 innerWrite r = verdict (recordLayout r) (recordValues r)

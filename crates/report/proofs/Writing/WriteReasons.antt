@@ -57,7 +57,7 @@ no-gap r size p s e f = late (judged-record r (s .slots) .earliest (Range p) (Ga
 
 -- the record with another Reserved
 abbrev pub reserving : Record → ℕ → Record
-reserving r n = record { preamble = r .preamble; reserved = n; common = r .common; body = r .body; slots = r .slots; text = r .text }
+reserving r n = record { preamble = r .preamble; reserved = n; common = r .common; body = r .body; slots = r .slots; text = r .text; spares = r .spares }
 
 above : (n : ℕ) → 63 < n → walk [] ending (lastValues n) ≡ Refused (Range 220)
 unfolding walk judge allowed unless _then_
@@ -77,7 +77,7 @@ above-inner : (r : Record) (n : ℕ) → 63 < n → innerWrite r ≡ Fine → in
 unfolding verdict values
 above-inner r n h e =
     let l = layout (r .body) in
-    let v = values r 0 0 in
+    let v = values r in
     behind-fine (walk [] (common l) (v .head)) (walk [] (l .front) (v .front)) (slotsVerdict (l .slots) (v .slots)) (walk [] (l .text) (v .text)) (walk [] (l .behind) (v .behind)) (walk [] ending (v .last)) (Range 220) e
     (walk [] ending (lastValues n)) (above n h)
 
@@ -86,5 +86,5 @@ above-63 r n v h =
     let a = answered r 32 .fine v in
     let m = a .0 in
     let t = m .1 .1 .1 .0 in
-    answered (reserving r n) 32 .met (m .0, (m .1 .0, (m .1 .1 .0, (record { slots = t .slots; others = t .others; text = t .text }, tt))))
+    answered (reserving r n) 32 .met (m .0, (m .1 .0, (m .1 .1 .0, (record { slots = t .slots; others = t .others; spare = t .spare; text = t .text }, tt))))
     ∙ above-inner r n h (a .1)

@@ -1,4 +1,4 @@
--- What reading a lent frame answers (document 01): "1 to 7 in that order, then 8, 9, 10 by lowest bit".
+-- What reading a lent frame answers (document 01): "1 to 7 in that order", then 8 and 10 by lowest bit.
 use Prim.Native.Nat.{ℕ}
 use mathlib.Core.List.{List}
 use lib.ListN.{length}
@@ -15,8 +15,7 @@ use Rattle.report.specs.declared.read.Reading.{Reading}
 use Rattle.rows.specs.Runs.Questions.{_then_, unless}
 use Rattle.rows.specs.Runs.Verdict.{allowed, verdict}
 use Rattle.report.specs.Records.{bodyOf, recordOf, zeros, textOf}
-use Rattle.rows.specs.Values.{valuesOf}
-use Rattle.rows.specs.Runs.Fields.{sparesIn}
+use Rattle.rows.specs.Values.{sparesAt, valuesOf}
 use Rattle.report.specs.declared.body.Body.{Body}
 use Rattle.report.specs.declared.body.Content.{Content}
 use Rattle.report.specs.Categories.{categories, layout, preambles}
@@ -31,7 +30,7 @@ outerOf s =
     then unless (eqb (fieldOf s 8 6) 43) Message
     then unless (eqb (fieldOf s 214 6) 1) Version
 
--- 8, 9, 10
+-- 8, 10
 abbrev pub innerOf : List ℕ → Verdict
 innerOf s = verdict (layout (bodyOf s)) (valuesOf s (layout (bodyOf s)))
 
@@ -46,9 +45,9 @@ readAnswer s = unless (eqb (length s) 32) Length then outerOf s then contentAnsw
 abbrev pub readSays : List ℕ → Said
 readSays s = answers (readAnswer s)
 
--- what stands from bit 43 up to bit 213, spares among it
+-- what stands from bit 43 up to bit 213
 abbrev pub contentAs : List ℕ → Body → Content
-contentAs s b = record { body = b; slots = slotsOf s (layout b .slots); text = textOf s (layout b); spares = sparesIn s (layout b) }
+contentAs s b = record { body = b; slots = slotsOf s (layout b .slots); text = textOf s (layout b); spares = sparesAt s (layout b) }
 
 -- the answer, with the record where nothing is refused
 abbrev pub reading : Verdict → Record → Reading

@@ -2,7 +2,7 @@
 -- bit".
 use Prim.Native.Nat.{ℕ, _+_, _*_, _^_}
 use mathlib.Core.Path.{_≡_}
-use mathlib.Core.Bool.{Bool, _&&_, cond}
+use mathlib.Core.Bool.{Bool, _&&_, _||_, cond}
 use mathlib.Core.List.{List, _∷_}
 use lib.ListN.{length, drop, take}
 use lib.Dec.{eqb, ltb}
@@ -20,7 +20,7 @@ use Rattle.rows.specs.Layout.{Layout, allRows}
 use Rattle.rows.specs.Runs.Verdict.{allowed, empty, verdict}
 use Rattle.slots.specs.Slots.{tidySlots}
 use Rattle.report.specs.Records.{values}
-use Rattle.rows.specs.Values.{flat, widths, partWidths}
+use Rattle.rows.specs.Values.{flat, hasSpare, widths, partWidths}
 use Rattle.report.specs.declared.body.Body.{Body}
 use Rattle.rows.specs.declared.fields.Fields.{Fields}
 use Rattle.slots.specs.declared.slot.Slot.{Slot}
@@ -36,20 +36,20 @@ use Rattle.report.specs.Runs.Told.{recordTold}
 abbrev pub known : Body → Bool
 known b = ltb 0 (layout b .code)
 
--- nothing stands where the category has no slot, no field of a slot, or no text
+-- nothing stands where the category has no slot, no field of a slot, no second spare, or no text
 abbrev pub tidy : Record → Bool
 tidy r =
     let l = layout (r .body) in
-    tidySlots (partWidths (l .slots)) (l .slots .count) (r .slots) && empty (drop (length (l .text)) (r .text))
+    tidySlots (partWidths (l .slots)) (l .slots .count) (r .slots)
+    && ((hasSpare (l .behind) || eqb (r .spares .second) 0) && empty (drop (length (l .text)) (r .text)))
 
--- spares are not in a record: they are zero
 unfoldable pub writeAnswer : Record → ℕ → Verdict
 writeAnswer r size =
     unless (eqb size 32) Length
     then unless (allowed preambles (r .preamble)) Preamble
     then unless (known (r .body)) Category
     then unless (tidy r) Unused
-    then verdict (layout (r .body)) (values r 0 0)
+    then verdict (layout (r .body)) (values r)
 
 -- what writing says, in the paper's numbers
 abbrev pub writeSays : Record → ℕ → Said
@@ -57,7 +57,7 @@ writeSays r size = answers (writeAnswer r size)
 
 -- with the fields that are written
 unfoldable pub writingTold : Record → ℕ → Told
-writingTold r size = record { found = writeAnswer r size; fields = recordTold r 0 0 .fields }
+writingTold r size = record { found = writeAnswer r size; fields = recordTold r .fields }
 
 -- ---- the frame
 
@@ -66,7 +66,7 @@ abbrev pub frontWidths : Layout → List ℕ
 frontWidths l = 8 ∷ widths (allRows l)
 
 abbrev pub frontValues : Record → List ℕ
-frontValues r = r .preamble ∷ flat (values r 0 0)
+frontValues r = r .preamble ∷ flat (values r)
 
 -- bits 0 to 225 as one number, and the whole frame: the parity behind them, and six bits of padding
 unfoldable pub front : Record → ℕ

@@ -8,21 +8,17 @@ use mathlib.Core.List.{List, [], _∷_, _++_, map-append}
 use lib.ListN.{length}
 use lib.Pow.{pow-pos}
 use Rattle.bits.specs.Layout.{Fit}
-use Rattle.rows.specs.Layout.{Rule, asks, spare, Row, Layout, common, ending, slotRows, slotsRows, allRows, fitting, allFit, Slots}
+use Rattle.rows.specs.Layout.{Row, Layout, common, ending, slotRows, slotsRows, allRows, bounded, allFit, Slots}
 use Rattle.rows.specs.Values.{Values, joined, flat, widths}
-use Rattle.rows.specs.Kept.{Keeps, Kept, Empty, AllEmpty, LaterKept, SlotsKept, Holds}
+use Rattle.rows.specs.Kept.{Kept, Empty, AllEmpty, LaterKept, SlotsKept, Holds}
 use Rattle.rows.proofs.Rules.Outcomes.{and-both, both-and}
-use Rattle.rows.proofs.Rules.Kinds.{asked-below}
+use Rattle.rows.proofs.Rules.Kinds.{keeps-below}
 use Rattle.rows.proofs.Layouts.Lengths.{SlotsFilled, Filled}
 
 -- ---- one field
 
 zero-below : (w v : ℕ) → v ≡ 0 → v < 2 ^ w
 zero-below w v e = subst (λ (x : ℕ). x < 2 ^ w) (sym e) (pow-pos w)
-
-keeps-below : (r : Rule) (w : ℕ) (past : List ℕ) (v : ℕ) (next : List ℕ) → fitting r w ≡ true → Keeps r past v next → v < 2 ^ w
-keeps-below (asks a) w past v next b h = asked-below a (2 ^ w) past v next b h
-keeps-below spare w past v next b h = zero-below w v h
 
 -- ---- fields one behind the other
 
@@ -31,8 +27,8 @@ kept-fit past [] [] l b h = tt
 kept-fit past [] (v ∷ vs) l b h = absurd (suc-ne-zero (length vs) l)
 kept-fit past (r ∷ rs) [] l b h = absurd (suc-ne-zero (length rs) (sym l))
 kept-fit past (r ∷ rs) (v ∷ vs) l b h =
-    let q = and-both (fitting (r .rule) (r .width)) (allFit rs) b in
-    (keeps-below (r .rule) (r .width) past v vs (q .0) (h .0), kept-fit (v ∷ past) rs vs (suc-inj l) (q .1) (h .1))
+    let q = and-both (bounded (r .rule) (2 ^ r .width)) (allFit rs) b in
+    (keeps-below (r .rule) (2 ^ r .width) past v vs (q .0) (h .0), kept-fit (v ∷ past) rs vs (suc-inj l) (q .1) (h .1))
 
 empty-fit : (rs : List Row) (vs : List ℕ) → length vs ≡ length rs → Empty vs → Fit (widths rs) vs
 empty-fit [] [] l h = tt
@@ -53,9 +49,9 @@ behind-fit rs qs vs us f g = simp map-append (fit-append (widths rs) (widths qs)
 all-fit-both : (rs qs : List Row) → allFit (rs ++ qs) ≡ true → (allFit rs ≡ true) × (allFit qs ≡ true)
 all-fit-both [] qs b = (refl, b)
 all-fit-both (r ∷ rs) qs b =
-    let q = and-both (fitting (r .rule) (r .width)) (allFit (rs ++ qs)) b in
+    let q = and-both (bounded (r .rule) (2 ^ r .width)) (allFit (rs ++ qs)) b in
     let t = all-fit-both rs qs (q .1) in
-    (both-and (fitting (r .rule) (r .width)) (allFit rs) (q .0) (t .0), t .1)
+    (both-and (bounded (r .rule) (2 ^ r .width)) (allFit rs) (q .0) (t .0), t .1)
 
 -- ---- slots
 

@@ -13,7 +13,7 @@ use Rattle.rows.specs.Runs.Questions.{_then_, unless}
 use Rattle.rows.specs.Faults.{place}
 use Rattle.rows.proofs.Rules.Outcomes.{not-both, unless-true, unless-fine, unless-refused, both-fine, fine-both, refused-one, false-not-true}
 
--- when a fault is asked for: two turns a bit, the first for the gap (10), the second for a field (8, 9)
+-- when a fault is asked for: two turns a bit, the first for the gap (10), the second for a field (8)
 abbrev pub turn : Refusal → ℕ
 turn x = place x + place x + cond (eqb (says x .number) 10) 0 1
 

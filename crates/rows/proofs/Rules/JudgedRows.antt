@@ -4,25 +4,24 @@ use mathlib.Core.Bool.{Bool, true, _&&_}
 use Prim.Native.Nat.{ℕ, suc, _≤_, _<_, _+_}
 use native.Mathlib.Omega.{arith}
 use mathlib.Core.List.{List, [], _∷_}
-use lib.Dec.{leb, eqb}
-use borrow.Author.Tests.{eqb-true, leb-true, eq-eqb}
-use Rattle.rows.specs.declared.refusal.Refusal.the-variants.{Range, Spare}
-use Rattle.rows.specs.Layout.{shifted, Rule, asks, spare, Row}
+use lib.Dec.{leb}
+use borrow.Author.Tests.{leb-true}
+use Rattle.rows.specs.declared.refusal.Refusal.the-variants.{Range}
+use Rattle.rows.specs.Layout.{shifted, Rule, Row}
 use Rattle.rows.specs.Runs.Verdict.{judge, meets, walk}
-use Rattle.rows.specs.Kept.{Asked, Keeps, Kept}
-use Rattle.rows.specs.Faults.{blame, RowFault}
+use Rattle.rows.specs.Kept.{Keeps, Kept}
+use Rattle.rows.specs.Faults.{RowFault}
 use Rattle.rows.proofs.Rules.Outcomes.{and-both}
-use Rattle.rows.proofs.Rules.Kinds.{meets-asked, asked-meets}
+use Rattle.rows.proofs.Rules.Kinds.{meets-keeps, keeps-meets}
 use Rattle.rows.proofs.Rules.Judged.{Judges, unasked, asked, join}
 
 -- ---- one field
 
 pub field : (a e : ℕ) (r : Rule) (at : ℕ) (past : List ℕ) (v : ℕ) (next : List ℕ) → a ≤ at → at < e
-    → Judges a e (judge r at past v next) (Keeps r past v next) (λ y. (Keeps r past v next → ⊥) × (y ≡ blame r at))
+    → Judges a e (judge r at past v next) (Keeps r past v next) (λ y. (Keeps r past v next → ⊥) × (y ≡ Range at))
 unfolding judge
-field a e (asks q) at past v next h k =
-    asked a e (meets q past v next) (Range at) (Asked q past v next) (meets-asked q past v next) (asked-meets q past v next) (omega arith) (omega arith)
-field a e spare at past v next h k = asked a e (eqb v 0) (Spare at) (v ≡ 0) (eqb-true v 0) (eq-eqb v 0) (omega arith) (omega arith)
+field a e r at past v next h k =
+    asked a e (meets r past v next) (Range at) (Keeps r past v next) (meets-keeps r past v next) (keeps-meets r past v next) (omega arith) (omega arith)
 
 -- ---- fields one behind the other
 

@@ -9,11 +9,11 @@ use native.Mathlib.Omega.{arith}
 use Rattle.rows.specs.declared.refusal.Verdict.{Verdict}
 use Rattle.rows.specs.declared.refusal.Verdict.the-variants.{Fine, Refused}
 use Rattle.rows.specs.declared.refusal.Refusal.{Refusal}
-use Rattle.rows.specs.declared.refusal.Refusal.the-variants.{Length, Padding, Preamble, Parity, Message, Version, Category, Range, Spare, Gap, Unused, NoPage, OtherBulletin, Unsound, NotHeld, Short, Line}
+use Rattle.rows.specs.declared.refusal.Refusal.the-variants.{Length, Padding, Preamble, Parity, Message, Version, Category, Range, Gap, Unused, NoPage, OtherBulletin, Unsound, NotHeld, Short, Line}
 use Rattle.rows.specs.declared.refusal.Said.{Said}
 use Rattle.rows.specs.Refusals.{says, answers}
 use Rattle.rows.specs.Runs.Questions.{_then_, unless}
-use Rattle.rows.specs.Layout.{Rule, asks, spare, Row, Layout, common, ending, slotRows, Slots}
+use Rattle.rows.specs.Layout.{Rule, Row, Layout, common, ending, slotRows, Slots}
 use Rattle.rows.specs.Values.{Values}
 use Rattle.rows.specs.Runs.Verdict.{judge, walk, empty, later, slotsVerdict, verdict}
 
@@ -28,7 +28,7 @@ unsaid a =
     ∷ Version
     ∷ Category
     ∷ Range (a .place)
-    ∷ Spare (a .place)
+    ∷ Line  -- no refusal has the number 9
     ∷ Gap (a .place)
     ∷ Unused
     ∷ NoPage
@@ -49,7 +49,6 @@ unsaid-says Message = refl
 unsaid-says Version = refl
 unsaid-says Category = refl
 unsaid-says (Range p) = refl
-unsaid-says (Spare p) = refl
 unsaid-says (Gap p) = refl
 unsaid-says Unused = refl
 unsaid-says NoPage = refl
@@ -73,7 +72,6 @@ says-numbered Message = (lit≤ tt, lit≤ tt)
 says-numbered Version = (lit≤ tt, lit≤ tt)
 says-numbered Category = (lit≤ tt, lit≤ tt)
 says-numbered (Range p) = (lit≤ tt, lit≤ tt)
-says-numbered (Spare p) = (lit≤ tt, lit≤ tt)
 says-numbered (Gap p) = (lit≤ tt, lit≤ tt)
 says-numbered Unused = (lit≤ tt, lit≤ tt)
 says-numbered NoPage = (lit≤ tt, lit≤ tt)
@@ -117,8 +115,7 @@ cond-ten false v w h k = k
 
 judge-ten : (r : Rule) (at : ℕ) (past : List ℕ) (v : ℕ) (next : List ℕ) → UpToTen (judge r at past v next)
 unfolding judge
-judge-ten (asks a) at past v next = unless-ten _ (Range at) (lit≤ tt)
-judge-ten spare at past v next = unless-ten _ (Spare at) (lit≤ tt)
+judge-ten r at past v next = unless-ten _ (Range at) (lit≤ tt)
 
 pub walk-ten : (past : List ℕ) (rs : List Row) (vs : List ℕ) → UpToTen (walk past rs vs)
 unfolding walk

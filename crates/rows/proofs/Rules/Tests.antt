@@ -2,10 +2,13 @@
 use mathlib.Core.Path.{_≡_, refl, sym, _∙_}
 use mathlib.Core.Bool.{Bool, true, false}
 use mathlib.Core.List.{List, [], _∷_}
-use mathlib.Core.Logic.{_⊎_, inl, inr}
-use Prim.Native.Nat.{ℕ, _<_, _≤_}
+use mathlib.Core.Logic.{_⊎_, inl, inr, ⊎-elim}
+use Prim.Native.Nat.{ℕ, _/_, _^_, _<_, _≤_}
+use native.Mathlib.Nat.{div-eq-of-lt, div-lt-iff-lt-mul, lt-of-lt-of-le, one-mul, pow-le-pow-right}
+use native.Mathlib.Omega.{arith}
 use lib.Dec.{eqb, ltb}
-use borrow.Author.Tests.{eqb-true, eq-eqb, ltb-true, ltb-false}
+use lib.Pow.{pow-pos}
+use borrow.Author.Tests.{eqb-true, eq-eqb, le-ltb, lt-ltb, ltb-true, ltb-false, ne-eqb}
 use Rattle.rows.proofs.Rules.Outcomes.{and-both, false-not-true}
 use Rattle.rows.specs.Values.{sameBytes}
 
@@ -15,6 +18,22 @@ below? k n = go (ltb k n) refl
     go : (b : Bool) → ltb k n ≡ b → (k < n) ⊎ (n ≤ k)
     go true e = inl (ltb-true k n e)
     go false e = inr (ltb-false k n e)
+
+-- ---- a value fits so many bits
+
+pub nothing-above : (v w : ℕ) → eqb (v / 2 ^ w) 0 ≡ ltb v (2 ^ w)
+nothing-above v w = ⊎-elim (λ h. eq-eqb _ 0 (div-eq-of-lt h) ∙ sym (lt-ltb v (2 ^ w) h)) (λ h. ne-eqb _ 0 (something h) ∙ sym (le-ltb v (2 ^ w) h)) (below? v (2 ^ w))
+  where
+    below : v / 2 ^ w < 1 → v < 2 ^ w
+    below k = rw one-mul at (div-lt-iff-lt-mul (pow-pos w) .0 k)
+
+    something : 2 ^ w ≤ v → v / 2 ^ w ≡ 0 → ⊥
+    something h e = let k : v < 2 ^ w = below (omega (arith, e)) in omega arith
+
+pub wide-enough : (v w : ℕ) → v < 2 ^ 64 → 63 < w → ltb v (2 ^ w) ≡ true
+wide-enough v w h k = lt-ltb v (2 ^ w) (lt-of-lt-of-le h (pow-le-pow-right (omega arith) k))
+
+-- ---- bytes
 
 pub same-refl : (l : List ℕ) → sameBytes l l ≡ true
 unfolding sameBytes

@@ -6,14 +6,14 @@ use Rattle.rows.specs.declared.refusal.Refusal.{Refusal}
 use Rattle.rows.specs.Runs.Questions.{_then_, unless}
 use Rattle.rows.proofs.Rules.Outcomes.{then-assoc, fine-then, then-fine, unless-true}
 use Rattle.rows.specs.declared.common.Common.{Common}
-use Rattle.rows.specs.Layout.{Layout, common, Slots, row, spare}
-use Rattle.rows.specs.declared.refusal.Refusal.the-variants.{Range, Spare}
-use Rattle.rows.specs.Runs.Verdict.{allowed, commonVerdict, judge, walk, bodyVerdict, slotsVerdict}
+use Rattle.rows.specs.Layout.{Layout, common, Slots, spareRow}
+use Rattle.rows.specs.declared.refusal.Refusal.the-variants.{Range}
+use Rattle.rows.specs.Runs.Verdict.{allowed, commonVerdict, judge, ranged, walk, bodyVerdict, slotsVerdict}
 use Rattle.rows.proofs.Rules.Spans.{allowed-one, only-yes}
 use Rattle.rows.specs.Values.{headValues, Sides}
 use mathlib.Core.List.{[], List, _∷_}
-use lib.Dec.{eqb}
-use Prim.Native.Nat.{ℕ}
+use lib.Dec.{ltb}
+use Prim.Native.Nat.{ℕ, _^_}
 
 -- the test in a question is known by another name
 pub asked : (r v : Verdict) (x : Refusal) (met b : Bool) → r ≡ v then unless met x → met ≡ b → r ≡ v then unless b x
@@ -44,6 +44,6 @@ pub no-slots : (v : Verdict) (k : Slots) → v ≡ v then slotsVerdict k []
 unfolding slotsVerdict
 no-slots v k = sym (then-fine v)
 
-pub spare-found : (v r : Verdict) (a w y : ℕ) → r ≡ v then unless (eqb y 0) (Spare a) → r ≡ v then walk [] (row a w spare ∷ []) (y ∷ [])
+pub spare-found : (v r : Verdict) (a w y : ℕ) → r ≡ v then ranged (ltb y (2 ^ w)) a → r ≡ v then walk [] (spareRow a w ∷ []) (y ∷ [])
 unfolding walk judge
 spare-found v r a w y e = e ∙ ap (λ (x : Verdict). v then x) (sym (then-fine _))

@@ -1,12 +1,10 @@
--- A category's table and the values of its rows as code hands them on, and what stands in the spares of a frame.
+-- A category's table and the values of its rows as code hands them on.
 use mathlib.Core.Bool.{Bool, cond, false, true}
 use Rattle.rows.specs.declared.fields.Fields.{Fields}
-use Rattle.rows.specs.Layout.{Layout, Row, Rule, asks, ending, spare}
+use Rattle.rows.specs.Layout.{Layout, Row, ending}
 use mathlib.Core.List.{List, [], _++_, _∷_}
-use Rattle.rows.specs.Values.{Sides, filled, partWidths, widths}
-use Rattle.rows.specs.declared.fields.Spares.{Spares}
+use Rattle.rows.specs.Values.{Sides, filled, hasSpare, partWidths, widths}
 use Rattle.rows.specs.declared.fields.Table.{Table}
-use Rattle.bits.specs.Frame.{fieldIn}
 use Prim.Native.Nat.{ℕ, suc, _*_, _%_, _^_}
 use lib.Dec.{eqb, leb}
 use lib.ListN.{getD}
@@ -21,18 +19,6 @@ abbrev pub firstBit : List Row → ℕ
 firstBit [] = 0
 firstBit (r ∷ rs) = r .first
 
--- what stands in the first spare among rows, 0 where there is none
-abbrev pub isSpare : Rule → Bool
-isSpare (asks a) = false
-isSpare spare = true
-
-abbrev pub spareIn : List ℕ → List Row → ℕ
-spareIn s [] = 0
-spareIn s (r ∷ rs) = cond (isSpare (r .rule)) (fieldIn 57 s (r .first) (r .width)) (spareIn s rs)
-
-abbrev pub sparesIn : List ℕ → Layout → Spares
-sparesIn s l = record { front = spareIn s (l .front); behind = spareIn s (l .behind) }
-
 -- what a category's table says in numbers
 abbrev pub tableIn : Layout → Table
 tableIn l = record {
@@ -42,6 +28,7 @@ tableIn l = record {
   bits = l .slots .bits;
   widths = partWidths (l .slots);
   text = hasRows (l .text);
+  second = hasSpare (l .behind);
   rest = firstBit (l .behind ++ ending);
 }
 

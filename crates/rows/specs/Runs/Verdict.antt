@@ -1,14 +1,14 @@
--- What is found in a frame's or a record's values: 8, 9 and 10 by lowest bit. The rows of a table rise, so the first thing
+-- What is found in a frame's or a record's values: 8 and 10 by lowest bit. The rows of a table rise, so the first thing
 -- found on the way is the one with the lowest bit.
-use Prim.Native.Nat.{ℕ, _+_}
+use Prim.Native.Nat.{ℕ, _+_, _^_}
 use mathlib.Core.Bool.{Bool, true, false, _&&_, _||_, not, cond}
 use mathlib.Core.List.{List, _∷_, []}
-use lib.Dec.{leb, eqb}
+use lib.Dec.{leb, eqb, ltb}
 use Rattle.rows.specs.declared.refusal.Verdict.{Verdict}
 use Rattle.rows.specs.declared.refusal.Verdict.the-variants.{Fine}
-use Rattle.rows.specs.declared.refusal.Refusal.the-variants.{Range, Spare, Gap}
+use Rattle.rows.specs.declared.refusal.Refusal.the-variants.{Range, Gap}
 use Rattle.rows.specs.Runs.Questions.{_then_, unless}
-use Rattle.rows.specs.Layout.{Span, _to_, Codes, Ask, inSpans, fromLast, inGroup, Rule, asks, spare, Row, Slots, Layout, common, ending, slotRows}
+use Rattle.rows.specs.Layout.{Span, _to_, Codes, Rule, among, rising, inGroup, spare, Row, Slots, Layout, common, ending, slotRows}
 use Rattle.rows.specs.Kept.{latest}
 use Rattle.rows.specs.Values.{Values, Sides}
 use Rattle.rows.specs.declared.common.Common.{Common}
@@ -33,16 +33,16 @@ startsWith (c ∷ cs) (v ∷ vs) = eqb v c && startsWith cs vs
 abbrev pub together : Codes → List ℕ → ℕ → List ℕ → Bool
 together c past v next = startsWith (c .before) past && (eqb v (c .own) && startsWith (c .behind) next)
 
--- the value v is what is asked for, behind the values `past`, the latest first, and before the values `next`
-abbrev pub meets : Ask → List ℕ → ℕ → List ℕ → Bool
-meets (inSpans ss) past v next = allowed ss v
-meets (fromLast hi) past v next = leb (latest past) v && leb v hi
+-- the value v keeps the rule, behind the values `past`, the latest first, and before the values `next`
+abbrev pub meets : Rule → List ℕ → ℕ → List ℕ → Bool
+meets (among ss) past v next = allowed ss v
+meets (rising hi) past v next = leb (latest past) v && leb v hi
 meets (inGroup ss c) past v next = allowed ss v || together c past v next
+meets (spare w) past v next = ltb v (2 ^ w)
 
 -- the value v at the bit `at`, behind the values `past`, the latest first, and before the values `next`
 unfoldable pub judge : Rule → ℕ → List ℕ → ℕ → List ℕ → Verdict
-judge (asks a) at past v next = ranged (meets a past v next) at
-judge spare at past v next = unless (eqb v 0) (Spare at)
+judge r at past v next = ranged (meets r past v next) at
 
 -- fields one behind the other; each row has its value (`values-never-run-short`)
 unfoldable pub walk : List ℕ → List Row → List ℕ → Verdict

@@ -18,9 +18,9 @@ returns c =
     let i = h .before in
     let k = i .before in
     let a = k .before .args in
-    body-found ashFall (a .c) (eruptionValues (a .self) (a .spare1) (a .spare2)) (slotsValues places (a .slots)) (a .found) (h .common .result) (f .front .result) (p .check-places .result) (c .spare .result)
+    body-found ashFall (a .c) (eruptionValues (a .self) (a .spares)) (slotsValues places (a .slots)) (a .found) (h .common .result) (f .front .result) (p .check-places .result) (c .spare .result)
     (h .common .ensures ∙ ap₂ (λ (x y : Bool). a .found then commonVerdict (a .c) x y) (k .is-two-or-seven .ensures) (i .is-corrected .ensures))
-    (f .front .ensures) (p .check-places .ensures) (spare-found _ _ 199 15 (a .spare2) (c .spare .ensures))
+    (f .front .ensures) (p .check-places .ensures) (spare-found _ _ 199 15 (a .spares .second) (c .spare .ensures))
 
 pub check-spec : {M : Type 1} → statement M
 check-spec =

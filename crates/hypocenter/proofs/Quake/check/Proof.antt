@@ -17,9 +17,9 @@ returns c =
     let i = h .before in
     let k = i .before in
     let a = k .before .args in
-    body-found hypocenter (a .c) (quakeValues (a .self) (a .spare1) (a .spare2)) [] (a .found) (h .common .result) (f .front .result) (f .front .result) (c .spare .result)
+    body-found hypocenter (a .c) (quakeValues (a .self) (a .spares)) [] (a .found) (h .common .result) (f .front .result) (f .front .result) (c .spare .result)
     (h .common .ensures ∙ ap₂ (λ (x y : Bool). a .found then commonVerdict (a .c) x y) (k .is-two-or-seven .ensures) (i .is-uncorrected .ensures))
-    (f .front .ensures) (no-slots (f .front .result) (hypocenter .slots)) (spare-found _ _ 163 51 (a .spare2) (c .spare .ensures))
+    (f .front .ensures) (no-slots (f .front .result) (hypocenter .slots)) (spare-found _ _ 163 51 (a .spares .second) (c .spare .ensures))
 
 pub check-spec : {M : Type 1} → statement M
 check-spec =

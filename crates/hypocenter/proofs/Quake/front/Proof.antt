@@ -21,7 +21,7 @@ returns c =
     (link _ _ _ _ _ (c .before .before .within .ensures)
     (link _ _ _ _ _ (c .before .check .ensures)
     (c .check2 .ensures)))))))))
-    ∙ sym (ap (λ (v : Verdict). s .args .found then v) (quake-walk (s .args .self) (s .args .spare)))
+    ∙ sym (ap (λ (v : Verdict). s .args .found then v) (quake-walk (s .args .self) (s .args .spares)))
 
 pub front-spec : {M : Type 1} → statement M
 front-spec =

@@ -18,9 +18,9 @@ returns c =
     let i = h .before in
     let k = i .before in
     let a = k .before .args in
-    body-found intensity (a .c) (shakingValues (a .self) (a .spare1) (a .spare2)) (slotsValues prefectures (a .slots)) (a .found) (h .common .result) (f .front .result) (p .check-prefectures .result) (c .spare .result)
+    body-found intensity (a .c) (shakingValues (a .self) (a .spares)) (slotsValues prefectures (a .slots)) (a .found) (h .common .result) (f .front .result) (p .check-prefectures .result) (c .spare .result)
     (h .common .ensures ∙ ap₂ (λ (x y : Bool). a .found then commonVerdict (a .c) x y) (k .is-two-or-seven .ensures) (i .is-uncorrected .ensures))
-    (f .front .ensures) (p .check-prefectures .ensures) (spare-found _ _ 213 1 (a .spare2) (c .spare .ensures))
+    (f .front .ensures) (p .check-prefectures .ensures) (spare-found _ _ 213 1 (a .spares .second) (c .spare .ensures))
 
 pub check-spec : {M : Type 1} → statement M
 check-spec =

@@ -51,6 +51,12 @@ add-put-row c = omega (arith, limit-is)
 add-scan-lines : tie.Need-add-scan-lines
 add-scan-lines c = omega (arith, limit-is)
 
+add-scan-lines-2 : tie.Need-add-scan-lines-2
+add-scan-lines-2 c =
+    let e = c .before .before .before .before .before .before .before .before in
+    let f = e .before .before .before in
+    omega (arith, f .find .ensures .high, e .if1 .left)
+
 returns-2 : tie.Need-returns-2
 returns-2 c =
     let b = c .before .before .before in
@@ -65,4 +71,4 @@ returns-2 c =
 
 pub scan-first-spec : {M : Type 1} → statement M
 scan-first-spec =
-    tie.close (tie.spec (λ c κs. search needs) slice-aggregate-with (λ c κs. search needs) returns array-share-prefix-begun slice-aggregate-read-line (λ c κs. search needs) (λ c κs. search needs) add-put-row (λ c κs. search needs) add-scan-lines (λ c. search needs) (λ c κs. search needs) (λ c. search needs) returns-2)
+    tie.close (tie.spec (λ c κs. search needs) slice-aggregate-with (λ c κs. search needs) returns array-share-prefix-begun slice-aggregate-read-line (λ c κs. search needs) (λ c κs. search needs) add-put-row (λ c κs. search needs) add-scan-lines add-scan-lines-2 (λ c κs. search needs) (λ c. search needs) returns-2)

@@ -22,13 +22,13 @@ returns c =
     let i = h .before in
     let k = i .before in
     let a = k .before .args in
-    let front : s .within .result ≡ h .common .result then walk [] (nankai .front) (numberValues (a .self) (a .spare1) (a .spare2) .front) =
-    link _ _ _ _ _ (x .spare .ensures) (s .within .ensures) ∙ ap (λ (v : Verdict). h .common .result then v) (sym (front-walk (a .self) (a .spare1) (a .spare2)))
+    let front : s .within .result ≡ h .common .result then walk [] (nankai .front) (numberValues (a .self) (a .spares) .front) =
+    link _ _ _ _ _ (x .spare .ensures) (s .within .ensures) ∙ ap (λ (v : Verdict). h .common .result then v) (sym (front-walk (a .self) (a .spares)))
     in
-    let behind : c .spare2 .result ≡ s .within .result then walk [] (nankai .behind) (numberValues (a .self) (a .spare1) (a .spare2) .behind) =
-    link _ _ _ _ _ (n .within2 .ensures) (link _ _ _ _ _ (w .within3 .ensures) (c .spare2 .ensures)) ∙ ap (λ (v : Verdict). s .within .result then v) (sym (behind-walk (a .self) (a .spare1) (a .spare2)))
+    let behind : c .spare2 .result ≡ s .within .result then walk [] (nankai .behind) (numberValues (a .self) (a .spares) .behind) =
+    link _ _ _ _ _ (n .within2 .ensures) (link _ _ _ _ _ (w .within3 .ensures) (c .spare2 .ensures)) ∙ ap (λ (v : Verdict). s .within .result then v) (sym (behind-walk (a .self) (a .spares)))
     in
-    body-found nankai (a .c) (numberValues (a .self) (a .spare1) (a .spare2)) [] (a .found) (h .common .result) (s .within .result) (s .within .result) (c .spare2 .result)
+    body-found nankai (a .c) (numberValues (a .self) (a .spares)) [] (a .found) (h .common .result) (s .within .result) (s .within .result) (c .spare2 .result)
     (h .common .ensures ∙ ap₂ (λ (x y : Bool). a .found then commonVerdict (a .c) x y) (k .is-two-or-seven .ensures) (i .is-uncorrected .ensures))
     front (no-slots (s .within .result) (nankai .slots)) behind
 

@@ -6,12 +6,12 @@ use Prim.Native.Nat.{ℕ}
 use lib.ListN.{drop, set, take}
 use Rattle.slots.specs.declared.slot.Slot.{Slot}
 use Rattle.rows.specs.Values.{sameBytes}
-use Rattle.record_bytes.specs.Unpacked.{misplaced, slotsFrom, slotsOrMisplaced, stray}
+use Rattle.record_bytes.specs.Unpacked.{misplaced, slotsFrom, slotsOrMisplaced, strayAs}
 use borrow.Author.Needs.{needs}
 use Rattle.record_bytes.proofs.from_bytes.marked_slots_of.Statement.{statement}
 use Rattle.record_bytes.proofs.from_bytes.marked_slots_of.Tie as tie
 
-stray-told : (c : tie.After-has-stray) → let a = c .before .before .before .before .args in c .has-stray .result ≡ stray (a .body) (a .bytes .now)
+stray-told : (c : tie.After-has-stray) → let a = c .before .before .before .before .args in c .has-stray .result ≡ strayAs (a .body) (a .spares) (a .bytes .now)
 stray-told c =
     let l = c .before .before .before .before .args .bytes .now in
     c .has-stray .ensures ∙ ap (λ (own : List ℕ). not (sameBytes (take 32 (drop 9 l)) own)) (c .before .own-bytes .ensures)

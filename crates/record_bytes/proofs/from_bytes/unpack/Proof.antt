@@ -14,12 +14,12 @@ returns c = simp (ne-eqb _ 251 (c .before .if1 .taken), c .of-zeros .ensures)
 returns-2 : tie.Need-returns-2
 unfolding unpackedAs recordFrom
 returns-2 c = simp (
-  eq-eqb _ 251 (c .before .before .before .before .before .before .if1 .left),
+  eq-eqb _ 251 (c .before .before .before .before .before .before .before .if1 .left),
   c .common-of .ensures,
   c .before .before .before .text-at .ensures,
-  text-found (c .before .before .before .before .before .before .before .before .args .bytes .now) 233 (omega arith),
+  text-found (c .before .before .before .before .before .before .before .before .before .args .bytes .now) 233 (omega arith),
   c .before .before .before .before .marked-slots-of .ensures,
-  c .before .before .before .before .before .body-of .ensures,
+  c .before .before .before .before .before .before .body-of .ensures,
 )
 
 pub unpack-spec : {M : Type 1} → statement M

@@ -9,7 +9,7 @@ returns c =
     let second = c .before in
     let first = second .before .before .before .before .before in
     let f = first .before .before .before .before .before .before .before .before in
-    own-put (f .before .args .body) (f .fields .result) _ _ _ _ (f .fields .ensures) (first .put-cells .ensures) (second .put-cells2 .ensures)
+    own-put (f .before .args .body) (f .before .args .spares) (f .fields .result) _ _ _ _ (f .fields .ensures) (first .put-cells .ensures) (second .put-cells2 .ensures)
 
 pub own-bytes-spec : {M : Type 1} → statement M
 own-bytes-spec =

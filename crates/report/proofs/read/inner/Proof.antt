@@ -31,11 +31,10 @@ returns c =
     let s = d .before in
     let f = s .args .f in
     let e = d .of .ensures in
-    let same : _≡_ {A = Record} (record { preamble = a .field8 .result; reserved = b .field82 .result; common = o .of2 .result; body = d .of .result .body; slots = d .of .result .slots; text = d .of .result .text }) (recordOf f) =
-    λ i. record { preamble = a .field8 .ensures .0 i; reserved = b .field82 .ensures .0 i; common = o .of2 .ensures i; body = e i .body; slots = e i .slots; text = e i .text }
+    let same : _≡_ {A = Record} (record { preamble = a .field8 .result; reserved = b .field82 .result; common = o .of2 .result; body = d .of .result .body; slots = d .of .result .slots; text = d .of .result .text; spares = d .of .result .spares }) (recordOf f) =
+    λ i. record { preamble = a .field8 .ensures .0 i; reserved = b .field82 .ensures .0 i; common = o .of2 .ensures i; body = e i .body; slots = e i .slots; text = e i .text; spares = e i .spares }
     in
-    judged f _ (d .of .result .spares .front) (d .of .result .spares .behind) (not (eqb (n .code .result) 0)) (t .then .result) (c .conclude .result)
-    (s .pre) same (ap (λ (x : Content). x .spares .front) e) (ap (λ (x : Content). x .spares .behind) e)
+    judged f _ (not (eqb (n .code .result) 0)) (t .then .result) (c .conclude .result) (s .pre) same
     (ap (λ (m : ℕ). not (eqb m 0)) (n .code .ensures) ∙ ap (λ (x : Content). not (eqb (layout (x .body) .code) 0)) e ∙ known-code _ (fieldOf f 17 4))
     (t .then .ensures ∙ (λ i. (u .unless .ensures ∙ fine-then _) i then k .told .ensures i .found)) (c .conclude .ensures)
 

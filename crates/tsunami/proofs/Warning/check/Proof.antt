@@ -19,7 +19,7 @@ returns c =
     let i = h .before in
     let k = i .before in
     let a = k .before .args in
-    body-found tsunami (a .c) (warningValues (a .self) (a .spare)) (slotsValues areas (a .slots)) (a .found) (h .common .result) (f .front .result) (c .check-areas .result) (c .check-areas .result)
+    body-found tsunami (a .c) (warningValues (a .self) (a .spares)) (slotsValues areas (a .slots)) (a .found) (h .common .result) (f .front .result) (c .check-areas .result) (c .check-areas .result)
     (h .common .ensures ∙ ap₂ (λ (x y : Bool). a .found then commonVerdict (a .c) x y) (k .is-classification .ensures) (i .is-uncorrected .ensures))
     (f .front .ensures) (c .check-areas .ensures) (sym (then-fine _))
 

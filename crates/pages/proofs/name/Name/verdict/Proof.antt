@@ -6,7 +6,7 @@ use Rattle.pages.proofs.Ranges.{name-found}
 use Rattle.pages.proofs.name.Name.verdict.Tie as tie
 
 returns : tie.Need-returns
-returns c = also-said (name-found (c .before .before .args .self) (c .check .result) (c .check .ensures))
+returns c = also-said (name-found (c .before .before .before .args .self) _ (c .check .result) (c .before .none .ensures) (c .check .ensures))
 
 pub verdict-spec : {M : Type 1} → statement M
-verdict-spec = tie.close (tie.spec (λ c κs. search needs) returns)
+verdict-spec = tie.close (tie.spec (λ c κs. search needs) (λ c κs. search needs) returns)

@@ -6,7 +6,7 @@ use Rattle.report.proofs.record.Record.of_zeros.Tie as tie
 
 returns : tie.Need-returns
 unfolding zeros
-returns c = simp (c .none .ensures, c .before .of-zeros .ensures)
+returns c = simp (c .none2 .ensures, c .before .none .ensures, c .before .before .of-zeros .ensures)
 
 pub of-zeros-spec : {M : Type 1} → statement M
-of-zeros-spec = tie.close (tie.spec (λ c κs. search needs) (λ c κs. search needs) returns)
+of-zeros-spec = tie.close (tie.spec (λ c κs. search needs) (λ c κs. search needs) (λ c κs. search needs) returns)

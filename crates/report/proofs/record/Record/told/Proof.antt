@@ -21,16 +21,14 @@ returns : tie.Need-returns
 unfolding recordTold toldOf
 returns c =
     let k = c .before .before .before in
-    let s = k .before .before .before in
+    let s = k .before .before .before .before in
     let r = s .args .self in
-    let x = s .args .spare1 in
-    let y = s .args .spare2 in
     let good = s .good .0 .1 .1 .1 .1 .1 .1 .1 .0 in
     let l : length (r .text) ≡ 18 = length-unmapped _ (r .text) 18 (good .1 .0 .1) in
     let b : Bytes (r .text) = λ i. elem-fits-field w8 w8 (r .text) _ i (good .1 .1) tt .fits in
     let found = c .within .ensures
     ∙ ap (λ (v : Verdict). v then ranged (leb 0 (r .reserved) && leb (r .reserved) 63) 220) (ap (λ (t : Told). t .found) (k .told .ensures) ∙ fine-then _)
-    ∙ sym (record-verdict r x y b l) in
+    ∙ sym (record-verdict r b l) in
     λ i. record { found = found i; fields = k .told .ensures i .fields }
 
 pub told-spec : {M : Type 1} → statement M
