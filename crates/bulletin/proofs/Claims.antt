@@ -91,14 +91,14 @@ unfolding taking
 a-sound-store-takes-every-page s r p e v f g =
     ap (λ (a : Admission). taking a s (r .text)) (sym (of-bulletin (s .name) (r .common) (r .body) p (ap pagedOf f) g ∙ writable-record s r (writeAnswer r 32) e refl v))
 
--- "Preamble and Reserved play no part"
+-- "Preamble and Reserved play no part", and "pages that differ only in spares are the same page"
 asked : (s : Store) (r : Record) → Valid r → admission s r ≡ cond (soundStore s) (pageNumberIn (s .name) (r .common) (r .body)) (NotAdmitted Unsound)
 unfolding admission
 asked s r v = ap (λ (w : Verdict). cond (soundStore s) (writable w (pageNumberIn (s .name) (r .common) (r .body))) (NotAdmitted Unsound)) v
 
-pub preamble-and-reserved-play-no-part : (s : Store) (r q : Record) → Valid r → Valid q → r .common ≡ q .common → r .body ≡ q .body
+pub preamble-reserved-and-spares-play-no-part : (s : Store) (r q : Record) → Valid r → Valid q → r .common ≡ q .common → r .body ≡ q .body
     → r .text ≡ q .text → takeOf s r ≡ takeOf s q
-preamble-and-reserved-play-no-part s r q v w c b t =
+preamble-reserved-and-spares-play-no-part s r q v w c b t =
     ap (λ (a : Admission). taking a s (r .text)) (asked s r v)
     ∙ (λ j. taking (cond (soundStore s) (pageNumberIn (s .name) (c j) (b j)) (NotAdmitted Unsound)) s (t j))
     ∙ sym (ap (λ (a : Admission). taking a s (q .text)) (asked s q w))

@@ -25,7 +25,7 @@ use Rattle.bulletin.specs.Text.{textAnswer}
 use Rattle.bulletin.proofs.Claims.{every-name-in-range-is-opened}
 use Rattle.pages.proofs.States.{absent, held, disputed}
 use Rattle.histories.specs.Soundness.{InRange, Sound}
-use Rattle.histories.specs.Frames.{Frame, storeAfter, pageNumbered, SameFrames, SamePages, Brings, Came, Absent, Held, Disputed, AllTaken}
+use Rattle.histories.specs.Frames.{Frame, storeAfter, pageNumbered, SameFrames, SamePages, Alike, Brings, Came, Absent, Held, Disputed, AllTaken}
 use Rattle.histories.specs.Merging.{Tree, treeStore, allFrames}
 use Rattle.histories.specs.Histories.{History, historyStore, framesOf, GoesOn}
 use Rattle.histories.specs.Reports.{All, LowestWithout, IsHeld, Reports, inOrder, Trimmed, Tells, TellsNothing, NotHeldBecause}
@@ -33,6 +33,7 @@ use Rattle.histories.specs.Reasons.{WhyNotOpened, mergeQuestions, WhyNot
 use Rattle.histories.specs.Examples.{ofTwoPages, cameTwice, cameBoth}
 use Rattle.histories.proofs.Soundness.NameRanges.{in-range-fine}
 use Rattle.histories.proofs.Soundness.Tested.{tested-sound, sound-tested}
+use Rattle.histories.proofs.Frames.TextsBrought.{alike-brings}
 use Rattle.histories.proofs.Frames.PageStates.{told-page, page-told, same-pages, frames-bring}
 use Rattle.histories.proofs.Frames.Answers.{taken-brings, brings-not-refused, answers-new, answers-same, answers-disputed, answers-still-disputed}
 use Rattle.histories.proofs.Histories.Merges.{merge-joins, joined-sound, commutes, associates, repeats, held-kept, after-sound, merge-after, tree-after, same-trees}
@@ -120,9 +121,14 @@ pub disputed-where-it-was-disputed : (n : Name) (frames : List Frame) (f : Frame
 disputed-where-it-was-disputed n frames f p t r b h = answers-still-disputed n r frames f p t b h
 
 -- In whatever order frames come, and however often ("one may have come twice"): where the same texts came for the same pages,
--- the store is the same, whatever preambles, Reserved or refused frames there were ..
+-- the store is the same, whatever preambles, Reserved, spares or refused frames there were.
 pub order-and-repeats-do-not-matter : (n : Name) (a b : List Frame) → InRange n → SamePages n a b → storeAfter n a ≡ storeAfter n b
 order-and-repeats-do-not-matter n a b r same = same-pages n a b r same
+
+-- "pages that differ only in spares are the same page": of two records that writing accepts and that differ in preamble, Reserved and
+-- spares alone, one brings what the other brings ..
+pub what-differs-in-spares-alone-is-the-same-page : (n : Name) (r q : Record) (p : ℕ) (t : List ℕ) → Valid q → Alike r q → Brings n r p t → Brings n q p t
+what-differs-in-spares-alone-is-the-same-page n r q p t v a b = alike-brings n r q p t v a b
 
 -- .. and the same frames bring the same
 pub the-same-frames-bring-the-same : (n : Name) (a b : List Frame) → SameFrames a b → SamePages n a b
@@ -278,8 +284,9 @@ pub a-page-that-did-not-come-is-missed : (n : Name) (frames : List Frame) (p : �
     → (k : ℕ) × (mark : ℕ) × (countOf (storeAfter n frames) .lowest ≡ k) × NotHeldBecause n frames k mark × TellsNothing (storeAfter n frames) (NotHeld k mark)
 a-page-that-did-not-come-is-missed n frames p r low high none = missed n r frames p low high none
 
--- .. "one may have come twice": a bulletin of two pages, of which the first came twice. Both frames are taken, one page is
--- held, page 2 is the lowest that is not, and the text is refused with 15, page 2, absent.
+-- .. "one may have come twice": a bulletin of two pages, of which the first came twice, in frames that differ in preamble,
+-- Reserved and every bit of the spares. Both are taken, one page is held and none disputed, page 2 is the lowest that is not held,
+-- and the text is refused with 15, page 2, absent.
 pub one-page-twice-is-not-complete : AllTaken ofTwoPages cameTwice × (length cameTwice ≡ ofTwoPages .total)
     × (countOf (storeAfter ofTwoPages cameTwice) ≡ record { answer = Fine; held = 1; disputed = 0; lowest = 2 })
     × TellsNothing (storeAfter ofTwoPages cameTwice) (NotHeld 2 1)

@@ -30,9 +30,25 @@ framePaged p = record {
   text = refl;
 }
 
+-- another frame of that page, with another preamble, and every bit of Reserved and of the spares set
+abbrev pub sentAgain : ℕ → Frame
+sentAgain p = record {
+  came = record {
+    preamble = 0xC6;
+    reserved = 63;
+    common = ofTwoPages .common;
+    body = Nankai (record { serial = 1; number = p; total = 2 });
+    slots = replicate 16 noSlot;
+    text = replicate 18 65;
+    spares = record { first = 1023; second = 1 };
+  };
+  slots = refl;
+  text = refl;
+}
+
 -- the first page came twice
 abbrev pub cameTwice : List Frame
-cameTwice = framePaged 1 ∷ framePaged 1 ∷ []
+cameTwice = framePaged 1 ∷ sentAgain 1 ∷ []
 
 -- each page came once
 abbrev pub cameBoth : List Frame

@@ -49,11 +49,18 @@ pub record Brings (n : Name) (r : Record) (p : ℕ) (t : List ℕ) : Type 0 wher
   pub body : r .body ≡ Nankai (record { serial = n .serial; number = p; total = n .total })
   pub text : r .text ≡ t
 
+-- the two differ in preamble, Reserved and spares alone
+pub record Alike (r q : Record) : Type 0 where
+  pub common : r .common ≡ q .common
+  pub body : r .body ≡ q .body
+  pub slots : r .slots ≡ q .slots
+  pub text : r .text ≡ q .text
+
 -- one of the frames brought the text t for page p
 abbrev pub Came : Name → List Frame → ℕ → List ℕ → Type 0
 Came n frames p t = (r : Record) × Among r frames × Brings n r p t
 
--- the same texts came for the same pages, in whatever frames: preambles, Reserved and frames that are refused may differ
+-- the same texts came for the same pages, in whatever frames: preambles, Reserved, spares and frames that are refused may differ
 pub record SamePages (n : Name) (a b : List Frame) : Type 0 where
   pub there : (p : ℕ) (t : List ℕ) → Came n a p t → Came n b p t
   pub back : (p : ℕ) (t : List ℕ) → Came n b p t → Came n a p t

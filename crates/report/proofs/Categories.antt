@@ -2,7 +2,7 @@
 -- lines here; the other laws go by these.
 use Rattle.report.specs.declared.body.Body.the-variants.{AshFall, Hypocenter, Intensity, Nankai, NoCategory, Tsunami}
 use Rattle.report.specs.declared.body.Body.{Body}
-use mathlib.Core.Bool.{Bool, _&&_, false, true, not}
+use mathlib.Core.Bool.{Bool, _&&_, _||_, cond, false, true, not}
 use lib.Dec.{eqb}
 use borrow.Author.Tests.{ne-eqb}
 use Rattle.rows.specs.Runs.Verdict.{allowed}
@@ -24,6 +24,7 @@ use Rattle.hypocenter.specs.declared.angle.Angle.{Angle}
 use Rattle.slots.specs.declared.slot.Slot.{Slot}
 use Rattle.slots.specs.Slots.{noSlot}
 use Rattle.report.specs.Records.{bodyBy}
+use Rattle.bits.specs.Frame.{fieldOf}
 use lib.ListN.{getD, length, drop, replicate}
 use Rattle.hypocenter.specs.Hypocenter.{hypocenter, quakeFrom, quakeValues}
 use Rattle.intensity.specs.Intensity.{intensity, shakingFrom}
@@ -202,6 +203,15 @@ pub record Suits (s : List ℕ) (dc : ℕ) : Type 0 where
 pub suits : (s : List ℕ) (dc : ℕ) → In categories dc → Suits s dc
 unfolding bodyFrom
 suits s = by-category (Suits s) (record { code = refl; sides = refl }) (record { code = refl; sides = refl }) (record { code = refl; sides = refl }) (record { code = refl; sides = refl }) (record { code = refl; sides = refl })
+
+-- ---- the spares of a frame, by the code of its category
+
+abbrev pub secondSpare : List ℕ → ℕ → ℕ
+secondSpare s dc = cond (eqb dc 2) (fieldOf s 163 51) (cond (eqb dc 3 || eqb dc 4) (fieldOf s 213 1) (cond (eqb dc 9) (fieldOf s 199 15) 0))
+
+pub spares-told : (s : List ℕ) (dc : ℕ) → In categories dc → sparesAt s (layout (bodyBy s dc)) ≡ record { first = fieldOf s 43 10; second = secondSpare s dc }
+unfolding bodyFrom
+spares-told s = by-category (λ (dc : ℕ). sparesAt s (layout (bodyBy s dc)) ≡ record { first = fieldOf s 43 10; second = secondSpare s dc }) refl refl refl refl refl
 
 -- ---- a record of each category, so that there is one
 

@@ -3,32 +3,32 @@ use mathlib.Core.Path.{_≡_, ap, refl}
 use mathlib.Core.Bool.{true, false}
 use mathlib.Core.Logic.{_⊎_, _↔_}
 use mathlib.Core.List.{List, [], map, _∷_, _++_}
-use Prim.Native.Nat.{ℕ, _≤_, _<_}
+use Prim.Native.Nat.{ℕ, _-_, _^_, _≤_, _<_}
 use lib.ListN.{length, getD, drop}
 use types.Run.{OneOf}
 use Rattle.bits.specs.Frame.{Bytes, bytesOf, fieldOf}
 use Rattle.rows.specs.declared.refusal.Verdict.{Verdict}
 use Rattle.rows.specs.declared.refusal.Verdict.the-variants.{Fine, Refused}
 use Rattle.rows.specs.declared.refusal.Refusal.{Refusal}
-use Rattle.rows.specs.declared.refusal.Refusal.the-variants.{Range, Gap}
+use Rattle.rows.specs.declared.refusal.Refusal.the-variants.{Range, Gap, Unused}
 use Rattle.report.specs.declared.record.Record.{Record}
 use Rattle.rows.specs.Refusals.{says, answers}
-use Rattle.rows.specs.Layout.{allRows, tiles, allFit, lowest, Row, Member, codesOf, group, ungrouped}
-use Rattle.report.specs.Records.{bodyOf, recordOf, zeros, values}
-use Rattle.rows.specs.Values.{valuesOf}
+use Rattle.rows.specs.Layout.{allRows, tiles, allFit, lowest, Row, spareRow, Member, codesOf, group, ungrouped}
+use Rattle.report.specs.Records.{bodyOf, recordAs, recordOf, zeros, values}
+use Rattle.rows.specs.Values.{hasSpare, sparesAt, valuesOf}
 use Rattle.rows.specs.Runs.Verdict.{allowed, empty, walk}
 use Rattle.report.specs.Meaning.{usedOf}
 use Rattle.report.specs.Runs.Reading.{readAnswer, readSays, reading, readOf}
 use Rattle.report.specs.Conforms.{Conforms}
 use Rattle.rows.specs.Faults.{Fault, Lowest, Met}
 use Rattle.report.specs.Reasons.{readQuestions, WhyNotRead, writeQuestions, WhyNotWritten}
-use Rattle.report.specs.Runs.Writing.{frame, written, writeAnswer, writeOf, writeSays, Valid}
+use Rattle.report.specs.Runs.Writing.{frame, known, written, writeAnswer, writeOf, writeSays, Valid}
 use Rattle.report.specs.Rules.{KeepsRules}
 use Rattle.report.proofs.Reading.Frames.{layoutOf, frameValues, conforming-fine, fine-conforming, reason, faulty, faultless, no-gap}
 use Rattle.rows.proofs.Layouts.Lengths.{Filled, frame-filled}
 use Rattle.slots.proofs.Used.{counted-used}
 use Rattle.report.proofs.Reading.Used.{others-empty, used-area, used-place, used-prefecture, used-slot-kept}
-use Rattle.rows.proofs.Rules.Numbers.{says-apart, says-numbered, zero-fine}
+use Rattle.rows.proofs.Rules.Numbers.{answers-not-nine, not-nine, says-apart, says-numbered, zero-fine}
 use Rattle.report.proofs.Reading.ReadNumbers.{read-ten, refused-zeros}
 use Rattle.report.proofs.PaperValues.{found, expected, paperValues, every-row}
 use Rattle.report.proofs.Writing.WriteNumbers.{writeNumbers, write-numbered}
@@ -37,15 +37,18 @@ use Rattle.report.proofs.RoundTrips.WrittenThenRead.{returns, read-agai
 use Rattle.report.proofs.RoundTrips.OneToOne.{WrittenBy, frame-of-record, same-frame, same-record, conforming-written, written-bytes}
 use Rattle.report.specs.declared.body.Body.{Body}
 use Rattle.report.proofs.Shaped.{Shaped, frame-shaped, record-filled}
-use Rattle.report.proofs.Categories.{all, layouts, samples}
-use Rattle.report.proofs.RoundTrips.Witnesses.{Each, WrittenAndRead, samples-written-and-read}
-use Rattle.report.specs.Categories.{categories, layout}
+use Rattle.report.proofs.Categories.{all, layouts, samples, secondSpare, spares-told}
+use Rattle.report.proofs.RoundTrips.Witnesses.{Each, WrittenAndRead, full, full-written-and-read, samples-written-and-read}
+use Rattle.report.proofs.Spares.{first-too-wide, no-second, on-the-wire, second-too-wide, spareBit, spareRows, spareWidth, sparing}
+use Rattle.report.proofs.SpareValues.{spareValues, every-row as every-spare-row}
+use Rattle.bits.proofs.Frames.{field-lt}
+use Rattle.report.specs.Categories.{categories, layout, preambles}
 use Rattle.slots.specs.Slots.{noSlot, slotParts, slotsValues, slotValues}
 use Rattle.slots.specs.declared.slot.Slot.{Slot}
 use Rattle.ash_fall.specs.AshFall.{ashFall}
 use Rattle.ash_fall.specs.Meaning.{prefectureOf}
 use Rattle.ash_fall.specs.declared.meaning.Prefecture.the-variants.{Number}
-use Rattle.rows.specs.Kept.{AllNormal, Kept}
+use Rattle.rows.specs.Kept.{AllNormal, In, Keeps, Kept}
 use Rattle.rows.proofs.Rules.Groups.{group-kept, group-of-codes, mixed-group, passed}
 use Rattle.tsunami.specs.Tsunami.{tsunami}
 use Rattle.tsunami.specs.Meaning.{arrivalOf, heightOf}
@@ -99,6 +102,11 @@ pub each-category-has-its-own-it : map {B = ℕ × List ℕ} (λ l. (l .code, pa
 unfolding allowed
 each-category-has-its-own-it = refl
 
+-- "Keep every spare's bits": which bits of each category are spare, the first one and how many.
+pub each-category-has-its-own-spares : map {B = ℕ × List (ℕ × ℕ)} (λ l. (l .code, spareRows (allRows l))) (drop 1 layouts)
+    ≡ (2, (43, 10) ∷ (163, 51) ∷ []) ∷ (3, (43, 10) ∷ (213, 1) ∷ []) ∷ (4, (43, 10) ∷ (213, 1) ∷ []) ∷ (5, (43, 10) ∷ []) ∷ (9, (43, 10) ∷ (199, 15) ∷ []) ∷ []
+each-category-has-its-own-spares = refl
+
 -- ---- groups: "An arrival code that speaks for hour and minute together must have both; a mixture is refused"
 
 -- A group of any number of fields, wherever it stands in a table, is kept exactly where all of its fields have their codes or each is in
@@ -128,16 +136,16 @@ conforming-is-read s c = conforming-fine s c
 pub conforming-gives-its-record : (s : List ℕ) → Conforms s → readOf s ≡ record { answer = Fine; «record» = recordOf s }
 conforming-gives-its-record s c = ap (λ (v : Verdict). reading v (recordOf s)) (conforming-fine s c)
 
--- "given when", of the numbers 1 to 10: a frame that breaks a rule is refused, so what is read keeps every one.
+-- "given when", of the numbers 1 to 8 and 10: a frame that breaks a rule is refused, so what is read keeps every one.
 pub read-conforms : (s : List ℕ) → readAnswer s ≡ Fine → Conforms s
 read-conforms s e = fine-conforming s e
 
--- "A refusal is given only when its row's reason is there." "Reading a frame: 1 to 7 in that order, then 8, 9, 10 by lowest
--- bit": the condition of the number fails, every earlier one holds, and no fault has a lower bit than that of an 8, 9 or 10.
+-- "A refusal is given only when its row's reason is there." "Reading a frame: 1 to 7 in that order", then 8 and 10 by lowest
+-- bit: the condition of the number fails, every earlier one holds, and no fault has a lower bit than that of an 8 or 10.
 pub refused-for-a-reason : (s : List ℕ) (x : Refusal) → readAnswer s ≡ Refused x → WhyNotRead s x
 refused-for-a-reason s x e = reason s x e
 
--- "8, 9, 10 by lowest bit", from the fault: a frame that passes 1 to 7 and has a fault is refused, for one with the lowest bit.
+-- By lowest bit, from the fault: a frame that passes 1 to 7 and has a fault is refused, for one with the lowest bit.
 pub faulty-is-refused : (s : List ℕ) (y : Refusal) → Met (readQuestions s) → Fault (layoutOf s) (frameValues s) y
     → (x : Refusal) × (readAnswer s ≡ Refused x) × Lowest (layoutOf s) (frameValues s) x
 faulty-is-refused s y m f = faulty s y m f
@@ -201,9 +209,16 @@ refusals-are-1-to-17 x = says-numbered x
 pub zero-says-that-nothing-is-refused : (v : Verdict) → answers v .number ≡ 0 → v ≡ Fine
 zero-says-that-nothing-is-refused v e = zero-fine v e
 
--- "Reading a frame: 1 to 7 in that order, then 8, 9, 10 by lowest bit": no other number is answered.
+-- "Reading a frame: 1 to 7 in that order", then 8 and 10: no other number is answered ..
 pub answers-are-0-to-10 : (s : List ℕ) → readSays s .number ≤ 10
 answers-are-0-to-10 s = read-ten s
+
+-- .. and "9 no longer occurs", in reading or anywhere else.
+pub no-refusal-is-9 : (x : Refusal) → says x .number ≡ 9 → ⊥
+no-refusal-is-9 x e = not-nine x e
+
+pub no-answer-is-9 : (v : Verdict) → answers v .number ≡ 9 → ⊥
+no-answer-is-9 v e = answers-not-nine v e
 
 -- "A refused reading gives a record of zeros."
 pub a-refused-reading-gives-zeros : (s : List ℕ) (x : Refusal) → readOf s .answer ≡ Refused x → readOf s .«record» ≡ zeros
@@ -216,6 +231,40 @@ paper-values-hold = every-row
 -- The same of category 5: its arrival codes and their mixtures, and every bound of its table.
 pub tsunami-values-hold : map found tsunamiValues ≡ map expected tsunamiValues
 tsunami-values-hold = every-tsunami-row
+
+-- Spares at their bounds, and together with other faults.
+pub spare-values-hold : map found spareValues ≡ map expected spareValues
+spare-values-hold = every-spare-row
+
+-- ---- spares: "Keep every spare's bits in the record and write them back"
+
+-- Whatever stands in a spare of a frame keeps its rule: no frame is refused for it ..
+pub any-spare-of-a-frame-passes : (s : List ℕ) (a w : ℕ) (past next : List ℕ) → Keeps (spareRow a w .rule) past (fieldOf s a w) next
+any-spare-of-a-frame-passes s a w past next = field-lt s a w
+
+-- .. it is kept in the record ..
+pub the-record-has-the-spares-of-its-frame : (s : List ℕ) → Conforms s → recordOf s .spares ≡ record { first = fieldOf s 43 10; second = secondSpare s (fieldOf s 17 4) }
+unfolding recordAs
+the-record-has-the-spares-of-its-frame s c = spares-told s (fieldOf s 17 4) (c .category)
+
+-- .. and is written back: what a valid record has in its spares, its frame has in its spare bits.
+pub the-frame-has-the-spares-of-its-record : (r : Record) → Shaped r → Valid r → sparesAt (bytesOf (frame r)) (layout (r .body)) ≡ r .spares
+the-frame-has-the-spares-of-its-record r s v = on-the-wire r s v
+
+-- "in writing, a spare too wide for its field is 8 at its first bit": any valid record, with such a first spare instead of its own ..
+pub a-first-spare-too-wide-is-8 : (r : Record) → Valid r → (n : ℕ) → 2 ^ spareWidth (layout (r .body) .front) ≤ n
+    → writeAnswer (sparing r (record { first = n; second = r .spares .second })) 32 ≡ Refused (Range (spareBit (layout (r .body) .front)))
+a-first-spare-too-wide-is-8 r v n h = first-too-wide r v n h
+
+-- .. and any one of a category that has a second spare, with such a one.
+pub a-second-spare-too-wide-is-8 : (r : Record) → Valid r → (n : ℕ) → hasSpare (layout (r .body) .behind) ≡ true → 2 ^ spareWidth (layout (r .body) .behind) ≤ n
+    → writeAnswer (sparing r (record { first = r .spares .first; second = n })) 32 ≡ Refused (Range (spareBit (layout (r .body) .behind)))
+a-second-spare-too-wide-is-8 r v n s h = second-too-wide r v n s h
+
+-- "record has something where its category has nothing": a second spare where the category has none is 11.
+pub a-second-spare-of-a-category-without-one-is-11 : (r : Record) → In preambles (r .preamble) → known (r .body) ≡ true → hasSpare (layout (r .body) .behind) ≡ false
+    → (r .spares .second ≡ 0 → ⊥) → writeAnswer r 32 ≡ Refused Unused
+a-second-spare-of-a-category-without-one-is-11 r p k s h = no-second r p k s h
 
 -- ---- writing
 
@@ -257,7 +306,7 @@ gap-before-fields-in-writing r size p s e f = write-no-gap r size p s e f
 pub reserved-above-63 : (r : Record) (n : ℕ) → Valid r → 63 < n → writeAnswer (reserving r n) 32 ≡ Refused (Range 220)
 reserved-above-63 r n v h = above-63 r n v h
 
--- "Writing: 1, 3, 7, 11, then 8 and 10": no other number is answered, and never 9, for "spares .. are not in it".
+-- "Writing: 1, 3, 7, 11, then 8 and 10": no other number is answered.
 pub write-answers : (r : Record) (size : ℕ) → OneOf writeNumbers (writeSays r size .number)
 write-answers r size = write-numbered r size
 
@@ -275,8 +324,8 @@ refused-leaves-the-buffer r buffer x e = ap (λ (v : Verdict). written v r buffe
 pub read-records-are-shaped : (s : List ℕ) → Shaped (recordOf s)
 read-records-are-shaped s = frame-shaped s (bodyOf s)
 
--- "The base reads and writes DC Report frames": what was read is written without refusal, and gives every bit back. "Spares,
--- message type, version and parity are not in it", nor need they be.
+-- "The base reads and writes DC Report frames": what was read is written without refusal, and gives every bit back. Message type,
+-- version and parity are not in a record, nor need they be.
 pub written-again-is-the-frame : (s buffer : List ℕ) → Bytes s → readOf s .answer ≡ Fine → length buffer ≡ 32
     → (writeAnswer (readOf s .«record») (length buffer) ≡ Fine) × (writeOf (readOf s .«record») buffer ≡ s)
 written-again-is-the-frame s buffer b e l = written-again s buffer b e l
@@ -316,3 +365,15 @@ each-category-has-a-sample = refl
 -- .. is valid, its frame conforms, and is read as that record.
 pub each-sample-is-written-and-read : Each WrittenAndRead samples
 each-sample-is-written-and-read = samples-written-and-read
+
+-- So is each with every spare bit set: "One added field would empty our crawl" no more.
+pub each-sample-with-every-spare-bit-set-is-written-and-read : Each WrittenAndRead (map full samples)
+each-sample-with-every-spare-bit-set-is-written-and-read = full-written-and-read
+
+pub those-samples-have-every-spare-bit-set : map (λ r. r .spares) (map full samples)
+    ≡ record { first = 1023; second = 2 ^ 51 - 1 }
+    ∷ record { first = 1023; second = 1 }
+    ∷ record { first = 1023; second = 1 }
+    ∷ record { first = 1023; second = 0 }
+    ∷ record { first = 1023; second = 32767 } ∷ []
+those-samples-have-every-spare-bit-set = refl

@@ -3,10 +3,12 @@ pub mod Told
 pub mod Tables
 pub mod Texts
 pub mod Shaped
+pub mod Spares
 pub mod Reading
 pub mod Writing
 pub mod RoundTrips
 pub mod PaperValues
 pub mod TsunamiValues
+pub mod SpareValues
 pub mod Claims
 pub mod Settled

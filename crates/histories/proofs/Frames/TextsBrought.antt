@@ -23,7 +23,8 @@ use Rattle.bulletin.proofs.Taking.TakenOrRefused.{taken-or-refused, put-answer}
 use Rattle.bulletin.proofs.Claims.{a-sound-store-takes-every-page}
 use Rattle.pages.proofs.States.{Text, In}
 use Rattle.histories.specs.Soundness.{InRange}
-use Rattle.histories.specs.Frames.{Frame, Brings, Came}
+use Rattle.histories.specs.Frames.{Frame, Alike, Brings, Came}
+use Rattle.report.specs.Runs.Writing.{Valid}
 use Rattle.histories.proofs.Soundness.Tested.{sound-tested}
 use Rattle.histories.proofs.Frames.StoreStates.{opened-stands, stands-sound}
 use Rattle.rows.specs.declared.common.Common.{Common}
@@ -93,6 +94,10 @@ brings-page n f p t b =
     (k .low, k .high)
 
 -- a record is one page, with one text
+-- what plays no part may differ
+pub alike-brings : (n : Name) (r q : Record) (p : ℕ) (t : Text) → Valid q → Alike r q → Brings n r p t → Brings n q p t
+alike-brings n r q p t v a b = record { valid = v; common = sym (a .common) ∙ b .common; body = sym (a .body) ∙ b .body; text = sym (a .text) ∙ b .text }
+
 pub same-page : (n : Name) (r : Record) (p q : ℕ) (t u : Text) → Brings n r p t → Brings n r q u → p ≡ q
 same-page n r p q t u a b = ap (λ (x : PageNumbers). x .number) (same-numbers _ _ (sym (a .body) ∙ b .body))
   where

@@ -13,8 +13,13 @@ use Rattle.pages.proofs.States.{Text}
 use Rattle.histories.specs.Soundness.{InRange}
 use Rattle.histories.specs.Frames.{storeAfter, Among, Brings, Came, Held, Disputed, AllTaken}
 use Rattle.histories.specs.Reports.{none, one-more, no-more, LowestWithout, IsHeld, TellsNothing}
-use Rattle.histories.specs.Examples.{ofTwoPages, framePaged, cameTwice}
-use Rattle.histories.proofs.Frames.TextsBrought.{same-page}
+use Rattle.histories.specs.Examples.{ofTwoPages, framePaged, sentAgain, cameTwice}
+use Rattle.histories.proofs.Frames.TextsBrought.{alike-brings, same-page}
+use Rattle.report.specs.Records.{values}
+use Rattle.report.specs.Runs.Writing.{Valid, writeAnswer}
+use Rattle.rows.specs.Runs.Questions.{_then_, unless}
+use Rattle.rows.specs.Runs.Verdict.{allowed, empty, judge, later, slotsVerdict, verdict, walk}
+use Rattle.slots.specs.Slots.{tidySlots, vacant}
 use Rattle.histories.proofs.Histories.PageFrames.{frame-brings}
 use Rattle.histories.proofs.Soundness.KeptRules.{all-alike}
 use Rattle.histories.proofs.Reports.Reported.{reported, reported-once}
@@ -33,16 +38,26 @@ page-brings p low high = frame-brings ofTwoPages in-range p letters low high (al
 first-brings : Brings ofTwoPages (framePaged 1 .came) 1 letters
 first-brings = page-brings 1 (omega arith) (omega arith)
 
-only-first : (r : Record) → Among r cameTwice → r ≡ framePaged 1 .came
-only-first r h = ⊎-elim (λ e. e) (λ k. ⊎-elim (λ e. e) (λ z. absurd z) k) h
+-- what came again can be written too, and is like what came first
+again-valid : Valid (sentAgain 1 .came)
+unfolding writeAnswer _then_ unless allowed judge walk empty later slotsVerdict verdict values tidySlots vacant
+again-valid = refl
+
+again-brings : Brings ofTwoPages (sentAgain 1 .came) 1 letters
+again-brings = alike-brings ofTwoPages (framePaged 1 .came) (sentAgain 1 .came) 1 letters again-valid (record { common = refl; body = refl; slots = refl; text = refl }) first-brings
+
+all-bring : (r : Record) → Among r cameTwice → Brings ofTwoPages r 1 letters
+all-bring r h =
+    ⊎-elim (λ e. subst (λ (x : Record). Brings ofTwoPages x 1 letters) (sym e) first-brings)
+    (λ k. ⊎-elim (λ e. subst (λ (x : Record). Brings ofTwoPages x 1 letters) (sym e) again-brings) (λ z. absurd z) k) h
 
 pub all-taken : AllTaken ofTwoPages cameTwice
-all-taken r h = (1, subst (λ (x : Record). Brings ofTwoPages x 1 (x .text)) (sym (only-first r h)) first-brings)
+all-taken r h = let b = all-bring r h in (1, subst (Brings ofTwoPages r 1) (sym (b .text)) b)
 
 only-page-one : (p : ℕ) (t : Text) → Came ofTwoPages cameTwice p t → (p ≡ 1) × (t ≡ letters)
 only-page-one p t c =
-    let b : Brings ofTwoPages (framePaged 1 .came) p t = subst (λ (x : Record). Brings ofTwoPages x p t) (only-first (c .0) (c .1)) (c .2) in
-    (same-page ofTwoPages (framePaged 1 .came) p 1 t letters b first-brings, sym (b .text))
+    let b = all-bring (c .0) (c .1) in
+    (same-page ofTwoPages (c .0) p 1 t letters (c .2) b, sym (c .2 .text) ∙ b .text)
 
 first-held : Held ofTwoPages cameTwice 1 letters
 first-held = record { came = (framePaged 1 .came, inl refl, first-brings); alone = λ u c. only-page-one 1 u c .1 }

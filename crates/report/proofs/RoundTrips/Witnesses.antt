@@ -18,6 +18,8 @@ use Rattle.report.specs.Conforms.{Conforms}
 use Rattle.report.specs.Runs.Reading.{readOf}
 use Rattle.report.specs.Runs.Writing.{Valid, frame, writeAnswer}
 use Rattle.report.proofs.Categories.{samples}
+use Rattle.report.specs.Categories.{layout}
+use Rattle.report.proofs.Spares.{allOnes, sparing}
 use Rattle.report.proofs.Shaped.{Shaped}
 use Rattle.report.proofs.RoundTrips.ReadThenWritten.{valid-written}
 use Rattle.report.proofs.RoundTrips.WrittenThenRead.{read-again, returns}
@@ -68,3 +70,15 @@ all-valid = refl
 
 pub samples-written-and-read : Each WrittenAndRead samples
 samples-written-and-read = each samples refl all-valid
+
+-- ---- the same with every spare bit set
+
+abbrev pub full : Record → Record
+full r = sparing r (allOnes (layout (r .body)))
+
+all-full-valid : map (λ r. writeAnswer r 32) (map full samples) ≡ map (λ r. Fine) (map full samples)
+unfolding writeAnswer _then_ unless allowed judge walk empty later slotsVerdict verdict values tidySlots vacant
+all-full-valid = refl
+
+pub full-written-and-read : Each WrittenAndRead (map full samples)
+full-written-and-read = each (map full samples) refl all-full-valid

@@ -81,6 +81,18 @@ says-numbered (NotHeld page mark) = (lit≤ tt, lit≤ tt)
 says-numbered Short = (lit≤ tt, lit≤ tt)
 says-numbered Line = (lit≤ tt, lit≤ tt)
 
+-- "9 no longer occurs": its place in the list stands for another
+unsaid-nine : (a : Said) → a .number ≡ 9 → unsaid a ≡ Line
+unfolding unsaid
+unsaid-nine a e = rw e
+
+pub not-nine : (x : Refusal) → says x .number ≡ 9 → ⊥
+not-nine x e = let line = sym (unsaid-says x) ∙ unsaid-nine (says x) e in omega (arith, e, ap (λ (y : Refusal). says y .number) line)
+
+pub answers-not-nine : (v : Verdict) → answers v .number ≡ 9 → ⊥
+answers-not-nine Fine e = omega arith
+answers-not-nine (Refused x) e = not-nine x e
+
 -- no refusal answers 0
 pub zero-fine : (v : Verdict) → answers v .number ≡ 0 → v ≡ Fine
 zero-fine Fine e = refl
