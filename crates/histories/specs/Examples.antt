@@ -4,6 +4,7 @@ use mathlib.Core.Path.{refl}
 use Prim.Native.Nat.{ℕ}
 use mathlib.Core.List.{List, [], _∷_}
 use lib.ListN.{replicate}
+use Rattle.rows.specs.declared.fields.Spares.{Spares}
 use Rattle.rows.specs.Values.{noSpares}
 use Rattle.slots.specs.Slots.{noSlot}
 use Rattle.pages.specs.declared.name.Name.{Name}
@@ -14,37 +15,28 @@ use Rattle.report.specs.declared.body.Body.the-variants.{Nankai}
 abbrev pub ofTwoPages : Name
 ofTwoPages = record { common = record { rc = 7; month = 3; day = 11; hour = 14; minute = 46; it = 0 }; serial = 1; total = 2 }
 
--- the frame of a page of it
-abbrev pub framePaged : ℕ → Frame
-framePaged p = record {
+-- a frame of a page of it, with this preamble, Reserved and spares
+abbrev frameWith : ℕ → ℕ → Spares → ℕ → Frame
+frameWith preamble reserved spares p = record {
   came = record {
-    preamble = 0x53;
-    reserved = 0;
+    preamble = preamble;
+    reserved = reserved;
     common = ofTwoPages .common;
     body = Nankai (record { serial = 1; number = p; total = 2 });
     slots = replicate 16 noSlot;
     text = replicate 18 65;
-    spares = noSpares;
+    spares = spares;
   };
   slots = refl;
   text = refl;
 }
 
--- another frame of that page, with another preamble, and every bit of Reserved and of the spares set
+abbrev pub framePaged : ℕ → Frame
+framePaged p = frameWith 0x53 0 noSpares p
+
+-- another frame of the same page, with every bit of Reserved and of the spares set
 abbrev pub sentAgain : ℕ → Frame
-sentAgain p = record {
-  came = record {
-    preamble = 0xC6;
-    reserved = 63;
-    common = ofTwoPages .common;
-    body = Nankai (record { serial = 1; number = p; total = 2 });
-    slots = replicate 16 noSlot;
-    text = replicate 18 65;
-    spares = record { first = 1023; second = 1 };
-  };
-  slots = refl;
-  text = refl;
-}
+sentAgain p = frameWith 0xC6 63 (record { first = 1023; second = 1 }) p
 
 -- the first page came twice
 abbrev pub cameTwice : List Frame

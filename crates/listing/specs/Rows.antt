@@ -1,10 +1,10 @@
 -- The lines of text of a listing (document 01, "The listing"): "line number from 1, answer (0 when read), first bit for 8, 9, 10, category, slots used in
 -- categories 3 and 9", and in category 5.
 use Prim.Native.Nat.{ℕ}
-use mathlib.Core.Bool.{_&&_, cond}
+use mathlib.Core.Bool.{_||_, cond}
 use mathlib.Core.List.{List, [], _∷_, _++_}
 use lib.ListN.{length, drop}
-use lib.Dec.{leb, ltb, eqb}
+use lib.Dec.{ltb, eqb}
 use Rattle.rows.specs.declared.refusal.Said.{Said}
 use Rattle.rows.specs.declared.refusal.Verdict.{Verdict}
 use Rattle.rows.specs.declared.refusal.Verdict.the-variants.{Fine, Refused}
@@ -20,9 +20,9 @@ use Rattle.report.specs.Categories.{layout}
 
 -- ---- what is said of a line
 
--- "first bit for 8, 9, 10"
+-- "first bit for 8, 9, 10", of which 9 is given no more
 abbrev pub placeEntry : Said → Entry
-placeEntry a = cond (leb 8 (a .number) && leb (a .number) 10) (Number (a .place)) Dash
+placeEntry a = cond (eqb (a .number) 8 || eqb (a .number) 10) (Number (a .place)) Dash
 
 -- "slots used in categories 3 and 9", and in 5: in those that have slots
 abbrev pub slotsEntry : ℕ → ℕ → Entry

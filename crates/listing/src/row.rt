@@ -34,14 +34,15 @@ pub struct Row {
 }
 
 impl Row {
-    // 8, 9 and 10 have a place to say.
+    // 8 and 10 have a place to say.
     fn place_entry(said: Said) -> Entry
         ensures { λ r. ⌜ r ≡ placeEntry said ⌝ }
     {
-        if 8 <= said.number && said.number <= 10 {
-            return Entry::Number(said.place);
+        let number = said.number;
+        match number {
+            8 | 10 => Entry::Number(said.place),
+            _ => Entry::Dash,
         }
-        Entry::Dash
     }
 
     fn of_refusal(refusal: Refusal) -> Row

@@ -5,7 +5,11 @@ use Rattle.report.specs.declared.body.Body.{Body}
 use mathlib.Core.Bool.{Bool, _&&_, _||_, cond, false, true, not}
 use lib.Dec.{eqb}
 use borrow.Author.Tests.{ne-eqb}
-use Rattle.rows.specs.Runs.Verdict.{allowed}
+use Rattle.rows.specs.Runs.Verdict.{allowed, walk}
+use Rattle.rows.specs.declared.refusal.Verdict.the-variants.{Fine, Refused}
+use Rattle.rows.specs.declared.refusal.Refusal.the-variants.{Range}
+use Rattle.rows.proofs.Rules.Spares.{behind-two, not-ranged, spareBit, spareWidth, too-wide}
+use Rattle.nankai.proofs.Walks.{behind-walk}
 use Rattle.rows.proofs.Rules.Spans.{allowed-in, in-allowed, not-allowed}
 use Rattle.rows.specs.Kept.{In}
 use Rattle.rows.specs.Layout.{Layout, noCategory}
@@ -13,7 +17,7 @@ use mathlib.Core.List.{List, [], _∷_, _++_}
 use Rattle.rows.specs.declared.fields.Spares.{Spares}
 use Rattle.rows.specs.Values.{Sides, hasSpare, noSpares, sidesAt, sparesAt, sparesFrom}
 use mathlib.Core.Path.{_∙_, _≡_, ap, refl, subst, sym}
-use Prim.Native.Nat.{_≤_, _-_, suc, zero, ℕ}
+use Prim.Native.Nat.{_≤_, _-_, _^_, suc, zero, ℕ}
 use mathlib.Core.Logic.{_⊎_, inl, inr, ⊎-elim}
 use Rattle.rows.proofs.Rules.Outcomes.{and-both, false-not-true}
 use native.Mathlib.Omega.{arith}
@@ -212,6 +216,35 @@ secondSpare s dc = cond (eqb dc 2) (fieldOf s 163 51) (cond (eqb dc 3 || eqb dc 
 pub spares-told : (s : List ℕ) (dc : ℕ) → In categories dc → sparesAt s (layout (bodyBy s dc)) ≡ record { first = fieldOf s 43 10; second = secondSpare s dc }
 unfolding bodyFrom
 spares-told s = by-category (λ (dc : ℕ). sparesAt s (layout (bodyBy s dc)) ≡ record { first = fieldOf s 43 10; second = secondSpare s dc }) refl refl refl refl refl
+
+-- ---- a spare that is too wide
+
+pub first-refused : (b : Body) (z : Spares) → 2 ^ spareWidth (layout b .front) ≤ z .first → walk [] (layout b .front) (sidesOf b z .front) ≡ Refused (Range (spareBit (layout b .front)))
+first-refused NoCategory z h = too-wide _ _ 43 10 (z .first) h
+first-refused (Hypocenter q) z h = too-wide _ _ 43 10 (z .first) h
+first-refused (Intensity t) z h = too-wide _ _ 43 10 (z .first) h
+first-refused (Nankai p) z h = too-wide _ _ 43 10 (z .first) h
+first-refused (Tsunami w) z h = too-wide _ _ 43 10 (z .first) h
+first-refused (AshFall e) z h = too-wide _ _ 43 10 (z .first) h
+
+pub second-refused : (b : Body) (z y : Spares) → hasSpare (layout b .behind) ≡ true → walk [] (layout b .behind) (sidesOf b z .behind) ≡ Fine → 2 ^ spareWidth (layout b .behind) ≤ y .second
+    → walk [] (layout b .behind) (sidesOf b y .behind) ≡ Refused (Range (spareBit (layout b .behind)))
+unfolding walk
+second-refused NoCategory z y s f h = absurd (false-not-true s)
+second-refused (Hypocenter q) z y s f h = too-wide [] [] 163 51 (y .second) h
+second-refused (Intensity t) z y s f h = too-wide [] [] 213 1 (y .second) h
+second-refused (Nankai p) z y s f h = behind-walk p y ∙ behind-two _ _ _ _ (Range 213) (sym (behind-walk p z) ∙ f) (not-ranged 213 1 (y .second) h)
+second-refused (Tsunami w) z y s f h = absurd (false-not-true s)
+second-refused (AshFall e) z y s f h = too-wide [] [] 199 15 (y .second) h
+
+-- the fields in front do not know of the second spare
+pub front-alike : (b : Body) (z : Spares) (n : ℕ) → sidesOf b (record { first = z .first; second = n }) .front ≡ sidesOf b z .front
+front-alike NoCategory z n = refl
+front-alike (Hypocenter q) z n = refl
+front-alike (Intensity t) z n = refl
+front-alike (Nankai p) z n = refl
+front-alike (Tsunami w) z n = refl
+front-alike (AshFall e) z n = refl
 
 -- ---- a record of each category, so that there is one
 

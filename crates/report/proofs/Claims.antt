@@ -39,7 +39,8 @@ use Rattle.report.specs.declared.body.Body.{Body}
 use Rattle.report.proofs.Shaped.{Shaped, frame-shaped, record-filled}
 use Rattle.report.proofs.Categories.{all, layouts, samples, secondSpare, spares-told}
 use Rattle.report.proofs.RoundTrips.Witnesses.{Each, WrittenAndRead, full, full-written-and-read, samples-written-and-read}
-use Rattle.report.proofs.Spares.{first-too-wide, no-second, on-the-wire, second-too-wide, spareBit, spareRows, spareWidth, sparing}
+use Rattle.report.proofs.Spares.{first-too-wide, no-second, on-the-wire, second-too-wide, sparing}
+use Rattle.rows.proofs.Rules.Spares.{spareBit, spareRows, spareWidth}
 use Rattle.report.proofs.SpareValues.{spareValues, every-row as every-spare-row}
 use Rattle.bits.proofs.Frames.{field-lt}
 use Rattle.report.specs.Categories.{categories, layout, preambles}

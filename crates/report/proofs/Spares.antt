@@ -1,52 +1,34 @@
 -- What becomes of spares: none is refused in a frame, each is kept in the record and written back, and one that is too wide for its
 -- field, or that the category does not have, is refused in writing.
 use mathlib.Core.Path.{_≡_, refl, sym, ap, _∙_}
-use mathlib.Core.Bool.{Bool, true, false, cond}
+use mathlib.Core.Bool.{Bool, true, false}
 use Prim.Native.Nat.{ℕ, _-_, _^_, _≤_}
 use mathlib.Core.List.{List, [], _∷_}
-use lib.Dec.{ltb}
-use borrow.Author.Tests.{le-ltb}
 use Rattle.bits.specs.Frame.{bytesOf}
 use Rattle.rows.specs.declared.fields.Spares.{Spares}
 use Rattle.rows.specs.declared.refusal.Verdict.{Verdict}
 use Rattle.rows.specs.declared.refusal.Verdict.the-variants.{Fine, Refused}
 use Rattle.rows.specs.declared.refusal.Refusal.{Refusal}
 use Rattle.rows.specs.declared.refusal.Refusal.the-variants.{Range, Unused}
-use Rattle.rows.specs.Layout.{Layout, Row, spareRow, common, ending}
-use Rattle.rows.specs.Values.{hasSpare, isSpare, sparesAt}
+use Rattle.rows.specs.Layout.{Layout, common, ending}
+use Rattle.rows.specs.Values.{hasSpare, sparesAt}
+use Rattle.rows.proofs.Rules.Spares.{spareBit, spareWidth}
 use Rattle.rows.specs.Kept.{In}
 use Rattle.rows.specs.Runs.Questions.{_then_, unless}
-use Rattle.rows.specs.Runs.Verdict.{judge, ranged, slotsVerdict, verdict, walk}
-use Rattle.nankai.proofs.Walks.{behind-walk}
+use Rattle.rows.specs.Runs.Verdict.{slotsVerdict, verdict, walk}
 use Rattle.rows.proofs.Rules.Outcomes.{false-not-true, fine-both}
 use Rattle.rows.proofs.Rules.Spans.{in-allowed}
 use Rattle.report.specs.declared.body.Body.{Body}
-use Rattle.report.specs.declared.body.Body.the-variants.{AshFall, Hypocenter, Intensity, Nankai, NoCategory, Tsunami}
 use Rattle.report.specs.declared.record.Record.{Record}
 use Rattle.report.specs.Categories.{layout, preambles, sidesOf}
 use Rattle.report.specs.Records.{recordAs, values}
 use Rattle.report.specs.Rules.{Tidy}
 use Rattle.report.specs.Runs.Writing.{frame, known, tidy, Valid, writeAnswer}
+use Rattle.report.proofs.Categories.{first-refused, front-alike, second-refused}
 use Rattle.report.proofs.RoundTrips.WrittenThenRead.{returns}
 use Rattle.report.proofs.Shaped.{Shaped}
 use Rattle.report.proofs.Writing.Unused.{is-tidy}
 use Rattle.report.proofs.Writing.Validity.{answered, innerWrite}
-
--- ---- in a table
-
--- the first bits and the widths of the spares among rows
-abbrev pub spareRows : List Row → List (ℕ × ℕ)
-spareRows [] = []
-spareRows (r ∷ rs) = cond (isSpare (r .rule)) ((r .first, r .width) ∷ spareRows rs) (spareRows rs)
-
--- the first bit of the first of them, and its width
-abbrev pub spareBit : List Row → ℕ
-spareBit [] = 0
-spareBit (r ∷ rs) = cond (isSpare (r .rule)) (r .first) (spareBit rs)
-
-abbrev pub spareWidth : List Row → ℕ
-spareWidth [] = 0
-spareWidth (r ∷ rs) = cond (isSpare (r .rule)) (r .width) (spareWidth rs)
 
 -- ---- written back
 
@@ -65,46 +47,6 @@ on-the-wire r s v =
     ap (λ (b : Body). sparesAt (bytesOf (frame r)) (layout b)) (sym (ap (λ (q : Record). q .body) again)) ∙ ap (λ (q : Record). q .spares) again
 
 -- ---- too wide
-
-too-wide : (vs : List ℕ) (rs : List Row) (a w n : ℕ) → 2 ^ w ≤ n → walk [] (spareRow a w ∷ rs) (n ∷ vs) ≡ Refused (Range a)
-unfolding walk judge unless _then_
-too-wide vs rs a w n h = simp (le-ltb n (2 ^ w) h)
-
-first-refused : (b : Body) (z : Spares) → 2 ^ spareWidth (layout b .front) ≤ z .first → walk [] (layout b .front) (sidesOf b z .front) ≡ Refused (Range (spareBit (layout b .front)))
-first-refused NoCategory z h = too-wide _ _ 43 10 (z .first) h
-first-refused (Hypocenter q) z h = too-wide _ _ 43 10 (z .first) h
-first-refused (Intensity t) z h = too-wide _ _ 43 10 (z .first) h
-first-refused (Nankai p) z h = too-wide _ _ 43 10 (z .first) h
-first-refused (Tsunami w) z h = too-wide _ _ 43 10 (z .first) h
-first-refused (AshFall e) z h = too-wide _ _ 43 10 (z .first) h
-
--- a part that is refused behind two that pass
-behind-two : (a b c d : Verdict) (x : Refusal) → a then b then c ≡ Fine → d ≡ Refused x → a then b then d ≡ Refused x
-unfolding _then_
-behind-two a b c d x f e = let p = fine-both a (b then c) f in let q = fine-both b c (p .1) in simp (p .0, q .0, e)
-
-not-ranged : (a w n : ℕ) → 2 ^ w ≤ n → ranged (ltb n (2 ^ w)) a ≡ Refused (Range a)
-unfolding unless
-not-ranged a w n h = rw (le-ltb n (2 ^ w) h)
-
-second-refused : (b : Body) (z y : Spares) → hasSpare (layout b .behind) ≡ true → walk [] (layout b .behind) (sidesOf b z .behind) ≡ Fine → 2 ^ spareWidth (layout b .behind) ≤ y .second
-    → walk [] (layout b .behind) (sidesOf b y .behind) ≡ Refused (Range (spareBit (layout b .behind)))
-unfolding walk
-second-refused NoCategory z y s f h = absurd (false-not-true s)
-second-refused (Hypocenter q) z y s f h = too-wide [] [] 163 51 (y .second) h
-second-refused (Intensity t) z y s f h = too-wide [] [] 213 1 (y .second) h
-second-refused (Nankai p) z y s f h = behind-walk p y ∙ behind-two _ _ _ _ (Range 213) (sym (behind-walk p z) ∙ f) (not-ranged 213 1 (y .second) h)
-second-refused (Tsunami w) z y s f h = absurd (false-not-true s)
-second-refused (AshFall e) z y s f h = too-wide [] [] 199 15 (y .second) h
-
--- the fields in front do not know of the second spare
-front-alike : (b : Body) (z : Spares) (n : ℕ) → sidesOf b (record { first = z .first; second = n }) .front ≡ sidesOf b z .front
-front-alike NoCategory z n = refl
-front-alike (Hypocenter q) z n = refl
-front-alike (Intensity t) z n = refl
-front-alike (Nankai p) z n = refl
-front-alike (Tsunami w) z n = refl
-front-alike (AshFall e) z n = refl
 
 -- the second, or the fifth of six parts is refused
 second-part : (a b c : Verdict) (x : Refusal) → a ≡ Fine → b ≡ Refused x → a then b then c ≡ Refused x

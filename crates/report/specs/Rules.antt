@@ -15,7 +15,7 @@ use mathlib.Core.Bool.{false}
 pub record Tidy (r : Record) : Type 0 where
   pub slots : (i : ℕ) → i < layout (r .body) .slots .count → Vacant (partWidths (layout (r .body) .slots)) (slotParts (getD (r .slots) i noSlot))
   pub others : (i : ℕ) → layout (r .body) .slots .count ≤ i → Empty (slotParts (getD (r .slots) i noSlot))
-  pub spare : hasSpare (layout (r .body) .behind) ≡ false → r .spares .second ≡ 0  -- a first spare has every category
+  pub spare : hasSpare (layout (r .body) .behind) ≡ false → r .spares .second ≡ 0  -- every category has a first one
   pub text : Empty (drop (length (layout (r .body) .text)) (r .text))
 
 pub record KeepsRules (r : Record) : Type 0 where

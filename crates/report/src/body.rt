@@ -166,6 +166,7 @@ fn fields_none(spares: Spares) -> Fields
 }
 
 impl Body {
+    // With what stands in its spares.
     fn with_spares(self, first: u64, second: u64) -> BodyAndSpares
         ensures { λ r. ⌜ r ≡ record { body = self; spares = record { first = first; second = second } } ⌝ }
     {

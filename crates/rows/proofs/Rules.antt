@@ -1,5 +1,6 @@
 pub mod Outcomes
 pub mod Spans
+pub mod Spares
 pub mod Kinds
 pub mod Groups
 pub mod Tests

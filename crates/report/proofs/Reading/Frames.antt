@@ -30,7 +30,7 @@ use Rattle.rows.proofs.Layouts.Lengths.{length-each}
 use Rattle.report.specs.Categories.{categories, layout, preambles}
 use Rattle.report.proofs.Tables.{judged-all}
 
--- ---- 8, 9, 10
+-- ---- 8, 10
 
 -- the layout and the values of a frame
 abbrev pub layoutOf : List ℕ → Layout
