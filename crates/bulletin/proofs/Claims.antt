@@ -91,6 +91,13 @@ unfolding taking
 a-sound-store-takes-every-page s r p e v f g =
     ap (λ (a : Admission). taking a s (r .text)) (sym (of-bulletin (s .name) (r .common) (r .body) p (ap pagedOf f) g ∙ writable-record s r (writeAnswer r 32) e refl v))
 
+-- "14, then what writing that record to 32 bytes would refuse": a record that cannot be written, be it for a spare that is too wide, is
+-- refused with that, and the store is as it was
+pub a-sound-store-refuses-what-writing-refuses : (s : Store) (r : Record) (x : Refusal) → soundStore s ≡ true → writeAnswer r 32 ≡ Refused x
+    → takeOf s r ≡ record { answer = RefusedTaking x; store = s }
+unfolding taking admission
+a-sound-store-refuses-what-writing-refuses s r x e w = simp (e, w)
+
 -- "Preamble and Reserved play no part", and "pages that differ only in spares are the same page"
 asked : (s : Store) (r : Record) → Valid r → admission s r ≡ cond (soundStore s) (pageNumberIn (s .name) (r .common) (r .body)) (NotAdmitted Unsound)
 unfolding admission

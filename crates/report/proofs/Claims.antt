@@ -363,7 +363,7 @@ written-frames-are-bytes r = written-bytes r
 pub each-category-has-a-sample : map (λ r. layout (r .body) .code) samples ≡ map lowest categories
 each-category-has-a-sample = refl
 
--- .. is valid, its frame conforms, and is read as that record.
+-- .. is valid and written, its frame conforms, and is read as that record.
 pub each-sample-is-written-and-read : Each WrittenAndRead samples
 each-sample-is-written-and-read = samples-written-and-read
 

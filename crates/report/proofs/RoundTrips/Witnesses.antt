@@ -16,7 +16,7 @@ use Rattle.report.specs.declared.record.Record.{Record}
 use Rattle.report.specs.Records.{values}
 use Rattle.report.specs.Conforms.{Conforms}
 use Rattle.report.specs.Runs.Reading.{readOf}
-use Rattle.report.specs.Runs.Writing.{Valid, frame, writeAnswer}
+use Rattle.report.specs.Runs.Writing.{Valid, frame, writeAnswer, writeOf}
 use Rattle.report.proofs.Categories.{samples}
 use Rattle.report.specs.Categories.{layout}
 use Rattle.report.proofs.Spares.{allOnes, sparing}
@@ -26,6 +26,7 @@ use Rattle.report.proofs.RoundTrips.WrittenThenRead.{read-again, return
 
 pub record WrittenAndRead (r : Record) : Type 0 where
   pub valid : Valid r
+  pub written : (buffer : List ℕ) → length buffer ≡ 32 → writeOf r buffer ≡ bytesOf (frame r)
   pub conforms : Conforms (bytesOf (frame r))
   pub read : readOf (bytesOf (frame r)) ≡ record { answer = Fine; «record» = r }
 
@@ -48,6 +49,7 @@ written-and-read r s v =
     let buffer : List ℕ = replicate 32 0 in
     record {
       valid = v;
+      written = λ buffer l. valid-written r buffer v l;
       conforms = returns r s v .conforms;
       read = ap readOf (sym (valid-written r buffer v refl)) ∙ read-again r buffer s v refl;
     }
