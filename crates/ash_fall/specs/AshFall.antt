@@ -1,5 +1,4 @@
 -- Category 9, ash fall: table 4.1.2-35 of document 001, and what its record holds. Its slots are places.
-use Prim.Native.Nat.{ℕ}
 use mathlib.Core.Bool.{false, true}
 use mathlib.Core.List.{[], _∷_, _++_}
 use lib.ListN.{getD}

@@ -1,5 +1,4 @@
 -- Category 3, seismic intensity: table 4.1.2-14 of document 001, and what its record holds. Its slots are prefectures.
-use Prim.Native.Nat.{ℕ}
 use mathlib.Core.Bool.{false, true}
 use mathlib.Core.List.{[], _∷_}
 use Rattle.rows.specs.Layout.{time, within, spareRow, row, twoOrSeven, uncorrected, spare1, Slots, Layout}

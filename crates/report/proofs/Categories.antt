@@ -29,8 +29,8 @@ use Rattle.slots.specs.declared.slot.Slot.{Slot}
 use Rattle.slots.specs.Slots.{noSlot}
 use Rattle.report.specs.Records.{bodyBy}
 use Rattle.bits.specs.Frame.{fieldOf}
-use lib.ListN.{getD, length, drop, replicate}
-use Rattle.hypocenter.specs.Hypocenter.{hypocenter, quakeFrom, quakeValues}
+use lib.ListN.{getD, length, replicate}
+use Rattle.hypocenter.specs.Hypocenter.{hypocenter, quakeFrom}
 use Rattle.intensity.specs.Intensity.{intensity, shakingFrom}
 use Rattle.nankai.specs.Nankai.{nankai, numbersFrom}
 use Rattle.tsunami.specs.Tsunami.{tsunami, warningFrom}

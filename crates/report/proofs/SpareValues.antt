@@ -8,7 +8,7 @@ use Rattle.rows.specs.Refusals.{answers, plain}
 use Rattle.rows.specs.Runs.Questions.{_then_, unless}
 use Rattle.rows.specs.Runs.Verdict.{allowed, judge, walk, empty, later, slotsVerdict, verdict}
 use Rattle.slots.specs.declared.slot.Slot.{Slot}
-use Rattle.slots.specs.Slots.{noSlot, tidySlots, vacant}
+use Rattle.slots.specs.Slots.{tidySlots, vacant}
 use Rattle.report.specs.declared.record.Record.{Record}
 use Rattle.report.specs.Records.{values, zeros}
 use Rattle.report.specs.Runs.Writing.{writeAnswer}

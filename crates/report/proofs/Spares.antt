@@ -3,7 +3,7 @@
 use mathlib.Core.Path.{_≡_, refl, sym, ap, _∙_}
 use mathlib.Core.Bool.{Bool, true, false}
 use Prim.Native.Nat.{ℕ, _-_, _^_, _≤_}
-use mathlib.Core.List.{List, [], _∷_}
+use mathlib.Core.List.{List, []}
 use Rattle.bits.specs.Frame.{bytesOf}
 use Rattle.rows.specs.declared.fields.Spares.{Spares}
 use Rattle.rows.specs.declared.refusal.Verdict.{Verdict}
@@ -22,7 +22,6 @@ use Rattle.report.specs.declared.body.Body.{Body}
 use Rattle.report.specs.declared.record.Record.{Record}
 use Rattle.report.specs.Categories.{layout, preambles, sidesOf}
 use Rattle.report.specs.Records.{recordAs, values}
-use Rattle.report.specs.Rules.{Tidy}
 use Rattle.report.specs.Runs.Writing.{frame, known, tidy, Valid, writeAnswer}
 use Rattle.report.proofs.Categories.{first-refused, front-alike, second-refused}
 use Rattle.report.proofs.RoundTrips.WrittenThenRead.{returns}

@@ -11,7 +11,6 @@ ghost use Rattle.rows.specs.Runs.Fields.{fieldsIn, keptIn};
 ghost use Rattle.report.specs.Categories.{layout, bodyFrom, sidesOf, pagedOf};
 ghost use Rattle.report.specs.Runs.Told.{toldOf, withSpares};
 ghost use Rattle.rows.specs.Layout.{noCategory};
-ghost use Rattle.slots.specs.Slots.{slotsValues};
 use ash_fall::Eruption;
 use ash_fall::places::places_of;
 use hypocenter::Quake;

@@ -1,5 +1,4 @@
 -- Category 5, tsunami: table 4.1.2-21 of document 001, and what its record holds. Its slots are areas.
-use Prim.Native.Nat.{ℕ}
 use mathlib.Core.Bool.{true}
 use mathlib.Core.List.{List, [], _∷_, _++_}
 use lib.ListN.{getD}

@@ -1,6 +1,6 @@
 -- What the number of used slots says: of any record, and of a frame that is read.
 use Rattle.report.specs.declared.body.Body.{Body}
-use mathlib.Core.Bool.{Bool, _&&_, _||_, false, true}
+use mathlib.Core.Bool.{Bool, _||_, false, true}
 use Rattle.report.specs.Conforms.{Conforms}
 use mathlib.Core.List.{List, [], _∷_, map}
 use mathlib.Core.Logic.{_⊎_, inl, inr, ⊎-elim}
@@ -9,7 +9,6 @@ use Rattle.rows.specs.Layout.{Layout, Slots, _to_, slotRows}
 use Rattle.rows.specs.Kept.{In, Kept, SlotsKept}
 use Prim.Native.Nat.{_*_, _+_, _/_, _<_, _≤_, ℕ}
 use mathlib.Core.Path.{_∙_, _≡_, ap, ap₂, refl, subst, sym}
-use Rattle.rows.proofs.Rules.Outcomes.{and-both}
 use native.Mathlib.Omega.{arith}
 use Rattle.slots.proofs.Used.{behind-used, frame-used, names, used-at-most, used-kept}
 use Rattle.report.specs.Records.{bodyBy, bodyOf, recordAs, recordOf}

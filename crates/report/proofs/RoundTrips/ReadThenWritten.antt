@@ -29,7 +29,7 @@ use Rattle.rows.proofs.Layouts.Rows.{values-flat}
 use Rattle.report.proofs.Writing.Unused.{is-tidy, frame-tidy}
 use Rattle.report.proofs.Writing.Validity.{is-known, keeps-valid, above}
 use Rattle.report.proofs.Writing.Ends.{ended-again}
-use Rattle.report.specs.Categories.{categories, layout}
+use Rattle.report.specs.Categories.{categories}
 use Rattle.report.proofs.Shaped.{frame-shaped}
 use Rattle.report.proofs.Tables.{front-fields, front-total}
 use borrow.Author.Tests.{lt-ltb}
