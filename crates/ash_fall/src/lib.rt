@@ -1,6 +1,7 @@
 // Category 9, ash fall: what stands from bit 43 to bit 213. Its places are slots.
 ghost use mathlib.Core.Path.{_≡_};
 ghost use mathlib.Core.List.{[]};
+ghost use Rattle.bits.specs.Frame.{frameIn};
 ghost use Rattle.rows.specs.Runs.Questions.{_then_};
 ghost use Rattle.rows.specs.Runs.Verdict.{walk, bodyVerdict};
 ghost use Rattle.ash_fall.specs.AshFall.{ashFall, eruptionValues, eruptionFrom, places};
@@ -25,8 +26,8 @@ use rows::time::Time;
 use slots::slot::Slot;
 
 // What stands in its spares.
-pub fn spares(f: [u8; 32]) -> Spares
-    ensures { λ r. ⌜ r ≡ sparesAt f ashFall ⌝ }
+pub fn spares(f: &[u8]) -> Spares
+    ensures { λ r. ⌜ r ≡ sparesAt (frameIn (now (f .entry))) ashFall ⌝ }
 {
     Spares {
         first: bits::field64(f, 43, 10),
@@ -58,8 +59,8 @@ pub struct Eruption {
 
 impl Eruption {
     // The fields of a frame.
-    pub fn of(f: [u8; 32]) -> Eruption
-        ensures { λ r. ⌜ r ≡ eruptionFrom (sidesAt f ashFall) ⌝ }
+    pub fn of(f: &[u8]) -> Eruption
+        ensures { λ r. ⌜ r ≡ eruptionFrom (sidesAt (frameIn (now (f .entry))) ashFall) ⌝ }
     {
         Eruption {
             time: Time::at(f, 53),

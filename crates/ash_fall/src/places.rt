@@ -1,6 +1,7 @@
 // The four places on which ash falls: from a frame, and their rules.
 ghost use mathlib.Core.Path.{_≡_};
 ghost use mathlib.Core.List.{[]};
+ghost use Rattle.bits.specs.Frame.{frameIn};
 ghost use Rattle.rows.specs.Runs.Questions.{_then_};
 ghost use Prim.Native.Nat.{_≤_};
 ghost use Rattle.rows.specs.Runs.Verdict.{empty, slotsVerdict, walk};
@@ -12,9 +13,9 @@ use rows::refusal::Verdict;
 use slots::run::Run;
 use slots::slot::Slot;
 
-fn place_at(f: [u8; 32], at: usize) -> Slot
+fn place_at(f: &[u8], at: usize) -> Slot
     requires { ⌜ at ≤ 220 ⌝ }
-    ensures { λ r. ⌜ r ≡ slotOf places f at ⌝ }
+    ensures { λ r. ⌜ r ≡ slotOf places (frameIn (now (f .entry))) at ⌝ }
 {
     Slot {
         day: 0,
@@ -26,8 +27,8 @@ fn place_at(f: [u8; 32], at: usize) -> Slot
 }
 
 // The places of a frame, and empty slots up to sixteen.
-pub fn places_of(f: [u8; 32]) -> [Slot; 16]
-    ensures { λ r. ⌜ r ≡ slotsOf f places ⌝ }
+pub fn places_of(f: &[u8]) -> [Slot; 16]
+    ensures { λ r. ⌜ r ≡ slotsOf (frameIn (now (f .entry))) places ⌝ }
 {
     let mut slots = [Slot::none(); 16];
     slots[0] = place_at(f, 83);

@@ -24,9 +24,6 @@ put-is-settled κs a x y = answer
 pub blank-is-settled : Settled bits.blank.ended bits.blank.Reads.Post
 blank-is-settled κs a x y = answer
 
-pub frame-of-is-settled : Settled bits.frame_of.ended bits.frame_of.Reads.Post
-frame-of-is-settled κs a x y = answer
-
 pub copy-to-is-settled : Settled bits.copy_to.ended bits.copy_to.Reads.Post
 copy-to-is-settled κs a x y = buffer second
 

@@ -2,6 +2,7 @@
 ghost use mathlib.Core.Path.{_≡_};
 ghost use mathlib.Core.List.{[], _∷_, map};
 ghost use Prim.Native.Nat.{_≤_, _%_, _^_};
+ghost use Rattle.bits.specs.Frame.{frameIn};
 ghost use Rattle.rows.specs.Values.{cut};
 ghost use Rattle.rows.specs.Runs.Questions.{_then_};
 ghost use Rattle.rows.specs.Runs.Verdict.{walk};
@@ -31,9 +32,9 @@ impl Angle {
         }
     }
 
-    pub(crate) fn at(f: [u8; 32], at: usize, width: usize) -> Angle
+    pub(crate) fn at(f: &[u8], at: usize, width: usize) -> Angle
         requires { ⌜ (at ≤ 200) × (width ≤ 8) ⌝ }
-        ensures { λ r. ⌜ r ≡ angleFrom (map (cut f) (angle at width 0)) 0 ⌝ }
+        ensures { λ r. ⌜ r ≡ angleFrom (map (cut (frameIn (now (f .entry)))) (angle at width 0)) 0 ⌝ }
     {
         Angle {
             side: bits::field8(f, at, 1),

@@ -1,6 +1,7 @@
 // Category 2, hypocenter: what stands from bit 43 to bit 213.
 ghost use mathlib.Core.Path.{_≡_};
 ghost use mathlib.Core.List.{[]};
+ghost use Rattle.bits.specs.Frame.{frameIn};
 ghost use Rattle.rows.specs.Runs.Questions.{_then_};
 ghost use Rattle.rows.specs.Runs.Verdict.{walk, bodyVerdict};
 ghost use Rattle.hypocenter.specs.Hypocenter.{hypocenter, quakeValues, quakeFrom};
@@ -27,8 +28,8 @@ use rows::refusal::Verdict;
 use rows::time::Time;
 
 // What stands in its spares.
-pub fn spares(f: [u8; 32]) -> Spares
-    ensures { λ r. ⌜ r ≡ sparesAt f hypocenter ⌝ }
+pub fn spares(f: &[u8]) -> Spares
+    ensures { λ r. ⌜ r ≡ sparesAt (frameIn (now (f .entry))) hypocenter ⌝ }
 {
     Spares {
         first: bits::field64(f, 43, 10),
@@ -67,8 +68,8 @@ pub struct Quake {
 
 impl Quake {
     // The fields of a frame.
-    pub fn of(f: [u8; 32]) -> Quake
-        ensures { λ r. ⌜ r ≡ quakeFrom (sidesAt f hypocenter) ⌝ }
+    pub fn of(f: &[u8]) -> Quake
+        ensures { λ r. ⌜ r ≡ quakeFrom (sidesAt (frameIn (now (f .entry))) hypocenter) ⌝ }
     {
         Quake {
             notification1: bits::field16(f, 53, 9),

@@ -19,7 +19,7 @@ pub extern "C" fn lz_parity(frame: &[u8]) -> u32
     if frame.len() != FRAME_SIZE {
         return 0x100_0000;
     }
-    parity::parity(bits::frame_of(frame))
+    parity::parity(frame)
 }
 
 // A record that was read goes into a lent buffer of 251 bytes; a refusal leaves the buffer as it was.

@@ -1,6 +1,7 @@
 // Category 3, seismic intensity: what stands from bit 43 to bit 213. The prefectures that shake are slots.
 ghost use mathlib.Core.Path.{_≡_};
 ghost use mathlib.Core.List.{[]};
+ghost use Rattle.bits.specs.Frame.{frameIn};
 ghost use Rattle.rows.specs.Runs.Questions.{_then_};
 ghost use Rattle.rows.specs.Runs.Verdict.{walk, bodyVerdict};
 ghost use Rattle.intensity.specs.Intensity.{intensity, shakingValues, prefectures, shakingFrom};
@@ -22,8 +23,8 @@ use rows::time::Time;
 use slots::slot::Slot;
 
 // What stands in its spares.
-pub fn spares(f: [u8; 32]) -> Spares
-    ensures { λ r. ⌜ r ≡ sparesAt f intensity ⌝ }
+pub fn spares(f: &[u8]) -> Spares
+    ensures { λ r. ⌜ r ≡ sparesAt (frameIn (now (f .entry))) intensity ⌝ }
 {
     Spares {
         first: bits::field64(f, 43, 10),
@@ -53,8 +54,8 @@ pub struct Shaking {
 
 impl Shaking {
     // The fields of a frame.
-    pub fn of(f: [u8; 32]) -> Shaking
-        ensures { λ r. ⌜ r ≡ shakingFrom (sidesAt f intensity) ⌝ }
+    pub fn of(f: &[u8]) -> Shaking
+        ensures { λ r. ⌜ r ≡ shakingFrom (sidesAt (frameIn (now (f .entry))) intensity) ⌝ }
     {
         Shaking {
             time: Time::at(f, 53),

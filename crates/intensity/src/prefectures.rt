@@ -1,6 +1,7 @@
 // The sixteen prefectures that shake: from a frame, and their rules.
 ghost use mathlib.Core.Path.{_≡_};
 ghost use mathlib.Core.List.{[]};
+ghost use Rattle.bits.specs.Frame.{frameIn};
 ghost use Rattle.rows.specs.Runs.Questions.{_then_};
 ghost use Prim.Native.Nat.{_≤_};
 ghost use Rattle.rows.specs.Runs.Verdict.{empty, slotsVerdict, walk};
@@ -12,9 +13,9 @@ use rows::refusal::Verdict;
 use slots::run::Run;
 use slots::slot::Slot;
 
-fn prefecture_at(f: [u8; 32], at: usize) -> Slot
+fn prefecture_at(f: &[u8], at: usize) -> Slot
     requires { ⌜ at ≤ 220 ⌝ }
-    ensures { λ r. ⌜ r ≡ slotOf prefectures f at ⌝ }
+    ensures { λ r. ⌜ r ≡ slotOf prefectures (frameIn (now (f .entry))) at ⌝ }
 {
     Slot {
         day: 0,
@@ -26,8 +27,8 @@ fn prefecture_at(f: [u8; 32], at: usize) -> Slot
 }
 
 // The prefectures of a frame.
-pub fn prefectures_of(f: [u8; 32]) -> [Slot; 16]
-    ensures { λ r. ⌜ r ≡ slotsOf f prefectures ⌝ }
+pub fn prefectures_of(f: &[u8]) -> [Slot; 16]
+    ensures { λ r. ⌜ r ≡ slotsOf (frameIn (now (f .entry))) prefectures ⌝ }
 {
     [
         prefecture_at(f, 69),

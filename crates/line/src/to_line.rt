@@ -36,7 +36,7 @@ pub fn write_line(frame: &[u8], buffer: &mut [u8]) -> Verdict
     if frame.len() != 32 {
         return Verdict::Refused(Refusal::Length);
     }
-    if bits::field8(bits::frame_of(frame), 250, 6) != 0 {
+    if bits::field8(frame, 250, 6) != 0 {
         return Verdict::Refused(Refusal::Padding);
     }
     if buffer.len() < 63 {

@@ -2,7 +2,7 @@
 // the pages of a bulletin is for the crates above.
 ghost use mathlib.Core.Path.{_≡_};
 ghost use mathlib.Core.List.{[]};
-ghost use Rattle.bits.specs.Frame.{laid};
+ghost use Rattle.bits.specs.Frame.{laid, frameIn};
 ghost use Rattle.rows.specs.Values.{widths, headValues, sidesAt, sparesAt};
 ghost use Rattle.rows.specs.Runs.Fields.{keptIn, fieldsIn, tableIn};
 ghost use Rattle.rows.specs.Runs.Questions.{_then_};
@@ -18,8 +18,8 @@ use rows::fields::one_byte;
 use rows::refusal::Verdict;
 
 // What stands in its spares.
-pub fn spares(f: [u8; 32]) -> Spares
-    ensures { λ r. ⌜ r ≡ sparesAt f nankai ⌝ }
+pub fn spares(f: &[u8]) -> Spares
+    ensures { λ r. ⌜ r ≡ sparesAt (frameIn (now (f .entry))) nankai ⌝ }
 {
     Spares {
         first: bits::field64(f, 43, 10),
@@ -52,8 +52,8 @@ pub struct PageNumbers {
 
 impl PageNumbers {
     // The fields of a frame, less its text.
-    pub fn of(f: [u8; 32]) -> PageNumbers
-        ensures { λ r. ⌜ r ≡ numbersFrom (sidesAt f nankai) ⌝ }
+    pub fn of(f: &[u8]) -> PageNumbers
+        ensures { λ r. ⌜ r ≡ numbersFrom (sidesAt (frameIn (now (f .entry))) nankai) ⌝ }
     {
         PageNumbers {
             serial: bits::field8(f, 53, 4),
@@ -137,8 +137,8 @@ pub fn lay_text(f: [u8; 32], text: [u8; 18]) -> [u8; 32]
 }
 
 // The text of a page.
-pub fn page_text(f: [u8; 32]) -> [u8; 18]
-    ensures { λ r. ⌜ r ≡ pageText f ⌝ }
+pub fn page_text(f: &[u8]) -> [u8; 18]
+    ensures { λ r. ⌜ r ≡ pageText (frameIn (now (f .entry))) ⌝ }
 {
     let mut text = [0u8; 18];
     let mut k = 0;

@@ -2,7 +2,7 @@
 // is for the crates above.
 ghost use mathlib.Core.Path.{_≡_};
 ghost use Prim.Native.Nat.{_^_, _<_};
-ghost use Rattle.bits.specs.Frame.{bitOf};
+ghost use Rattle.bits.specs.Frame.{bitOf, frameIn};
 ghost use Rattle.parity.specs.Parity.{step, after, parityOf, parityRight};
 
 // The register after one bit more.
@@ -35,9 +35,12 @@ fn push_bits(register: u32, byte: u8, count: usize) -> u32
 
 // The parity that bits 0 to 225 ask for: those of 28 bytes, and two of the next. The bits of one byte have fixed
 // places, so going byte by byte costs less than finding each bit in the frame.
-pub fn parity(frame: [u8; 32]) -> u32
-    ensures { λ r. ⌜ r ≡ parityOf frame ⌝ }
+pub fn parity(frame: &[u8]) -> u32
+    ensures { λ r. ⌜ r ≡ parityOf (frameIn (now (frame .entry))) ⌝ }
 {
+    if frame.len() != 32 {
+        return 0;
+    }
     let mut register: u32 = 0;
     let mut at: usize = 0;
     while at < 28 {
@@ -48,8 +51,8 @@ pub fn parity(frame: [u8; 32]) -> u32
 }
 
 // Whether bits 226 to 249 hold that parity.
-pub fn parity_right(frame: [u8; 32]) -> bool
-    ensures { λ r. ⌜ r ≡ parityRight frame ⌝ }
+pub fn parity_right(frame: &[u8]) -> bool
+    ensures { λ r. ⌜ r ≡ parityRight (frameIn (now (frame .entry))) ⌝ }
 {
     parity(frame) == bits::field32(frame, 226, 24)
 }

@@ -1,5 +1,6 @@
 // What a category has, each in its own crate: a category that is added is added here.
 ghost use mathlib.Core.Path.{_≡_};
+ghost use Rattle.bits.specs.Frame.{frameIn};
 ghost use Rattle.report.specs.declared.body.Body.{Body};
 ghost use mathlib.Core.List.{[]};
 ghost use Rattle.rows.specs.Runs.Questions.{_then_};
@@ -66,8 +67,8 @@ pub struct Content {
 }
 
 impl Content {
-    pub(crate) fn of(f: [u8; 32]) -> Content
-        ensures { λ r. ⌜ r ≡ contentAs f (bodyOf f) ⌝ }
+    pub(crate) fn of(f: &[u8]) -> Content
+        ensures { λ r. ⌜ r ≡ contentAs (frameIn (now (f .entry))) (bodyOf (frameIn (now (f .entry)))) ⌝ }
     {
         match bits::field8(f, 17, 4) {
             2 => Content {

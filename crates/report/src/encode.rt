@@ -92,6 +92,6 @@ pub(crate) fn encode(r: Record, fields: Fields) -> [u8; 32]
 {
     let blank = bits::blank();
     let front = lay_front(blank, r, fields);
-    let parity = parity::parity(front);
+    let parity = parity::parity(&front);
     bits::put(front, 226, 24, parity as u64)
 }

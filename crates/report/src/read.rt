@@ -1,5 +1,6 @@
 // Reading a lent frame: the bits first, then the rules.
 ghost use mathlib.Core.Path.{_≡_};
+ghost use Rattle.bits.specs.Frame.{frameIn};
 ghost use Rattle.report.specs.Records.{recordOf};
 ghost use Rattle.report.specs.Runs.Reading.{outerOf, contentAnswer, reading, readOf, readSays};
 ghost use Rattle.rows.specs.Refusals.{answers};
@@ -18,8 +19,8 @@ pub struct Reading {
 }
 
 // 2 to 6, which are asked before what stands in a category.
-fn outer(f: [u8; 32]) -> Verdict
-    ensures { λ r. ⌜ r ≡ outerOf f ⌝ }
+fn outer(f: &[u8]) -> Verdict
+    ensures { λ r. ⌜ r ≡ outerOf (frameIn (now (f .entry))) ⌝ }
 {
     Verdict::Fine
         .unless(bits::field8(f, 250, 6) == 0, Refusal::Padding)
@@ -49,9 +50,9 @@ fn conclude(found: Verdict, read: Record) -> Reading
 }
 
 // 7, 8 and 10, and the record. The category is looked up where its content is taken out of the frame.
-fn inner(f: [u8; 32]) -> Reading
-    requires { ⌜ outerOf f ≡ Verdict.Fine ⌝ }
-    ensures { λ r. ⌜ r ≡ reading (contentAnswer f) (recordOf f) ⌝ }
+fn inner(f: &[u8]) -> Reading
+    requires { ⌜ outerOf (frameIn (now f)) ≡ Verdict.Fine ⌝ }
+    ensures { λ r. ⌜ r ≡ reading (contentAnswer (frameIn (now (f .entry)))) (recordOf (frameIn (now (f .entry)))) ⌝ }
 {
     let content = Content::of(f);
     let body = content.body;
@@ -83,10 +84,9 @@ pub fn read(frame: &[u8]) -> Reading
     if frame.len() != 32 {
         return conclude(Verdict::Refused(Refusal::Length), Record::of_zeros());
     }
-    let f = bits::frame_of(frame);
-    let found = outer(f);
+    let found = outer(frame);
     match found {
-        Verdict::Fine => inner(f),
+        Verdict::Fine => inner(frame),
         Verdict::Refused(_) => conclude(found, Record::of_zeros()),
     }
 }

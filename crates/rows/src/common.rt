@@ -1,5 +1,6 @@
 // What every category has in front of its own fields: bits 8 to 42.
 ghost use mathlib.Core.Path.{_≡_};
+ghost use Rattle.bits.specs.Frame.{frameIn};
 ghost use Rattle.rows.specs.Runs.Questions.{_then_};
 ghost use Rattle.rows.specs.Runs.Verdict.{commonVerdict};
 ghost use Rattle.rows.specs.Values.{commonOf, noCommon};
@@ -31,8 +32,8 @@ impl Common {
     }
 
     // The fields of a frame.
-    pub fn of(f: [u8; 32]) -> Common
-        ensures { λ r. ⌜ r ≡ commonOf f ⌝ }
+    pub fn of(f: &[u8]) -> Common
+        ensures { λ r. ⌜ r ≡ commonOf (frameIn (now (f .entry))) ⌝ }
     {
         Common {
             rc: bits::field8(f, 14, 3),

@@ -2,6 +2,7 @@
 ghost use mathlib.Core.Path.{_≡_};
 ghost use mathlib.Core.List.{[], _∷_};
 ghost use Prim.Native.Nat.{_%_, _^_};
+ghost use Rattle.bits.specs.Frame.{frameIn};
 ghost use Rattle.rows.specs.Values.{timeFrom};
 ghost use Rattle.rows.specs.Runs.Questions.{_then_};
 ghost use Rattle.rows.specs.Runs.Times.{timeIn, timeVerdict};
@@ -28,8 +29,8 @@ impl Time {
     }
 
     // The time whose first bit is `at`; what lies outside the frame is zero.
-    pub fn at(f: [u8; 32], at: u8) -> Time
-        ensures { λ r. ⌜ r ≡ timeIn f at ⌝ }
+    pub fn at(f: &[u8], at: u8) -> Time
+        ensures { λ r. ⌜ r ≡ timeIn (frameIn (now (f .entry))) at ⌝ }
     {
         let first = at as usize;
         Time {

@@ -1,6 +1,7 @@
 // The five areas that a wave reaches: from a frame, and their rules.
 ghost use mathlib.Core.Path.{_≡_};
 ghost use mathlib.Core.List.{[]};
+ghost use Rattle.bits.specs.Frame.{frameIn};
 ghost use Rattle.rows.specs.Runs.Questions.{_then_};
 ghost use Prim.Native.Nat.{_≤_};
 ghost use Rattle.rows.specs.Runs.Verdict.{empty, slotsVerdict, walk};
@@ -13,9 +14,9 @@ use rows::refusal::Verdict;
 use slots::run::Run;
 use slots::slot::Slot;
 
-fn area_at(f: [u8; 32], at: usize) -> Slot
+fn area_at(f: &[u8], at: usize) -> Slot
     requires { ⌜ at ≤ 220 ⌝ }
-    ensures { λ r. ⌜ r ≡ slotOf areas f at ⌝ }
+    ensures { λ r. ⌜ r ≡ slotOf areas (frameIn (now (f .entry))) at ⌝ }
 {
     Slot {
         day: bits::field8(f, at, 1),
@@ -27,8 +28,8 @@ fn area_at(f: [u8; 32], at: usize) -> Slot
 }
 
 // The areas of a frame, and empty slots up to sixteen.
-pub fn areas_of(f: [u8; 32]) -> [Slot; 16]
-    ensures { λ r. ⌜ r ≡ slotsOf f areas ⌝ }
+pub fn areas_of(f: &[u8]) -> [Slot; 16]
+    ensures { λ r. ⌜ r ≡ slotsOf (frameIn (now (f .entry))) areas ⌝ }
 {
     let mut slots = [Slot::none(); 16];
     slots[0] = area_at(f, 84);

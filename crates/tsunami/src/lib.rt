@@ -1,6 +1,7 @@
 // Category 5, tsunami: what stands from bit 43 to bit 213. Its areas are slots, and nothing stands behind them.
 ghost use mathlib.Core.Path.{_≡_};
 ghost use mathlib.Core.List.{[]};
+ghost use Rattle.bits.specs.Frame.{frameIn};
 ghost use Rattle.rows.specs.Runs.Questions.{_then_};
 ghost use Rattle.rows.specs.Runs.Verdict.{allowed, walk, bodyVerdict};
 ghost use Rattle.tsunami.specs.Tsunami.{tsunami, classifications, warningValues, warningFrom, areas};
@@ -24,8 +25,8 @@ use rows::refusal::Verdict;
 use slots::slot::Slot;
 
 // What stands in its one spare.
-pub fn spares(f: [u8; 32]) -> Spares
-    ensures { λ r. ⌜ r ≡ sparesAt f tsunami ⌝ }
+pub fn spares(f: &[u8]) -> Spares
+    ensures { λ r. ⌜ r ≡ sparesAt (frameIn (now (f .entry))) tsunami ⌝ }
 {
     Spares {
         first: bits::field64(f, 43, 10),
@@ -69,8 +70,8 @@ pub struct Warning {
 
 impl Warning {
     // The fields of a frame.
-    pub fn of(f: [u8; 32]) -> Warning
-        ensures { λ r. ⌜ r ≡ warningFrom (sidesAt f tsunami) ⌝ }
+    pub fn of(f: &[u8]) -> Warning
+        ensures { λ r. ⌜ r ≡ warningFrom (sidesAt (frameIn (now (f .entry))) tsunami) ⌝ }
     {
         Warning {
             notification1: bits::field16(f, 53, 9),

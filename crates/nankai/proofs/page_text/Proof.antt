@@ -1,7 +1,7 @@
 -- `nankai::page_text` meets its contract: the bytes passed are the text's.
 use Prim.Native.Nat.{ℕ, _+_, _-_, _*_, _≤_}
 use borrow.Author.Needs.{needs}
-use Rattle.bits.specs.Frame.{fieldOf}
+use Rattle.bits.specs.Frame.{fieldOf, frameIn}
 use Rattle.bits.proofs.Inside.{field-in}
 use Rattle.rows.proofs.Layouts.Filling.{fill, filled}
 use Rattle.rows.specs.Values.{each}
@@ -12,9 +12,9 @@ use native.Mathlib.Omega.{arith}
 use Rattle.nankai.proofs.page_text.Statement.{statement}
 use Rattle.nankai.proofs.page_text.Tie as tie
 
--- byte i of the text
+-- byte i of the text in a lent frame
 abbrev byte : List ℕ → ℕ → ℕ
-byte f i = fieldOf f (57 + 8 * i) 8
+byte f i = fieldOf (frameIn f) (57 + 8 * i) 8
 
 abbrev Inv-loop : tie.InvT-loop
 Inv-loop f text₀ k₀ text k = (k ≤ 18) × ((length text ≡ 18) × (text ≡ each k (byte f) ++ replicate (18 - k) 0))
@@ -28,8 +28,8 @@ loop-holds c = (omega arith, (refl, refl))
 loop-again : tie.Need-loop-again Inv-loop μ-loop
 loop-again c =
     let l = c .before .before .loop in
-    let f = c .before .before .before .args .f in
-    let read = c .field8 .ensures .0 ∙ field-in 8 f (57 + 8 * l .k) 8 (omega arith) (omega arith) in (
+    let f = c .before .before .before .before .args .f .now in
+    let read = c .field8 .ensures .0 ∙ field-in 8 (frameIn f) (57 + 8 * l .k) 8 (omega arith) (omega arith) in (
       omega arith,
       (length-set (l .text) (l .k) (c .field8 .result) ∙ l .inv .1 .0, fill 18 (l .k) (byte f) 0 (c .field8 .result) (l .text) (omega arith) (l .inv .1 .1) read),
     )
@@ -37,7 +37,7 @@ loop-again c =
 returns : tie.Need-returns Inv-loop μ-loop
 returns c =
     let l = c .before .loop in
-    let f = c .before .before .args .f in
+    let f = c .before .before .before .args .f .now in
     let last : l .k ≡ 18 = omega arith in
     filled 18 (byte f) 0 (l .text) (l .inv .1 .1 ∙ ap (λ (k : ℕ). each k (byte f) ++ replicate (18 - k) 0) last)
 

@@ -4,6 +4,8 @@ use Prim.Native.Nat.{ℕ}
 use mathlib.Core.List.{List}
 use lib.ListN.{length}
 use borrow.Author.Tests.{eq-eqb, ne-eqb}
+use Rattle.bits.specs.Frame.{frameIn}
+use Rattle.bits.proofs.Inside.{frame-lent}
 use Rattle.rows.specs.declared.refusal.Verdict.{Verdict}
 use Rattle.rows.specs.declared.refusal.Verdict.the-variants.{Fine, Refused}
 use Rattle.rows.specs.declared.refusal.Refusal.{Refusal}
@@ -27,21 +29,21 @@ asked : (s : List ℕ) (v : Verdict) → length s ≡ 32 → v ≡ outerOf s →
 unfolding unless _then_
 asked s v l e = simp (eq-eqb (length s) 32 l, e)
 
-pub refused-early : (s f : List ℕ) (v : Verdict) (x : Refusal) (r : Record) (out : Reading) → length s ≡ 32 → f ≡ s → v ≡ outerOf f
+pub refused-early : (s : List ℕ) (v : Verdict) (x : Refusal) (r : Record) (out : Reading) → length s ≡ 32 → v ≡ outerOf (frameIn s)
     → v ≡ Refused x → out ≡ reading v r → out ≡ readOf s
 unfolding _then_
-refused-early s f v x r out l p q e k =
+refused-early s v x r out l q e k =
     k
     ∙ ap (λ (w : Verdict). reading w r) e
-    ∙ sym (ap (λ (w : Verdict). reading w (recordOf s)) (asked s v l (q ∙ ap outerOf p) ∙ ap (λ (w : Verdict). w then contentAnswer s) e))
+    ∙ sym (ap (λ (w : Verdict). reading w (recordOf s)) (asked s v l (q ∙ ap outerOf (frame-lent s l)) ∙ ap (λ (w : Verdict). w then contentAnswer s) e))
 
-pub read-on : (s f : List ℕ) (v : Verdict) (out : Reading) → length s ≡ 32 → f ≡ s → v ≡ outerOf f → v ≡ Fine
-    → out ≡ reading (contentAnswer f) (recordOf f) → out ≡ readOf s
+pub read-on : (s : List ℕ) (v : Verdict) (out : Reading) → length s ≡ 32 → v ≡ outerOf (frameIn s) → v ≡ Fine
+    → out ≡ reading (contentAnswer (frameIn s)) (recordOf (frameIn s)) → out ≡ readOf s
 unfolding _then_
-read-on s f v out l p q e k =
+read-on s v out l q e k =
     k
-    ∙ ap (λ (g : List ℕ). reading (contentAnswer g) (recordOf g)) p
-    ∙ sym (ap (λ (w : Verdict). reading w (recordOf s)) (asked s v l (q ∙ ap outerOf p) ∙ ap (λ (w : Verdict). w then contentAnswer s) e))
+    ∙ ap (λ (g : List ℕ). reading (contentAnswer g) (recordOf g)) (frame-lent s l)
+    ∙ sym (ap (λ (w : Verdict). reading w (recordOf s)) (asked s v l (q ∙ ap outerOf (frame-lent s l)) ∙ ap (λ (w : Verdict). w then contentAnswer s) e))
 
 -- ---- what it says
 

@@ -5,17 +5,19 @@ use Prim.Native.Nat.{_+_}
 use mathlib.Core.Path.{_∙_}
 use native.Mathlib.Nat.{add-zero}
 use native.Mathlib.Omega.{arith}
+use Rattle.bits.specs.Frame.{frameIn}
 use Rattle.bits.proofs.Inside.{field-in}
 use Rattle.ash_fall.proofs.places.place_at.Tie as tie
 
 returns : tie.Need-returns
 returns c =
-    let a = c .before .before .before .args in
+    let a = c .before .before .before .before .args in
+    let f = frameIn (a .f .now) in
     simp (
       add-zero,
-      c .field64 .ensures .0 ∙ field-in 57 (a .f) (a .at + 6) 23 (omega arith) (omega arith),
-      c .before .field82 .ensures .0 ∙ field-in 8 (a .f) (a .at + 3) 3 (omega arith) (omega arith),
-      c .before .before .field8 .ensures .0 ∙ field-in 8 (a .f) (a .at) 3 (omega arith) (omega arith),
+      c .field64 .ensures .0 ∙ field-in 57 f (a .at + 6) 23 (omega arith) (omega arith),
+      c .before .field82 .ensures .0 ∙ field-in 8 f (a .at + 3) 3 (omega arith) (omega arith),
+      c .before .before .field8 .ensures .0 ∙ field-in 8 f (a .at) 3 (omega arith) (omega arith),
     )
 
 pub place-at-spec : {M : Type 1} → statement M

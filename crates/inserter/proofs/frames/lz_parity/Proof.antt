@@ -11,7 +11,7 @@ returns c = simp (ne-eqb _ 32 (c .if1 .taken))
 
 returns-2 : tie.Need-returns-2
 unfolding parityAnswer
-returns-2 c = simp (eq-eqb _ 32 (c .before .before .if1 .left), c .parity .ensures, c .before .frame-of .ensures)
+returns-2 c = simp (eq-eqb _ 32 (c .before .if1 .left), c .parity .ensures)
 
 pub lz-parity-spec : {M : Type 1} → statement M
-lz-parity-spec = tie.close (tie.spec returns (λ c κs. search needs) (λ c κs. search needs) returns-2)
+lz-parity-spec = tie.close (tie.spec returns (λ c κs. search needs) returns-2)

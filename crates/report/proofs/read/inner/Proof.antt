@@ -8,7 +8,7 @@ use mathlib.Core.Path.{_≡_, _∙_, ap}
 use mathlib.Core.Bool.{not}
 use Prim.Native.Nat.{ℕ}
 use lib.Dec.{eqb}
-use Rattle.bits.specs.Frame.{fieldOf}
+use Rattle.bits.specs.Frame.{fieldOf, frameIn}
 use Rattle.rows.specs.Runs.Questions.{_then_}
 use Rattle.rows.proofs.Rules.Outcomes.{fine-then}
 use Rattle.report.specs.Categories.{layout}
@@ -28,8 +28,8 @@ returns c =
     let b = o .before in
     let a = b .before in
     let d = a .before .before .before .before in
-    let s = d .before in
-    let f = s .args .f in
+    let s = d .before .before in
+    let f = frameIn (s .args .f .now) in
     let e = d .of .ensures in
     let same : _≡_ {A = Record} (record { preamble = a .field8 .result; reserved = b .field82 .result; common = o .of2 .result; body = d .of .result .body; slots = d .of .result .slots; text = d .of .result .text; spares = d .of .result .spares }) (recordOf f) =
     λ i. record { preamble = a .field8 .ensures .0 i; reserved = b .field82 .ensures .0 i; common = o .of2 .ensures i; body = e i .body; slots = e i .slots; text = e i .text; spares = e i .spares }

@@ -1,6 +1,5 @@
 -- `report::read::read` meets its contract.
 use Rattle.report.proofs.Reading.ReadSteps.{not-a-frame, refused-early, read-on, read-said}
-use Rattle.bits.proofs.Inside.{right-size}
 use borrow.Author.Needs.{needs}
 use mathlib.Core.Path.{sym, _∙_}
 use Rattle.report.proofs.read.read.Statement.{statement}
@@ -21,18 +20,16 @@ inner-requires c κs = sym (c .before .before .outer .ensures) ∙ c .enum-told 
 returns-2 : tie.Need-returns-2
 returns-2 c =
     let o = c .before .before .before in
-    let lent = o .before .before .before .before .args .frame .now in
-    let size = o .before .before .if1 .left in
-    read-said lent _ (read-on lent _ (o .outer .result) _ size (o .before .frame-of .ensures ∙ right-size lent lent _ size) (o .outer .ensures) (c .before .enum-told .given .1) (c .inner .ensures))
+    let lent = o .before .before .before .args .frame .now in
+    read-said lent _ (read-on lent (o .outer .result) _ (o .before .if1 .left) (o .outer .ensures) (c .before .enum-told .given .1) (c .inner .ensures))
 
 returns-3 : tie.Need-returns-3
 returns-3 c =
     let e = c .before .before in
     let o = e .before .before in
-    let lent = o .before .before .before .before .args .frame .now in
-    let size = o .before .before .if1 .left in
-    read-said lent _ (refused-early lent _ (o .outer .result) _ _ _ size (o .before .frame-of .ensures ∙ right-size lent lent _ size) (o .outer .ensures) (e .enum-told2 .given .1) (c .conclude2 .ensures))
+    let lent = o .before .before .before .args .frame .now in
+    read-said lent _ (refused-early lent (o .outer .result) _ _ _ (o .before .if1 .left) (o .outer .ensures) (e .enum-told2 .given .1) (c .conclude2 .ensures))
 
 pub read-spec : {M : Type 1} → statement M
 read-spec =
-    tie.close (tie.spec (λ c κs. search needs) (λ c κs. search needs) returns (λ c κs. search needs) (λ c κs. search needs) enum-told inner-requires (λ c. search needs) (λ c κs. search needs) (λ c κs. search needs) returns-2 returns-3)
+    tie.close (tie.spec (λ c κs. search needs) (λ c κs. search needs) returns (λ c κs. search needs) enum-told inner-requires (λ c. search needs) (λ c κs. search needs) (λ c κs. search needs) returns-2 returns-3)

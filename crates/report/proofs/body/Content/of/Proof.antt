@@ -5,7 +5,7 @@ use Rattle.report.specs.declared.body.Body.the-variants.{NoCategory}
 use mathlib.Core.Path.{_∙_, _≡_, ap, sym}
 use Rattle.report.specs.Categories.{bodyFrom}
 use Rattle.report.specs.Runs.Reading.{contentAs}
-use Rattle.bits.specs.Frame.{fieldOf}
+use Rattle.bits.specs.Frame.{fieldOf, frameIn}
 use borrow.Author.Tests.{ne-eqb}
 use Rattle.rows.specs.Values.{sidesAt}
 use Rattle.slots.specs.Slots.{slotsOf}
@@ -19,42 +19,46 @@ coded : (f : List ℕ) (code dc : ℕ) (x : Content) → code ≡ fieldOf f 17 4
     → x ≡ contentAs f (bodyFrom (sidesAt f) (fieldOf f 17 4))
 coded f code dc x e m h = h ∙ ap (λ (n : ℕ). contentAs f (bodyFrom (sidesAt f) n)) (sym m ∙ e)
 
+-- the lent frame
+abbrev frame : tie.After-field8 → List ℕ
+frame c = frameIn (c .before .before .args .f .now)
+
 returns : tie.Need-returns
 unfolding bodyFrom slotsOf
 returns c =
     let k = c .before .before .before .before in
-    coded (k .before .args .f) _ 2 _ (k .field8 .ensures .0) (c .before .before .before .match .keys1) (simp (c .spares .ensures, c .before .none .ensures, c .before .before .of .ensures))
+    coded (frame k) _ 2 _ (k .field8 .ensures .0) (c .before .before .before .match .keys1) (simp (c .spares .ensures, c .before .none .ensures, c .before .before .of .ensures))
 
 returns-2 : tie.Need-returns-2
 unfolding bodyFrom slotsOf
 returns-2 c =
     let k = c .before .before .before .before in
-    coded (k .before .args .f) _ 3 _ (k .field8 .ensures .0) (c .before .before .before .match .keys2) (simp (c .spares2 .ensures, c .before .prefectures-of .ensures, c .before .before .of2 .ensures))
+    coded (frame k) _ 3 _ (k .field8 .ensures .0) (c .before .before .before .match .keys2) (simp (c .spares2 .ensures, c .before .prefectures-of .ensures, c .before .before .of2 .ensures))
 
 returns-3 : tie.Need-returns-3
 unfolding bodyFrom slotsOf
 returns-3 c =
     let k = c .before .before .before .before .before in
-    coded (k .before .args .f) _ 4 _ (k .field8 .ensures .0) (c .before .before .before .before .match .keys3) (simp (c .spares3 .ensures, c .before .page-text .ensures, c .before .before .none2 .ensures, c .before .before .before .of3 .ensures))
+    coded (frame k) _ 4 _ (k .field8 .ensures .0) (c .before .before .before .before .match .keys3) (simp (c .spares3 .ensures, c .before .page-text .ensures, c .before .before .none2 .ensures, c .before .before .before .of3 .ensures))
 
 returns-4 : tie.Need-returns-4
 unfolding bodyFrom slotsOf
 returns-4 c =
     let k = c .before .before .before .before in
-    coded (k .before .args .f) _ 5 _ (k .field8 .ensures .0) (c .before .before .before .match .keys4) (simp (c .spares4 .ensures, c .before .areas-of .ensures, c .before .before .of4 .ensures))
+    coded (frame k) _ 5 _ (k .field8 .ensures .0) (c .before .before .before .match .keys4) (simp (c .spares4 .ensures, c .before .areas-of .ensures, c .before .before .of4 .ensures))
 
 returns-5 : tie.Need-returns-5
 unfolding bodyFrom slotsOf
 returns-5 c =
     let k = c .before .before .before .before in
-    coded (k .before .args .f) _ 9 _ (k .field8 .ensures .0) (c .before .before .before .match .keys5) (simp (c .spares5 .ensures, c .before .places-of .ensures, c .before .before .of5 .ensures))
+    coded (frame k) _ 9 _ (k .field8 .ensures .0) (c .before .before .before .match .keys5) (simp (c .spares5 .ensures, c .before .places-of .ensures, c .before .before .of5 .ensures))
 
 returns-6 : tie.Need-returns-6
 unfolding bodyFrom slotsOf
 returns-6 c =
     let m = c .before .before in
     let k = m .before in
-    let f = k .before .args .f in
+    let f = frame k in
     let e = k .field8 .ensures .0 in
     let other = m .match .rest in
     let none : bodyFrom (sidesAt f) (fieldOf f 17 4) ≡ NoCategory = simp (
