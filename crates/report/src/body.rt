@@ -224,50 +224,38 @@ impl Body {
         }
     }
 
-    // What is found by all rules from bit 8 to bit 213, behind what has been found, and its table and its fields. One
-    // `match` for both: whoever writes a record asks for both.
-    pub(crate) fn told(self, found: Verdict, c: Common, slots: [Slot; 16], spares: Spares) -> Told
-        ensures { λ r. ⌜ r ≡ toldOf self found c slots spares ⌝ }
+    // What is found by all rules from bit 8 to bit 213, behind what has been found.
+    pub(crate) fn check(
+        self,
+        found: Verdict,
+        c: Common,
+        slots: [Slot; 16],
+        spares: Spares,
+    ) -> Verdict
+        ensures { λ r. ⌜ r ≡ toldOf self found c slots spares .found ⌝ }
     {
         match self {
-            Body::NoCategory => Told {
-                found: check_none(found, c, spares),
-                fields: fields_none(spares),
-            },
-            Body::Hypocenter(q) => Told {
-                found: q.check(found, c, spares),
-                fields: q.fields(spares),
-            },
-            Body::Intensity(s) => Told {
-                found: s.check(found, c, slots, spares),
-                fields: s.fields(spares),
-            },
-            Body::Nankai(p) => Told {
-                found: p.check(found, c, spares),
-                fields: p.fields(spares),
-            },
-            Body::Tsunami(w) => Told {
-                found: w.check(found, c, slots, spares),
-                fields: w.fields(spares),
-            },
-            Body::AshFall(e) => Told {
-                found: e.check(found, c, slots, spares),
-                fields: e.fields(spares),
-            },
+            Body::NoCategory => check_none(found, c, spares),
+            Body::Hypocenter(q) => q.check(found, c, spares),
+            Body::Intensity(s) => s.check(found, c, slots, spares),
+            Body::Nankai(p) => p.check(found, c, spares),
+            Body::Tsunami(w) => w.check(found, c, slots, spares),
+            Body::AshFall(e) => e.check(found, c, slots, spares),
         }
     }
 
-    // Its table, and its fields in the table's order.
+    // Its table, and its fields in the table's order. Whoever wants them judges nothing, and has no stack for it.
     pub fn fields(self, spares: Spares) -> Fields
         ensures { λ r. ⌜ r ≡ fieldsIn (layout self) (sidesOf self spares) ⌝ }
     {
-        let told = self.told(
-            Verdict::Fine,
-            Common::of_zeros(),
-            [Slot::none(); 16],
-            spares,
-        );
-        told.fields
+        match self {
+            Body::NoCategory => fields_none(spares),
+            Body::Hypocenter(q) => q.fields(spares),
+            Body::Intensity(s) => s.fields(spares),
+            Body::Nankai(p) => p.fields(spares),
+            Body::Tsunami(w) => w.fields(spares),
+            Body::AshFall(e) => e.fields(spares),
+        }
     }
 
     // The page that it brings.

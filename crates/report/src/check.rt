@@ -8,20 +8,27 @@ use crate::record::Record;
 use rows::refusal::Verdict;
 
 impl Record {
-    // What all rules of bits 8 to 225 find, and the record's fields.
-    pub fn told(self) -> Told
-        ensures { λ t. ⌜ t ≡ recordTold self ⌝ }
+    // What all rules of bits 8 to 225 find.
+    pub(crate) fn check(self) -> Verdict
+        ensures { λ v. ⌜ v ≡ recordTold self .found ⌝ }
     {
         let common = self.common;
         let body = self.body;
         let slots = self.slots;
         let spares = self.spares;
-        let told = body.told(Verdict::Fine, common, slots, spares);
-        let found = told.found;
-        let fields = told.fields;
+        body.check(Verdict::Fine, common, slots, spares)
+            .within(220, self.reserved as u64, 0, 63)
+    }
+
+    // The same, and the record's fields.
+    pub fn told(self) -> Told
+        ensures { λ t. ⌜ t ≡ recordTold self ⌝ }
+    {
+        let body = self.body;
+        let spares = self.spares;
         Told {
-            found: found.within(220, self.reserved as u64, 0, 63),
-            fields: fields,
+            found: self.check(),
+            fields: body.fields(spares),
         }
     }
 }

@@ -68,11 +68,9 @@ fn inner(f: &[u8]) -> Reading
         text: text,
         spares: spares,
     };
-    let told = record.told();
-    let rules = told.found;
     let found = Verdict::Fine
         .unless(body.code() != 0, Refusal::Category)
-        .then(rules);
+        .then(record.check());
     conclude(found, record)
 }
 

@@ -21,10 +21,10 @@ returns : tie.Need-returns
 unfolding recordAs recordTold
 returns c =
     let t = c .before in
-    let u = t .before in
+    let k = t .before in
+    let u = k .before in
     let n = u .before in
-    let k = n .before in
-    let o = k .before in
+    let o = n .before in
     let b = o .before in
     let a = b .before in
     let d = a .before .before .before .before in
@@ -36,7 +36,7 @@ returns c =
     in
     judged f _ (not (eqb (n .code .result) 0)) (t .then .result) (c .conclude .result) (s .pre) same
     (ap (λ (m : ℕ). not (eqb m 0)) (n .code .ensures) ∙ ap (λ (x : Content). not (eqb (layout (x .body) .code) 0)) e ∙ known-code _ (fieldOf f 17 4))
-    (t .then .ensures ∙ (λ i. (u .unless .ensures ∙ fine-then _) i then k .told .ensures i .found)) (c .conclude .ensures)
+    (t .then .ensures ∙ (λ i. (u .unless .ensures ∙ fine-then _) i then k .check .ensures i)) (c .conclude .ensures)
 
 pub inner-spec : {M : Type 1} → statement M
 inner-spec =
