@@ -45,39 +45,44 @@ static void call_height(void) { answer = lz_height(4); }
 static void call_prefecture(void) { answer = lz_prefecture(4600000); }
 
 /*
- * The bounds are what was measured, rounded up to 64 bytes, with room for the
- * word or two that another compiler of this test may push. A bound that is
- * passed says that a call takes more stack than it did.
+ * What each was measured to take when its row was written, and the most that it
+ * takes now. Another compiler of this test may push three words more on the way
+ * to the call; a frame that is copied once more is past that.
  */
+#define ROOM 24
+
 struct door {
     const char *name;
     void (*call)(void);
-    size_t bound;
+    size_t taken_then;
     size_t most;
 };
 
 static struct door doors[] = {
-    {"one field", call_field, 0, 0},
-    {"lz_parity", call_parity, 0, 0},
-    {"lz_read, refused by a field", call_refused, 0, 0},
-    {"lz_read", call_read, 0, 0},
-    {"lz_read_line", call_read_line, 0, 0},
-    {"lz_write", call_write, 0, 0},
-    {"lz_write_line", call_write_line, 0, 0},
-    {"lz_slots_used", call_slots_used, 0, 0},
-    {"lz_open", call_open, 0, 0},
-    {"lz_take", call_take, 0, 0},
-    {"lz_merge", call_merge, 0, 0},
-    {"lz_count", call_count, 0, 0},
-    {"lz_text", call_text, 0, 0},
-    {"lz_depth", call_depth, 0, 0},
-    {"lz_magnitude", call_magnitude, 0, 0},
-    {"lz_arrival", call_arrival, 0, 0},
-    {"lz_height", call_height, 0, 0},
-    {"lz_prefecture", call_prefecture, 0, 0},
+    {"one field", call_field, 8, 0},
+    {"lz_parity", call_parity, 8, 0},
+    {"lz_read, refused by a field", call_refused, 1420, 0},
+    {"lz_read", call_read, 1420, 0},
+    {"lz_read_line", call_read_line, 1452, 0},
+    {"lz_write", call_write, 2512, 0},
+    {"lz_write_line", call_write_line, 8, 0},
+    {"lz_slots_used", call_slots_used, 1552, 0},
+    {"lz_open", call_open, 3720, 0},
+    {"lz_take", call_take, 6840, 0},
+    {"lz_merge", call_merge, 7416, 0},
+    {"lz_count", call_count, 3672, 0},
+    {"lz_text", call_text, 3736, 0},
+    {"lz_depth", call_depth, 8, 0},
+    {"lz_magnitude", call_magnitude, 8, 0},
+    {"lz_arrival", call_arrival, 8, 0},
+    {"lz_height", call_height, 8, 0},
+    {"lz_prefecture", call_prefecture, 8, 0},
 };
 
-/* The report of the line, and the same with hour 31, in which everything else is as it should be. */
+/*
+ * The report of the line, and the same with hour 31, where everything else is as
+ * it should be; a store without pages, of which one is to come, and a full one.
+ */
 static void prepare(void)
 {
     frame_of((const char *)line, frame);
@@ -94,6 +99,7 @@ static void prepare(void)
 static void measure(struct door *door)
 {
     door->call(); /* once before, so that nothing is left to be linked */
+    prepare();
     size_t taken = stack_of(door->call);
     if (taken > door->most) {
         door->most = taken;
@@ -106,19 +112,19 @@ void check_doors(void)
     int over = 0, reports = 0;
     while (fgets(input, sizeof input, stdin) != NULL) {
         memcpy(line, input, sizeof line);
-        prepare();
         for (size_t i = 0; i < COUNT(doors); i++) {
             measure(&doors[i]);
         }
         reports++;
     }
     for (size_t i = 0; i < COUNT(doors); i++) {
-        printf("stack of %s: %zu bytes, at most %zu\n", doors[i].name, doors[i].most,
-               doors[i].bound);
-        over += doors[i].most > doors[i].bound;
+        size_t bound = doors[i].taken_then + ROOM;
+        printf("stack of %s: %zu bytes, at most %zu\n", doors[i].name, doors[i].most, bound);
+        over += doors[i].most > bound;
     }
     if (over != 0 || reports == 0) {
-        fprintf(stderr, "%d of %zu bounds are passed, over %d reports\n", over, COUNT(doors), reports);
+        fprintf(stderr, "%d bounds of %zu are passed, over %d reports\n", over, COUNT(doors),
+                reports);
         exit(1);
     }
 }

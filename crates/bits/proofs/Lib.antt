@@ -9,3 +9,4 @@ pub mod ByteLoops
 pub mod Arrays
 pub mod LayLoop
 pub mod Settled
+pub mod Held

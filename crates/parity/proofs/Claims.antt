@@ -6,12 +6,13 @@ use native.Mathlib.Omega.{arith}
 use mathlib.Core.List.{List}
 use lib.Bits.{bitXor}
 use borrow.Author.Tests.{eq-eqb, eqb-true}
-use Rattle.bits.specs.Frame.{number, fieldOf}
+use lib.ListN.{length}
+use Rattle.bits.specs.Frame.{number, fieldOf, frameIn}
 use Rattle.bits.proofs.Frames.{field-lt}
 use Rattle.parity.specs.Parity.{after, parityOf, parityOfFront, parityRight}
 use Rattle.parity.proofs.Step.{after-lt}
 use Rattle.parity.proofs.Linear.{sum, after-sum}
-use Rattle.parity.proofs.Front.{parity-of-front}
+use Rattle.parity.proofs.Front.{parity-of-front, no-parity}
 use Rattle.parity.proofs.EveryBit.{one-bit-counts}
 
 -- A parity is a number of 24 bits.
@@ -41,3 +42,7 @@ right-means-equal s = eqb-true (parityOf s) (fieldOf s 226 24)
 
 pub equal-means-right : (s : List ℕ) → parityOf s ≡ fieldOf s 226 24 → parityRight s ≡ true
 equal-means-right s = eq-eqb (parityOf s) (fieldOf s 226 24)
+
+-- Lent bytes that are no frame have the parity of zeros, which is zero.
+pub other-lengths-have-no-parity : (lent : List ℕ) → (length lent ≡ 32 → ⊥) → parityOf (frameIn lent) ≡ 0
+other-lengths-have-no-parity = no-parity
