@@ -70,6 +70,7 @@ mod raw {
         pub fn lz_height(code: u8) -> u32;
         pub fn lz_prefecture(place: u64) -> u32;
         pub fn lz_slots_used(record_bytes: *const u8, record_length: usize) -> u32;
+        pub fn one_field(frame: *const u8, frame_length: usize, first: usize, width: usize) -> u64;
     }
 }
 
@@ -165,6 +166,15 @@ pub fn prefecture(place: u64) -> u32 {
 /// How many slots the record of the bytes uses.
 pub fn slots_used(record_bytes: &[u8]) -> u32 {
     from(raw::lz_slots_used, record_bytes)
+}
+
+/// The number in the `width` bits from `first` on. It is 0 where the slice is not
+/// 32 bytes long, and where the field is wider than 57 bits or does not lie within
+/// the slice.
+pub fn one_field(bytes: &[u8], first: usize, width: usize) -> u64 {
+    // The pointer and the length are those of one slice, which is only read; place
+    // and width may be any numbers.
+    unsafe { raw::one_field(bytes.as_ptr(), bytes.len(), first, width) }
 }
 
 fn from(door: Reads, from: &[u8]) -> u32 {

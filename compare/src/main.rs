@@ -10,6 +10,7 @@ mod lent;
 mod lines;
 mod meanings;
 mod measure;
+mod one_field;
 mod packed;
 mod parity;
 mod reading;
@@ -57,6 +58,10 @@ fn main() {
         return measure::measure();
     }
     run("parity", parity::compare);
+    run("one field, every place and width", one_field::every_place);
+    run("one field, slices of 0 to 40 bytes and of 64", one_field::slice_lengths);
+    run("one field, far beyond the end", one_field::far_beyond);
+    run("one field, document 004", one_field::document_004);
     run("reading, frames of all kinds", reading::any_frames);
     run("reading, fields at their bounds", reading::boundaries);
     run("reading, every arrival of every area", reading::arrivals);

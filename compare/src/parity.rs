@@ -1,7 +1,8 @@
 //! The parity, against long division as on paper.
 
 use crate::{door, Count};
-use reference::bits::{set_bit, Frame};
+use reference::bits::Frame;
+use reference::generate::plain_frames;
 use reference::random::Random;
 
 const RANDOM_FRAMES: usize = 200_000;
@@ -11,11 +12,7 @@ const NEIGHBOURED_FRAMES: usize = 200;
 /// parities are the same.
 pub fn compare(count: &mut Count) {
     let mut random = Random::new(24);
-    agree(count, &[0; 32]);
-    agree(count, &[0xFF; 32]);
-    for position in 0..256 {
-        let mut frame = [0; 32];
-        set_bit(&mut frame, position, true);
+    for frame in plain_frames() {
         agree(count, &frame);
     }
     for _ in 0..RANDOM_FRAMES {

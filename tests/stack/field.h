@@ -7,10 +7,7 @@
 
 uint64_t one_field(const uint8_t *frame, size_t frame_length, size_t first, size_t width);
 
-/* Every place and width, in a frame and past its end, and lengths that no frame has. */
-void check_values(void);
-
-/* Reading a field touches no byte but those that hold it. */
+/* Reading a field, wherever it stands, touches no byte but those that hold it. */
 void check_bytes_touched(void);
 
 #endif

@@ -11,8 +11,6 @@
 
 int main(void)
 {
-    check_values();
-    printf("a field at every place, of every width, in every length: as expected\n");
     check_bytes_touched();
     printf("the bytes that a field is read from: those that hold it\n");
     check_marks();

@@ -182,6 +182,14 @@ pub fn slot_layout(category: Category) -> SlotLayout {
     }
 }
 
+/// Every field of a category, and behind them the parts of its slots.
+pub fn fields_and_parts(category: Category) -> Vec<Field> {
+    let layout = slot_layout(category);
+    let mut all = fields(category);
+    all.extend((0..layout.count).flat_map(|slot| layout.parts(slot)));
+    all
+}
+
 /// Spare1, and Spare2 where the category has one: the areas of category 5 reach
 /// up to the version and leave no room for it. What a spare will once say is not
 /// known, so it may have every value that its bits hold.

@@ -21,7 +21,7 @@ pub use records::*;
 pub use stores::*;
 
 use crate::bits::{set, Frame};
-use crate::fields::{fields, slot_layout, Field};
+use crate::fields::{fields_and_parts, slot_layout, Field};
 use crate::parity::parity;
 use crate::random::Random;
 use crate::record::{Category, Record};
@@ -67,10 +67,7 @@ impl Bounds {
 
 /// The rows of a category, spares and slots included.
 pub fn bounds(category: Category) -> Vec<Bounds> {
-    let layout = slot_layout(category);
-    let mut all = fields(category);
-    all.extend((0..layout.count).flat_map(|slot| layout.parts(slot)));
-    all.iter().flat_map(field_bounds).collect()
+    fields_and_parts(category).iter().flat_map(field_bounds).collect()
 }
 
 fn field_bounds(field: &Field) -> Vec<Bounds> {

@@ -3,7 +3,7 @@
 use std::collections::BTreeSet;
 
 use reference::bits::Frame;
-use reference::fields::{fields, slot_layout, spares, Field};
+use reference::fields::{fields_and_parts, slot_layout, spares, Field};
 use reference::generate::*;
 use reference::meaning::{arrival, slots_used, Arrival};
 use reference::random::Random;
@@ -124,9 +124,7 @@ fn each_record_builder_reaches_its_refusals() {
 /// them, in a frame not those of a spare or of a single bit, where all that the
 /// bits hold is in range.
 fn places_out_of_range(category: Category, in_frame: bool) -> Vec<usize> {
-    let layout = slot_layout(category);
-    let mut rows = fields(category);
-    rows.extend((0..layout.count).flat_map(|slot| layout.parts(slot)));
+    let mut rows = fields_and_parts(category);
     rows.retain(|row| !in_frame || row.allowed != [(0, (1 << row.width) - 1)]);
     let mut places: Vec<_> = rows.iter().map(|row| row.first).collect();
     places.sort();

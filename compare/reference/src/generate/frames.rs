@@ -199,6 +199,16 @@ pub fn flipped_frame(random: &mut Random, category: Category) -> Frame {
     frame
 }
 
+/// A frame of zeros, one of ones, and those with one bit set, all 256 of them.
+pub fn plain_frames() -> Vec<Frame> {
+    let one_bit = |position| {
+        let mut frame = [0; 32];
+        set_bit(&mut frame, position, true);
+        frame
+    };
+    [[0; 32], [0xFF; 32]].into_iter().chain((0..256).map(one_bit)).collect()
+}
+
 pub fn random_bytes(random: &mut Random, length: usize) -> Vec<u8> {
     (0..length).map(|_| random.byte()).collect()
 }
