@@ -34,7 +34,8 @@ fn push_bits(register: u32, byte: u8, count: usize) -> u32
 }
 
 // The parity that bits 0 to 225 ask for: those of 28 bytes, and two of the next. The bits of one byte have fixed
-// places, so going byte by byte costs less than finding each bit in the frame.
+// places, so going byte by byte costs less than finding each bit in the frame. Lent bytes that are no frame have
+// that of zeros.
 pub fn parity(frame: &[u8]) -> u32
     ensures { λ r. ⌜ r ≡ parityOf (frameIn (now (frame .entry))) ⌝ }
 {
