@@ -244,7 +244,8 @@ impl Body {
         }
     }
 
-    // Its table, and its fields in the table's order. Whoever wants them judges nothing, and has no stack for it.
+    // Its table, and its fields in the table's order. They are asked for apart from the verdict: whoever wants the one
+    // would have the stack for both.
     pub fn fields(self, spares: Spares) -> Fields
         ensures { λ r. ⌜ r ≡ fieldsIn (layout self) (sidesOf self spares) ⌝ }
     {
