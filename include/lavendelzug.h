@@ -7,7 +7,9 @@
  * Link target/staticlib/libinserter.a, which `rt staticlib inserter` writes for
  * x86-64; it needs memcpy and memset. The functions work on buffers lent as a
  * pointer and a length, never write to a const one, keep nothing between calls
- * and take no other memory than the stack.
+ * and take no other memory than the stack. Of that lz_read was measured to take
+ * 1,420 bytes, lz_read_line 1,452, lz_write 2,512, and none more than 7,416; no
+ * promise speaks of it, but the tests keep it from growing.
  *
  * What the caller guarantees. Whatever bytes are lent, and however many, each
  * function answers as said below. But nobody proves what a program in another
