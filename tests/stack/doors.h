@@ -2,7 +2,7 @@
 #ifndef DOORS_H
 #define DOORS_H
 
-/* None takes more than its bound, over every report on standard input. */
+/* Each takes what it did, over every report on standard input. */
 void check_doors(void);
 
 #endif

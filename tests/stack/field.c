@@ -73,13 +73,16 @@ static void from_cut_frames(const uint8_t *frame, size_t first, size_t width, si
     }
 }
 
-/* Were a byte touched that cannot be read, it would be seen: here one is. */
-static void check_cut_is_seen(const uint8_t *frame)
+/*
+ * Were a byte touched that cannot be read, it would be seen: here one is. Bytes 0
+ * to 2 hold ten bits from 7 on, and one of them is out of reach.
+ */
+static void check_cut_is_seen(const uint8_t *frame, size_t from, size_t to)
 {
     pid_t child = fork();
     if (child == 0) {
         close(2); /* what is said there is expected */
-        from_cut_frames(frame, 7, 10, 1, 2);
+        from_cut_frames(frame, 7, 10, from, to);
         _exit(0);
     }
     int status = 0;
@@ -96,7 +99,8 @@ void check_bytes_touched(void)
     make_page();
     signal(SIGSEGV, touched);
     signal(SIGBUS, touched);
-    check_cut_is_seen(frame);
+    check_cut_is_seen(frame, 1, 3);
+    check_cut_is_seen(frame, 0, 2);
     for (size_t first = 0; first <= 8 * FRAME; first++) {
         for (size_t width = 1; width <= WIDEST && first + width <= 8 * FRAME; width++) {
             from_cut_frames(frame, first, width, first / 8, (first + width + 7) / 8);
