@@ -51,6 +51,10 @@ extern "C" {
  * refused, then place, page and mark, each 0 unless the refusal names it. Where
  * something is refused, every buffer stays as it was. Where nothing is, some
  * functions answer a value, which never reaches the high byte.
+ *
+ * With 8 there is also the value that was found at the place. It may need 64 bits,
+ * and a refused call writes to no buffer, so it is asked for: beside each function
+ * that refuses with 8 stands one with the same name and _value behind it.
  */
 #define LZ_NUMBER(answer) ((uint8_t)((uint32_t)(answer) >> 24))
 #define LZ_PLACE(answer) ((uint8_t)((uint32_t)(answer) >> 16))
@@ -65,7 +69,7 @@ extern "C" {
 #define LZ_REFUSED_MESSAGE 5          /* the message type is not 43 */
 #define LZ_REFUSED_VERSION 6          /* the version is not 1 */
 #define LZ_REFUSED_CATEGORY 7         /* the category is not 2, 3, 4, 5 or 9 */
-#define LZ_REFUSED_RANGE 8            /* a field is out of its range, or a spare too wide; place: its first bit */
+#define LZ_REFUSED_RANGE 8            /* a field is out of its range, or a spare too wide; place: its first bit; a value */
 /* 9 was given for a spare that is not zero. It does not occur any more, and is not used again. */
 #define LZ_REFUSED_GAP 10             /* a slot is used behind an empty one; place: its first bit */
 #define LZ_REFUSED_UNUSED 11          /* a record has something where its category has nothing */
@@ -278,6 +282,13 @@ uint32_t lz_read(const uint8_t *frame, size_t frame_length,
                  uint8_t *record_bytes, size_t record_length);
 
 /*
+ * Answers the value that reading the frame refuses with 8: what stands in the field
+ * at the place. 0 where the frame is read or another number is given, but 0 may
+ * also be the value. Refuses nothing.
+ */
+uint64_t lz_read_value(const uint8_t *frame, size_t frame_length);
+
+/*
  * Writes a record to a frame, whose reading gives the same record, and answers 0.
  * Refuses: 1, 3, 7, 11; then 8 and 10 by the lowest place.
  */
@@ -285,11 +296,22 @@ uint32_t lz_write(const uint8_t *record_bytes, size_t record_length,
                   uint8_t *frame, size_t frame_length);
 
 /*
+ * Answers the value that writing the record to a frame of so many bytes refuses
+ * with 8: what stands in the record for the field at the place. 0 where the record
+ * is written or another number is given. Refuses nothing.
+ */
+uint64_t lz_write_value(const uint8_t *record_bytes, size_t record_length,
+                        size_t frame_length);
+
+/*
  * Reads a line, which is lent without its end of line, into a record as lz_read
  * reads a frame. Refuses: 255 where record_length is not 251; 17; 2 to 8, 10.
  */
 uint32_t lz_read_line(const uint8_t *line, size_t line_length,
                       uint8_t *record_bytes, size_t record_length);
+
+/* Answers of a line what lz_read_value answers of a frame. Refuses nothing. */
+uint64_t lz_read_line_value(const uint8_t *line, size_t line_length);
 
 /*
  * Writes a frame as 63 digits with capital letters to the front of a buffer, and
@@ -363,6 +385,12 @@ uint32_t lz_open(const uint8_t *name, size_t name_length,
                  uint8_t *store, size_t store_length);
 
 /*
+ * Answers the value that opening a store for the name refuses with 8. 0 where all
+ * are in range, and where name_length is not 8. Refuses nothing.
+ */
+uint64_t lz_open_value(const uint8_t *name, size_t name_length);
+
+/*
  * Takes the page of a record into a store, and answers what became of it. Two
  * texts for a page make it disputed, and it stays so. Preamble, Reserved and
  * spares play no part. Refuses: 14; what writing that record to 32 bytes refuses;
@@ -373,6 +401,13 @@ uint32_t lz_open(const uint8_t *name, size_t name_length,
 #define LZ_TAKEN_DISPUTED 3  /* it is disputed, from now on or already before */
 uint32_t lz_take(uint8_t *store, size_t store_length,
                  const uint8_t *record_bytes, size_t record_length);
+
+/*
+ * Answers the value that taking the record into the store refuses with 8, and 0
+ * where it is taken or another number is given. Takes nothing and refuses nothing.
+ */
+uint64_t lz_take_value(const uint8_t *store, size_t store_length,
+                       const uint8_t *record_bytes, size_t record_length);
 
 /*
  * Merges another store of the same bulletin into a store, which then is as if it

@@ -1,10 +1,14 @@
 //! The proved functions, made safe to call: the only place where a pointer is
 //! handed over. Each takes any slice, since none of them has a precondition.
-//! Their answer is the number of the refusal, 0 where nothing is refused, and
-//! its place, page and mark, if nothing else is said.
+//! Their answer is the number of the refusal, 0 where nothing is refused, its
+//! place, page and mark, and with 8 the value found at the place, if nothing else
+//! is said. The values can also be asked for alone.
+
+use reference::answer::Answer;
+use reference::record::OUT_OF_RANGE;
 
 /// A function that reads a slice.
-type Reads = unsafe extern "C" fn(*const u8, usize) -> u32;
+type Reads<T> = unsafe extern "C" fn(*const u8, usize) -> T;
 
 /// A function that reads the first slice and may write the second.
 type FromTo = unsafe extern "C" fn(*const u8, usize, *mut u8, usize) -> u32;
@@ -21,18 +25,25 @@ mod raw {
             record_bytes: *mut u8,
             record_length: usize,
         ) -> u32;
+        pub fn lz_read_value(frame: *const u8, length: usize) -> u64;
         pub fn lz_write(
             record_bytes: *const u8,
             record_length: usize,
             frame: *mut u8,
             length: usize,
         ) -> u32;
+        pub fn lz_write_value(
+            record_bytes: *const u8,
+            record_length: usize,
+            frame_length: usize,
+        ) -> u64;
         pub fn lz_read_line(
             line: *const u8,
             length: usize,
             record_bytes: *mut u8,
             record_length: usize,
         ) -> u32;
+        pub fn lz_read_line_value(line: *const u8, length: usize) -> u64;
         pub fn lz_write_line(
             frame: *const u8,
             length: usize,
@@ -45,12 +56,19 @@ mod raw {
             store: *mut u8,
             store_length: usize,
         ) -> u32;
+        pub fn lz_open_value(name: *const u8, name_length: usize) -> u64;
         pub fn lz_take(
             store: *mut u8,
             store_length: usize,
             record_bytes: *const u8,
             record_length: usize,
         ) -> u32;
+        pub fn lz_take_value(
+            store: *const u8,
+            store_length: usize,
+            record_bytes: *const u8,
+            record_length: usize,
+        ) -> u64;
         pub fn lz_merge(
             store: *mut u8,
             store_length: usize,
@@ -85,50 +103,86 @@ pub fn parity(frame: &[u8]) -> Option<u32> {
 }
 
 /// Reads a frame into the bytes of a record.
-pub fn read(frame: &[u8], record_bytes: &mut [u8]) -> [u8; 4] {
-    from_to(raw::lz_read, frame, record_bytes)
+pub fn read(frame: &[u8], record_bytes: &mut [u8]) -> Answer {
+    with_value(from_to(raw::lz_read, frame, record_bytes), || read_value(frame))
+}
+
+/// The value that reading the frame finds out of range, else 0.
+pub fn read_value(frame: &[u8]) -> u64 {
+    from(raw::lz_read_value, frame)
 }
 
 /// Writes the record of the bytes to a frame.
-pub fn write(record_bytes: &[u8], frame: &mut [u8]) -> [u8; 4] {
-    from_to(raw::lz_write, record_bytes, frame)
+pub fn write(record_bytes: &[u8], frame: &mut [u8]) -> Answer {
+    let answer = from_to(raw::lz_write, record_bytes, frame);
+    with_value(answer, || write_value(record_bytes, frame.len()))
+}
+
+/// The value that writing the record of the bytes to a frame of so many bytes
+/// finds out of range, else 0.
+pub fn write_value(record_bytes: &[u8], frame_length: usize) -> u64 {
+    // The pointer and the length behind it are those of one slice, which is only
+    // read; the other length may be any number.
+    unsafe { raw::lz_write_value(record_bytes.as_ptr(), record_bytes.len(), frame_length) }
 }
 
 /// Reads a line of digits into the bytes of a record.
-pub fn read_line(line: &[u8], record_bytes: &mut [u8]) -> [u8; 4] {
-    from_to(raw::lz_read_line, line, record_bytes)
+pub fn read_line(line: &[u8], record_bytes: &mut [u8]) -> Answer {
+    with_value(from_to(raw::lz_read_line, line, record_bytes), || read_line_value(line))
+}
+
+/// The value that reading the line finds out of range, else 0.
+pub fn read_line_value(line: &[u8]) -> u64 {
+    from(raw::lz_read_line_value, line)
 }
 
 /// Writes the digits of a frame to a line.
-pub fn write_line(frame: &[u8], line: &mut [u8]) -> [u8; 4] {
+pub fn write_line(frame: &[u8], line: &mut [u8]) -> Answer {
     from_to(raw::lz_write_line, frame, line)
 }
 
 /// Opens a store under a name of 8 bytes.
-pub fn open(name: &[u8], store: &mut [u8]) -> [u8; 4] {
-    from_to(raw::lz_open, name, store)
+pub fn open(name: &[u8], store: &mut [u8]) -> Answer {
+    with_value(from_to(raw::lz_open, name, store), || open_value(name))
 }
 
-/// Takes the page of a record into a store. Where nothing is refused, the last
-/// byte of the answer is 1 for new, 2 for same and 3 for disputed.
-pub fn take(store: &mut [u8], record_bytes: &[u8]) -> [u8; 4] {
-    to_from(raw::lz_take, store, record_bytes)
+/// The value of the name that opening finds out of range, else 0.
+pub fn open_value(name: &[u8]) -> u64 {
+    from(raw::lz_open_value, name)
+}
+
+/// Takes the page of a record into a store. Where nothing is refused, the mark of
+/// the answer is 1 for new, 2 for same and 3 for disputed.
+pub fn take(store: &mut [u8], record_bytes: &[u8]) -> Answer {
+    let answer = to_from(raw::lz_take, store, record_bytes);
+    // What is refused leaves the store, so it can still be asked.
+    with_value(answer, || take_value(store, record_bytes))
+}
+
+/// The value that taking the page of a record into a store finds out of range,
+/// else 0.
+pub fn take_value(store: &[u8], record_bytes: &[u8]) -> u64 {
+    let (store_length, record_length) = (store.len(), record_bytes.len());
+    // Each pointer and its length are those of one slice, and both are only read.
+    unsafe {
+        raw::lz_take_value(store.as_ptr(), store_length, record_bytes.as_ptr(), record_length)
+    }
 }
 
 /// Merges the other store into the first.
-pub fn merge(store: &mut [u8], other: &[u8]) -> [u8; 4] {
+pub fn merge(store: &mut [u8], other: &[u8]) -> Answer {
     to_from(raw::lz_merge, store, other)
 }
 
-/// Counts the pages of a store. Where nothing is refused, the last three bytes
-/// of the answer are held, disputed and lowest page.
-pub fn report(store: &[u8]) -> [u8; 4] {
-    from(raw::lz_count, store).to_be_bytes()
+/// Counts the pages of a store. Where nothing is refused, place, page and mark of
+/// the answer are held, disputed and lowest page.
+pub fn report(store: &[u8]) -> Answer {
+    Answer::of_word(from(raw::lz_count, store))
 }
 
-/// Writes the text of a store. Where nothing is refused, the last two bytes of
-/// the answer are its length.
-pub fn text(store: &[u8], text: &mut [u8]) -> [u8; 4] {
+/// Writes the text of a store. Where nothing is refused, page and mark of the
+/// answer are the two bytes of its length.
+pub fn text(store: &[u8], text: &mut [u8]) -> Answer {
     from_to(raw::lz_text, store, text)
 }
 
@@ -177,20 +231,30 @@ pub fn one_field(bytes: &[u8], first: usize, width: usize) -> u64 {
     unsafe { raw::one_field(bytes.as_ptr(), bytes.len(), first, width) }
 }
 
-fn from(door: Reads, from: &[u8]) -> u32 {
+/// Only an answer of 8 has a value. Whoever is told of another mistake in the call
+/// is not told of a value that the frame or the name may have as well.
+fn with_value(answer: Answer, ask: impl FnOnce() -> u64) -> Answer {
+    if answer.number == OUT_OF_RANGE {
+        Answer { value: ask(), ..answer }
+    } else {
+        answer
+    }
+}
+
+fn from<T>(door: Reads<T>, from: &[u8]) -> T {
     // The pointer and the length are those of one slice, which is only read.
     unsafe { door(from.as_ptr(), from.len()) }
 }
 
-fn from_to(door: FromTo, from: &[u8], to: &mut [u8]) -> [u8; 4] {
+fn from_to(door: FromTo, from: &[u8], to: &mut [u8]) -> Answer {
     // Each pointer and its length are those of one slice; one slice is lent
     // for writing, so the two cannot overlap.
     let answer = unsafe { door(from.as_ptr(), from.len(), to.as_mut_ptr(), to.len()) };
-    answer.to_be_bytes()
+    Answer::of_word(answer)
 }
 
-fn to_from(door: ToFrom, to: &mut [u8], from: &[u8]) -> [u8; 4] {
+fn to_from(door: ToFrom, to: &mut [u8], from: &[u8]) -> Answer {
     // As above, with the slices in the other order.
     let answer = unsafe { door(to.as_mut_ptr(), to.len(), from.as_ptr(), from.len()) };
-    answer.to_be_bytes()
+    Answer::of_word(answer)
 }

@@ -1,18 +1,20 @@
 //! Histories of page stores, against the reference: after each step its
 //! answer, the buffer that was lent and the whole store.
 
-use crate::lent::{from_to, only_read, to_from};
-use crate::packed::{packed, Bytes};
+use crate::calls;
+use crate::lent::{only_read, Outcome};
+use crate::packed::{kept, packed, Bytes};
 use crate::reading::{bytes_of, frame_of};
 use crate::spares::note;
 use crate::writing::with_stray;
-use crate::{door, pattern, Count};
+use crate::{door, pattern, values, Count};
+use reference::answer::Answer;
 use reference::fields;
 use reference::generate::{
     any_bulletin, any_history, any_record, any_store, any_taking, bad_name, bulletin_page,
     sent_again, too_wide, Bulletin,
 };
-use reference::player::{Answer, Player, Step, Stores, STORES};
+use reference::player::{Player, Step, Stores, STORES};
 use reference::random::Random;
 use reference::record::{Category, Record};
 use reference::samples;
@@ -86,18 +88,39 @@ pub fn spares(count: &mut Count) {
     }
 }
 
-fn agree(count: &mut Count, steps: &[Step]) {
+/// After each step its answer, and the value that was asked for before it.
+pub fn agree(count: &mut Count, steps: &[Step]) {
     let mut ours = Doors([[0; STORE_BYTES]; STORES]);
     let mut theirs = Stores::default();
-    for step in steps {
+    for step in steps.iter().map(kept_step) {
         let store = step.store();
-        let input = [&ours.bytes(store)[..], &argument(&ours, step)].concat();
-        let our_outcome = (ours.play(step), ours.bytes(store));
-        let their_outcome = (theirs.play(step), theirs.bytes(store));
-        count.same(&input, &our_outcome, &their_outcome);
+        let input = [&ours.bytes(store)[..], &argument(&ours, &step)].concat();
+        let our_outcome = (asked(&ours, &step), ours.play(&step), ours.bytes(store));
+        let played = theirs.play(&step);
+        let answer = played.answer;
+        count.same(&input, &our_outcome, &(answer.value, played, theirs.bytes(store)));
         if let Step::Take { record, .. } = step {
-            note(count, record, their_outcome.0.answer);
+            note(count, &record, answer);
         }
+        values::note(count, answer);
+    }
+}
+
+/// A step with the record that its bytes can hold.
+fn kept_step(step: &Step) -> Step {
+    match step {
+        Step::Take { store, record } => Step::Take { store: *store, record: kept(record) },
+        other => other.clone(),
+    }
+}
+
+/// The value that is told where it is asked for before a step. Only opening and
+/// taking have one to tell.
+fn asked(stores: &Doors, step: &Step) -> u64 {
+    match step {
+        Step::Open { name, .. } => only_read(&name.to_bytes(), door::open_value),
+        Step::Take { store, record } => calls::take_value(&stores.bytes(*store), &packed(record)),
+        _ => 0,
     }
 }
 
@@ -120,8 +143,9 @@ pub fn refused_openings(count: &mut Count) {
         let store = any_store(&mut random, &bulletin);
         let name = bad_name(&mut random, &bulletin.name);
         let refusal = Store::open(name).0.expect_err("a value of the name is out of range");
-        let ours = from_to(door::open, &name.to_bytes(), &store);
-        count.same(&name.to_bytes(), &ours, &(refusal.answer(), store.to_vec()));
+        let ours = calls::open(&name.to_bytes(), &store);
+        count.same(&name.to_bytes(), &ours, &Outcome::new(refusal.into(), store.to_vec()));
+        values::note(count, refusal.into());
     }
 }
 
@@ -133,10 +157,12 @@ pub fn stray_records(count: &mut Count) {
         let bulletin = any_bulletin(&mut random);
         let store = any_store(&mut random, &bulletin);
         let record = stray_record(&mut random, &bulletin);
-        let ours = to_from(door::take, &store, &record);
+        let ours = calls::take(&store, &record);
         let sound = Store::of_bytes(&store).is_sound();
-        let expected = if sound { door::write(&record, &mut [0; 32]) } else { [14, 0, 0, 0] };
-        count.same(&[&store[..], &record].concat(), &ours, &(expected, store.to_vec()));
+        let written = || door::write(&record, &mut [0; 32]);
+        let expected = if sound { written() } else { Answer::refused(14) };
+        let input = [&store[..], &record].concat();
+        count.same(&input, &ours, &Outcome::new(expected, store.to_vec()));
     }
 }
 
@@ -176,14 +202,14 @@ pub fn document_004(count: &mut Count) {
 fn delivered(count: &mut Count, random: &mut Random, pages: &[Record], text: &str) {
     let (mut east, west) = two_receivers(random, pages);
     let answer = door::merge(&mut east, &west);
-    count.same(&west, &answer, &[0; 4]);
+    count.same(&west, &answer, &Answer::FINE);
     let mut lent = pattern(1134);
     let mut expected = pattern(1134);
     expected[..text.len()].copy_from_slice(text.as_bytes());
     let answer = door::text(&east, &mut lent);
     let characters = std::str::from_utf8(&lent[..text.len()]).map(str::to_owned);
     count.same(&east, &characters, &Ok(text.to_owned()));
-    count.same(&east, &(answer, lent), &((text.len() as u32).to_be_bytes(), expected));
+    count.same(&east, &(answer, lent), &(Answer::of_word(text.len() as u32), expected));
 }
 
 /// What two receivers heard of a bulletin, each page by at least one of them.
@@ -202,10 +228,10 @@ fn two_receivers(random: &mut Random, pages: &[Record]) -> (StoreBytes, StoreByt
 fn received(first: &Record, pages: &[&Record]) -> StoreBytes {
     let name = Name::of_record(first).expect("it is a Nankai page");
     let mut store = [0xA5; STORE_BYTES];
-    assert_eq!(door::open(&name.to_bytes(), &mut store), [0; 4]);
+    assert_eq!(door::open(&name.to_bytes(), &mut store), Answer::FINE);
     for page in pages {
         let record = bytes_of(&frame_of(page));
-        assert_eq!(door::take(&mut store, &record), [0, 0, 0, 1]);
+        assert_eq!(door::take(&mut store, &record), Answer::of_word(1));
     }
     store
 }

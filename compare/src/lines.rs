@@ -1,10 +1,13 @@
 //! Lines of digits, read into the bytes of a record and written from frames,
 //! against the reference.
 
+use crate::calls;
 use crate::lent::{from_to, refused, Outcome};
 use crate::packed::LENGTH;
 use crate::reading::{agree_on_record, frame_of};
+use crate::values::value_of;
 use crate::{door, pattern, Count};
+use reference::answer::Answer;
 use reference::generate::{any_frame, any_line, slices};
 use reference::line::{line_of_frame, read_line, write_line, DIGITS};
 use reference::random::Random;
@@ -41,13 +44,15 @@ pub fn line_lengths(count: &mut Count) {
     }
 }
 
-/// A buffer for the record of another length is 255, whatever the line is.
+/// A buffer for the record of another length is 255, whatever the line is. The
+/// value is asked of the line alone.
 pub fn record_lengths(count: &mut Count) {
     let mut random = Random::new(64);
     for _ in 0..1000 {
         let line = any_line(&mut random);
         for length in [0, LENGTH - 1, LENGTH + 1] {
-            let expected = refused(255, &pattern(length));
+            let asked = value_of(read_line(&line));
+            let expected = Outcome { asked, ..refused(255, &pattern(length)) };
             count.same(&line, &record_of(&line, length), &expected);
         }
     }
@@ -74,26 +79,27 @@ pub fn there_and_back(count: &mut Count) {
     for _ in 0..ANY_FRAMES {
         let frame = any_frame(&mut random);
         let mut line = [0; DIGITS];
-        if door::write_line(&frame, &mut line) == [0; 4] {
-            let expected = from_to(door::read, &frame, &pattern(LENGTH));
+        if door::write_line(&frame, &mut line) == Answer::FINE {
+            let expected = calls::read(&frame, &pattern(LENGTH));
             count.same(&frame, &record_of(&line, LENGTH), &expected);
         }
     }
 }
 
-fn agree(count: &mut Count, line: &[u8]) {
+/// Answer, value, place and every field of a line.
+pub fn agree(count: &mut Count, line: &[u8]) {
     agree_on_record(count, line, record_of(line, LENGTH), read_line(line));
 }
 
 /// What the proved reader does with a line.
 fn record_of(line: &[u8], length: usize) -> Outcome {
-    from_to(door::read_line, line, &pattern(length))
+    calls::read_line(line, &pattern(length))
 }
 
 fn agree_on_writing(count: &mut Count, frame: &[u8], length: usize) {
     let ours = from_to(door::write_line, frame, &pattern(length));
     let mut theirs = pattern(length);
     let their_answer = write_line(frame, &mut theirs);
-    let their_answer = their_answer.map_or_else(|refusal| refusal.answer(), |()| [0; 4]);
-    count.same(frame, &ours, &(their_answer, theirs));
+    let their_answer = their_answer.map_or_else(Answer::from, |()| Answer::FINE);
+    count.same(frame, &ours, &Outcome::new(their_answer, theirs));
 }

@@ -4,6 +4,7 @@
 //! differ. With the word `measure` it compares their speed instead, which is not
 //! part of the tests.
 
+mod calls;
 mod door;
 mod histories;
 mod lent;
@@ -16,11 +17,69 @@ mod parity;
 mod reading;
 mod spares;
 mod store_lengths;
+mod values;
 mod writing;
 
 pub use reference::player::pattern;
 use std::collections::BTreeMap;
 use std::fmt::Debug;
+
+type Comparison = fn(&mut Count);
+
+/// Every comparison with its name, in the order in which they run.
+const COMPARISONS: &[(&str, Comparison)] = &[
+    ("parity", parity::compare),
+    ("one field, every place and width", one_field::every_place),
+    ("one field, slices of 0 to 40 bytes and of 64", one_field::slice_lengths),
+    ("one field, far beyond the end", one_field::far_beyond),
+    ("one field, document 004", one_field::document_004),
+    ("reading, frames of all kinds", reading::any_frames),
+    ("reading, fields at their bounds", reading::boundaries),
+    ("reading, every arrival of every area", reading::arrivals),
+    ("reading, spares with all kinds of bits", reading::spares),
+    ("reading, slices of 0 to 40 bytes", reading::slice_lengths),
+    ("reading, buffers of other lengths", reading::buffer_lengths),
+    ("reading, document 004", reading::document_004),
+    ("writing, records of all kinds", writing::any_records),
+    ("writing, fields at their bounds", writing::boundaries),
+    ("writing, every arrival of every area", writing::arrivals),
+    ("writing, spares of all sizes", writing::spares),
+    ("writing, spares too wide among other faults", writing::wide_spares),
+    ("writing, document 004", writing::document_004),
+    ("writing, frames of other lengths", writing::frame_lengths),
+    ("writing, record bytes of other lengths", writing::record_lengths),
+    ("writing, a bit where no field stands", writing::stray_bits),
+    ("writing, bytes where no field stands", writing::stray_records),
+    ("writing, no category", writing::no_category),
+    ("written and read again", writing::there_and_back),
+    ("meanings, every depth", meanings::depths),
+    ("meanings, every magnitude", meanings::magnitudes),
+    ("meanings, every hour and minute of an arrival", meanings::arrivals),
+    ("meanings, every height", meanings::heights),
+    ("meanings, every place and wider ones", meanings::places),
+    ("meanings, slots in record bytes of other lengths", meanings::record_lengths),
+    ("lines of all kinds", lines::any_lines),
+    ("lines, every byte at every place", lines::characters),
+    ("lines of other lengths", lines::line_lengths),
+    ("lines, buffers of other lengths", lines::record_lengths),
+    ("lines, written", lines::written),
+    ("lines, written and read again", lines::there_and_back),
+    ("stores, histories of all kinds", histories::any_histories),
+    ("stores, pages sent again with other spares", histories::spares),
+    ("stores, refused openings", histories::refused_openings),
+    ("stores, names and buffers of other lengths", store_lengths::openings),
+    ("stores of other lengths", store_lengths::stores),
+    ("stores, record bytes of other lengths", store_lengths::records),
+    ("stores, record bytes that no record has", histories::stray_records),
+    ("stores, document 004", histories::document_004),
+    ("values, every field of a frame", values::frames),
+    ("values, two faults in a frame", values::frame_faults),
+    ("values, lines of frames with faults", values::lines),
+    ("values, every number of a record", values::records),
+    ("values, two faults in a record", values::record_faults),
+    ("values, every byte of a name", values::names),
+    ("values, records taken into a store", values::takings),
+];
 
 /// Counts agreements and stops at the first disagreement.
 #[derive(Default)]
@@ -46,7 +105,7 @@ impl Count {
     }
 }
 
-fn run(name: &str, compare: fn(&mut Count)) {
+fn run(name: &str, compare: Comparison) {
     let mut count = Count::default();
     compare(&mut count);
     let noted = count.noted.iter().map(|(kind, number)| format!(", {number} {kind}"));
@@ -57,48 +116,5 @@ fn main() {
     if std::env::args().nth(1).as_deref() == Some("measure") {
         return measure::measure();
     }
-    run("parity", parity::compare);
-    run("one field, every place and width", one_field::every_place);
-    run("one field, slices of 0 to 40 bytes and of 64", one_field::slice_lengths);
-    run("one field, far beyond the end", one_field::far_beyond);
-    run("one field, document 004", one_field::document_004);
-    run("reading, frames of all kinds", reading::any_frames);
-    run("reading, fields at their bounds", reading::boundaries);
-    run("reading, every arrival of every area", reading::arrivals);
-    run("reading, spares with all kinds of bits", reading::spares);
-    run("reading, slices of 0 to 40 bytes", reading::slice_lengths);
-    run("reading, buffers of other lengths", reading::buffer_lengths);
-    run("reading, document 004", reading::document_004);
-    run("writing, records of all kinds", writing::any_records);
-    run("writing, fields at their bounds", writing::boundaries);
-    run("writing, every arrival of every area", writing::arrivals);
-    run("writing, spares of all sizes", writing::spares);
-    run("writing, spares too wide among other faults", writing::wide_spares);
-    run("writing, document 004", writing::document_004);
-    run("writing, frames of other lengths", writing::frame_lengths);
-    run("writing, record bytes of other lengths", writing::record_lengths);
-    run("writing, a bit where no field stands", writing::stray_bits);
-    run("writing, bytes where no field stands", writing::stray_records);
-    run("writing, no category", writing::no_category);
-    run("written and read again", writing::there_and_back);
-    run("meanings, every depth", meanings::depths);
-    run("meanings, every magnitude", meanings::magnitudes);
-    run("meanings, every hour and minute of an arrival", meanings::arrivals);
-    run("meanings, every height", meanings::heights);
-    run("meanings, every place and wider ones", meanings::places);
-    run("meanings, slots in record bytes of other lengths", meanings::record_lengths);
-    run("lines of all kinds", lines::any_lines);
-    run("lines, every byte at every place", lines::characters);
-    run("lines of other lengths", lines::line_lengths);
-    run("lines, buffers of other lengths", lines::record_lengths);
-    run("lines, written", lines::written);
-    run("lines, written and read again", lines::there_and_back);
-    run("stores, histories of all kinds", histories::any_histories);
-    run("stores, pages sent again with other spares", histories::spares);
-    run("stores, refused openings", histories::refused_openings);
-    run("stores, names and buffers of other lengths", store_lengths::openings);
-    run("stores of other lengths", store_lengths::stores);
-    run("stores, record bytes of other lengths", store_lengths::records);
-    run("stores, record bytes that no record has", histories::stray_records);
-    run("stores, document 004", histories::document_004);
+    COMPARISONS.iter().for_each(|(name, compare)| run(name, *compare));
 }

@@ -19,15 +19,24 @@ pub type Bytes = [u8; LENGTH];
 /// A row of a category's table, with its first bit and the bytes it takes.
 struct Row {
     first: usize,
-    spare: bool,
     bytes: Range<usize>,
 }
 
-/// What stands nowhere in the record is zero. A record of the reference may have
-/// spares for which there is no place: one that is wider than its bytes becomes
-/// the most that they hold, which is too wide as well; one that the category does
-/// not have goes behind its last row, where it has nothing either; and without a
-/// category none is kept.
+/// The record that its bytes can hold. A record of the reference may have a spare
+/// that is wider than the bytes for it; it becomes the most that they hold, which
+/// is too wide as well, but is another value.
+pub fn kept(record: &Record) -> Record {
+    let own = record.body.category().map_or(Vec::new(), spares);
+    let mut kept = *record;
+    for (value, spare) in kept.spares.iter_mut().zip(own) {
+        *value = (*value).min(most(size(spare.width)));
+    }
+    kept
+}
+
+/// What stands nowhere in the record is zero. Of the spares, one that the category
+/// does not have goes behind its last row, where it has nothing either; and without
+/// a category none is there.
 pub fn packed(record: &Record) -> Bytes {
     let mut bytes = [0; LENGTH];
     bytes[1] = record.preamble;
@@ -64,14 +73,14 @@ pub fn unused(category: Option<Category>) -> Vec<usize> {
 /// What a category has beside slots and text, from Spare1 on in the order of
 /// the frame, one behind the other.
 fn rows(category: Category) -> Vec<Row> {
-    let spares: Vec<usize> = spares(category).iter().map(|spare| spare.first).collect();
+    let spare1 = spares(category)[0].first;
     let mut end = OWN;
     let row = |Field { first, width, .. }| {
         let start = end;
         end += size(width);
-        Row { first, spare: spares.contains(&first), bytes: start..end }
+        Row { first, bytes: start..end }
     };
-    fields(category).into_iter().filter(|field| field.first >= spares[0]).map(row).collect()
+    fields(category).into_iter().filter(|field| field.first >= spare1).map(row).collect()
 }
 
 fn end_of_rows(category: Category) -> usize {
@@ -88,14 +97,19 @@ pub fn size(width: usize) -> usize {
     }
 }
 
+/// The most that so many bytes hold.
+fn most(bytes: usize) -> u64 {
+    u64::MAX >> (64 - 8 * bytes)
+}
+
 fn put_own(bytes: &mut Bytes, record: &Record, category: Category) {
-    let numbers = placed(record, category);
+    let numbers = placed(&kept(record), category);
     for row in rows(category) {
         let number = numbers.iter().find(|number| number.first == row.first);
         let value = number.expect("every field of the category is placed").value;
-        let most = u64::MAX >> (64 - 8 * row.bytes.len());
-        assert!(row.spare || value <= most, "a number is wider than its bytes");
-        put(bytes, row.bytes.start, &value.min(most).to_be_bytes()[8 - row.bytes.len()..]);
+        let length = row.bytes.len();
+        assert!(value <= most(length), "a number is wider than its bytes");
+        put(bytes, row.bytes.start, &value.to_be_bytes()[8 - length..]);
     }
     for lacking in &record.spares[spares(category).len()..] {
         put(bytes, end_of_rows(category), &lacking.to_be_bytes());

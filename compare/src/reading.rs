@@ -1,11 +1,14 @@
 //! Reading a frame into the bytes of a record, against the reference reader:
-//! answer, place and every field, and what a refusal leaves in the buffer.
+//! answer, place, value and every field, and what a refusal leaves in the buffer.
 
-use crate::lent::{from_to, refused, Outcome};
+use crate::calls;
+use crate::lent::{refused, Outcome};
 use crate::meanings::agree_on_slots;
 use crate::packed::{packed, Bytes, LENGTH, SLOTS, SLOT_LENGTH, TEXT};
 use crate::spares::{note, numbers};
+use crate::values::{self, value_of};
 use crate::{door, pattern, Count};
+use reference::answer::Answer;
 use reference::bits::Frame;
 use reference::fields::{self, slot_layout, Field};
 use reference::generate::{
@@ -85,13 +88,16 @@ pub fn slice_lengths(count: &mut Count) {
 }
 
 /// A buffer of another length is 255, on a right frame and on any other, and
-/// stays as it was.
+/// stays as it was. The value is asked of the frame alone.
 pub fn buffer_lengths(count: &mut Count) {
     let mut random = Random::new(46);
     for category in Category::ALL {
-        for length in [0, LENGTH - 1, LENGTH + 1] {
-            refused_buffer(count, &valid_frame(&mut random, category), length);
-            refused_buffer(count, &any_frame(&mut random), length);
+        for frame in boundary_frames(&mut random, category) {
+            for length in [0, LENGTH - 1, LENGTH + 1] {
+                refused_buffer(count, &frame, length);
+                refused_buffer(count, &valid_frame(&mut random, category), length);
+                refused_buffer(count, &any_frame(&mut random), length);
+            }
         }
     }
 }
@@ -124,8 +130,9 @@ fn silent_slots(count: &mut Count, records: &[Record], used: usize, first_row: u
     }
 }
 
-fn agree(count: &mut Count, frame: &[u8]) {
-    agree_on_record(count, frame, from_to(door::read, frame, &pattern(LENGTH)), read(frame));
+/// Answer, value, place and every field of a frame.
+pub fn agree(count: &mut Count, frame: &[u8]) {
+    agree_on_record(count, frame, calls::read(frame, &pattern(LENGTH)), read(frame));
 }
 
 /// What was read of a frame or of a line into a buffer of the pattern.
@@ -137,17 +144,21 @@ pub fn agree_on_record(
 ) {
     match theirs {
         Ok(record) => {
-            count.same(input, &ours, &([0; 4], packed(&record).to_vec()));
-            agree_on_slots(count, &ours.1, &record);
-            note(count, &record, [0; 4]);
+            count.same(input, &ours, &Outcome::new(Answer::FINE, packed(&record).to_vec()));
+            agree_on_slots(count, &ours.lent, &record);
+            note(count, &record, Answer::FINE);
         }
-        Err(refusal) => count.same(input, &ours, &(refusal.answer(), pattern(LENGTH))),
+        Err(refusal) => {
+            count.same(input, &ours, &Outcome::new(refusal.into(), pattern(LENGTH)));
+            values::note(count, refusal.into());
+        }
     }
 }
 
 fn refused_buffer(count: &mut Count, frame: &[u8], length: usize) {
     let buffer = pattern(length);
-    count.same(frame, &from_to(door::read, frame, &buffer), &refused(255, &buffer));
+    let expected = Outcome { asked: value_of(read(frame)), ..refused(255, &buffer) };
+    count.same(frame, &calls::read(frame, &buffer), &expected);
 }
 
 /// The frame of a record that is valid.

@@ -1,13 +1,16 @@
 //! Names, stores and record bytes of other lengths, lent to the functions on
 //! stores: what they answer, and that every buffer stays as it was.
 
-use crate::lent::{from_to, only_read, refused, resized, to_from};
+use crate::calls;
+use crate::lent::{from_to, only_read, refused, resized, to_from, Outcome};
 use crate::packed::{packed, LENGTH};
+use crate::values::value_of;
 use crate::{door, pattern, Count};
+use reference::answer::Answer;
 use reference::generate::{any_bulletin, any_store, any_taking, bad_name, sound_store, Bulletin};
 use reference::random::Random;
 use reference::record::Record;
-use reference::store::{Store, NAME_BYTES, STORE_BYTES};
+use reference::store::{Name, Store, NAME_BYTES, STORE_BYTES};
 
 const ROUNDS: usize = 2_000;
 const RECORD_ROUNDS: usize = 200;
@@ -19,18 +22,25 @@ pub fn openings(count: &mut Count) {
     for _ in 0..ROUNDS {
         let bulletin = any_bulletin(&mut random);
         let bad = bad_name(&mut random, &bulletin.name);
-        let name = random.pick(&[bulletin.name, bad]).to_bytes();
+        let name = random.pick(&[bulletin.name, bad]);
         let store = any_store(&mut random, &bulletin);
         for name_length in lengths(&mut random, NAME_BYTES) {
             for length in lengths(&mut random, STORE_BYTES) {
                 if (name_length, length) != (NAME_BYTES, STORE_BYTES) {
-                    let (name, store) = (resized(&name, name_length), resized(&store, length));
-                    let ours = from_to(door::open, &name, &store);
-                    count.same(&[&name[..], &store].concat(), &ours, &refused(255, &store));
+                    not_opened(count, &name, name_length, &resized(&store, length));
                 }
             }
         }
     }
+}
+
+/// The value is asked of the name alone, and only 8 bytes are a name.
+fn not_opened(count: &mut Count, name: &Name, name_length: usize, store: &[u8]) {
+    let is_name = name_length == NAME_BYTES;
+    let asked = if is_name { value_of(Store::open(*name).0) } else { 0 };
+    let name = resized(&name.to_bytes(), name_length);
+    let expected = Outcome { asked, ..refused(255, store) };
+    count.same(&[&name[..], store].concat(), &calls::open(&name, store), &expected);
 }
 
 /// A store that is not 1205 bytes is 14 in each call, whatever is lent beside
@@ -57,11 +67,12 @@ pub fn records(count: &mut Count) {
         let store = any_store(&mut random, &bulletin);
         let record = packed(&any_taking(&mut random, &bulletin));
         let answer = Store::of_bytes(&store).take(&Record::default());
-        let expected = answer.expect_err("a record of zeros is refused").answer();
+        let expected = answer.expect_err("a record of zeros is refused").into();
         for length in (0..=300).filter(|&length| length != LENGTH) {
             let record = resized(&record, length);
-            let ours = to_from(door::take, &store, &record);
-            count.same(&[&store[..], &record].concat(), &ours, &(expected, store.to_vec()));
+            let input = [&store[..], &record].concat();
+            let expected = Outcome::new(expected, store.to_vec());
+            count.same(&input, &calls::take(&store, &record), &expected);
         }
     }
 }
@@ -70,7 +81,7 @@ fn not_taken_into(count: &mut Count, random: &mut Random, bulletin: &Bulletin, s
     let record = packed(&any_taking(random, bulletin));
     for length in lengths(random, LENGTH) {
         let record = resized(&record, length);
-        count.same(store, &to_from(door::take, store, &record), &refused(14, store));
+        count.same(store, &calls::take(store, &record), &refused(14, store));
     }
 }
 
@@ -86,7 +97,7 @@ fn not_merged(count: &mut Count, random: &mut Random, bulletin: &Bulletin, store
 }
 
 fn not_told(count: &mut Count, random: &mut Random, store: &[u8]) {
-    count.same(store, &only_read(store, door::report), &[14, 0, 0, 0]);
+    count.same(store, &only_read(store, door::report), &Answer::refused(14));
     for length in [0, random.below(1134), 1134] {
         let text = pattern(length);
         count.same(store, &from_to(door::text, store, &text), &refused(14, &text));

@@ -1,11 +1,13 @@
 //! Writing the bytes of a record to a frame, against the reference writer:
-//! answer, place and all 32 bytes, and what a refusal leaves in the frame.
+//! answer, place, value and all 32 bytes, and what a refusal leaves in the frame.
 
-use crate::lent::{from_to, resized, Outcome};
+use crate::calls;
+use crate::lent::{resized, Outcome};
 use crate::meanings::agree_on_slots;
-use crate::packed::{packed, size, unused, Bytes, LENGTH};
+use crate::packed::{kept, packed, size, unused, Bytes, LENGTH};
 use crate::spares::{note, numbers};
-use crate::{door, lent, pattern, Count};
+use crate::{lent, pattern, values, Count};
+use reference::answer::Answer;
 use reference::fields;
 use reference::generate::{
     any_record, boundary_records, slot_count, too_wide, valid_record, valid_slot,
@@ -18,7 +20,7 @@ use reference::write::write;
 const ANY_RECORDS: usize = 1_000_000;
 const STRAY_RECORDS: usize = 200_000;
 const WIDE_RECORDS: usize = 200_000;
-const FRAME_LENGTH: usize = 32;
+pub const FRAME_LENGTH: usize = 32;
 
 /// Records of every kind that the reference builds, right ones and wrong ones.
 pub fn any_records(count: &mut Count) {
@@ -95,6 +97,9 @@ pub fn frame_lengths(count: &mut Count) {
         for length in [0, 31, 33, 40] {
             agree(count, &valid_record(&mut random, category), length);
             agree(count, &any_record(&mut random), length);
+            for record in boundary_records(&mut random, category) {
+                agree(count, &record, length);
+            }
             let record = valid_record(&mut random, category);
             let stray = with_stray(&mut random, &record);
             count.same(&stray, &outcome(&stray, length), &refused(1, length));
@@ -139,7 +144,7 @@ pub fn stray_records(count: &mut Count) {
     for _ in 0..STRAY_RECORDS {
         let record = any_record(&mut random);
         let bytes = with_stray(&mut random, &record);
-        let number = match expected(&record, FRAME_LENGTH).0[0] {
+        let number = match expected(&record, FRAME_LENGTH).answer.number {
             earlier @ (3 | 7) => earlier,
             _ => 11,
         };
@@ -175,11 +180,11 @@ pub fn there_and_back(count: &mut Count) {
 
 fn back(count: &mut Count, record: &Record) {
     let bytes = packed(record);
-    let (answer, frame) = outcome(&bytes, FRAME_LENGTH);
-    if answer == [0; 4] {
-        let read = from_to(door::read, &frame, &pattern(LENGTH));
-        count.same(&bytes, &read, &([0; 4], bytes.to_vec()));
-        note(count, record, answer);
+    let written = outcome(&bytes, FRAME_LENGTH);
+    if written.answer == Answer::FINE {
+        let read = calls::read(&written.lent, &pattern(LENGTH));
+        count.same(&bytes, &read, &Outcome::new(Answer::FINE, bytes.to_vec()));
+        note(count, record, written.answer);
     }
 }
 
@@ -188,25 +193,27 @@ fn all_boundary_records() -> Vec<Record> {
     Category::ALL.into_iter().flat_map(|one| boundary_records(&mut random, one)).collect()
 }
 
-fn agree(count: &mut Count, record: &Record, length: usize) {
+/// Answer, value, place and the frame of so many bytes.
+pub fn agree(count: &mut Count, record: &Record, length: usize) {
     let bytes = packed(record);
     let expected = expected(record, length);
     count.same(&bytes, &outcome(&bytes, length), &expected);
     agree_on_slots(count, &bytes, record);
-    note(count, record, expected.0);
+    note(count, record, expected.answer);
+    values::note(count, expected.answer);
 }
 
 /// What the proved writer does.
 fn outcome(bytes: &[u8], length: usize) -> Outcome {
-    from_to(door::write, bytes, &pattern(length))
+    calls::write(bytes, &pattern(length))
 }
 
 /// What the reference writer does.
 fn expected(record: &Record, length: usize) -> Outcome {
     let mut frame = pattern(length);
-    match write(record, &mut frame) {
-        Ok(()) => ([0; 4], frame),
-        Err(refusal) => (refusal.answer(), pattern(length)),
+    match write(&kept(record), &mut frame) {
+        Ok(()) => Outcome::new(Answer::FINE, frame),
+        Err(refusal) => Outcome::new(refusal.into(), pattern(length)),
     }
 }
 

@@ -1,6 +1,7 @@
 /* Refused calls on stores: each number in its turn, and every buffer as it was. */
 #include "groups.h"
 
+#include "bulletin_calls.h"
 #include "bulletin_samples.h"
 #include "check.h"
 #include "lavendelzug.h"
@@ -8,37 +9,6 @@
 #include "spare_samples.h"
 
 #include <string.h>
-
-/* lz_take and lz_merge: a store, and what goes into it. */
-typedef uint32_t (*into_store)(uint8_t *, size_t, const uint8_t *, size_t);
-
-struct bytes {
-    const uint8_t *first;
-    size_t length;
-};
-
-/* A copy of the bytes is lent, so that they can be compared with it afterwards. */
-static void refused_is(int line, const char *name, into_store call, uint32_t expected,
-                       struct bytes store, struct bytes other)
-{
-    uint8_t lent[LZ_STORE_BYTES + 1], lent_beside[LZ_STORE_BYTES + 1];
-    memcpy(lent, store.first, store.length);
-    memcpy(lent_beside, other.first, other.length);
-    same_word(__FILE__, line, name, expected,
-              call(lent, store.length, lent_beside, other.length));
-    same_bytes(__FILE__, line, "store", store.first, lent, store.length);
-    same_bytes(__FILE__, line, "lent beside it", other.first, lent_beside, other.length);
-}
-
-#define BYTES(first, length) ((struct bytes){(first), (length)})
-
-#define TAKING_IS(expected, store, record) \
-    refused_is(__LINE__, "lz_take", lz_take, (expected), BYTES(store, LZ_STORE_BYTES), \
-               BYTES(record, LZ_RECORD_BYTES))
-
-#define MERGING_IS(expected, store, other) \
-    refused_is(__LINE__, "lz_merge", lz_merge, (expected), BYTES(store, LZ_STORE_BYTES), \
-               BYTES(other, LZ_STORE_BYTES))
 
 /* A spare of another category than 4 plays a part only where it is too wide. */
 static void check_no_page_with_spares(const uint8_t *store, const struct spared *sample)
@@ -49,7 +19,7 @@ static void check_no_page_with_spares(const uint8_t *store, const struct spared 
         report_with_spares(&report, sample);
         TAKING_IS(refused(LZ_REFUSED_NO_PAGE), store, report.record);
         put_bytes(report.record + spare->at, spare->bytes, highest_of(spare) + 1);
-        TAKING_IS(refused_at(LZ_REFUSED_RANGE, spare->first), store, report.record);
+        TAKING_IS(out_of_range(spare->first, highest_of(spare) + 1), store, report.record);
     }
 }
 
@@ -65,7 +35,7 @@ static void check_no_page_taken(const uint8_t *store)
         spared[i].record(record);
         TAKING_IS(refused(LZ_REFUSED_NO_PAGE), store, record);
         record[LZ_RECORD_RC] = 0;
-        TAKING_IS(refused_at(LZ_REFUSED_RANGE, 14), store, record);
+        TAKING_IS(out_of_range(14, 0), store, record);
         record[LZ_RECORD_TEXT] = 1;
         TAKING_IS(refused(LZ_REFUSED_UNUSED), store, record);
     }
@@ -75,18 +45,19 @@ static void check_no_page_taken(const uint8_t *store)
     TAKING_IS(refused(LZ_REFUSED_NO_PAGE), store, record);
 }
 
-/* A byte of a page whose spare then is too wide. */
+/* A byte of a page whose spare then is too wide, and what the spare is. */
 struct wide {
     unsigned at;
-    uint8_t value;
+    uint8_t byte;
     unsigned place;
+    uint64_t value;
 };
 
 static const struct wide wide[] = {
-    {LZ_NANKAI_SPARE1, 4, 43},
-    {LZ_NANKAI_SPARE1, 0xFF, 43},
-    {LZ_NANKAI_SPARE2, 2, 213},
-    {LZ_NANKAI_SPARE2, 0xFF, 213},
+    {LZ_NANKAI_SPARE1, 4, 43, 0x400},
+    {LZ_NANKAI_SPARE1, 0xFF, 43, 0xFF00},
+    {LZ_NANKAI_SPARE2, 2, 213, 2},
+    {LZ_NANKAI_SPARE2, 0xFF, 213, 0xFF},
 };
 
 /* Of this bulletin, with either text, or of another one: 8. With a byte behind the fields: 11. */
@@ -94,9 +65,9 @@ static void check_wide_page_taken(const uint8_t *store)
 {
     uint8_t record[LZ_RECORD_BYTES];
     for (size_t i = 0; i < COUNT(wide); i++) {
-        uint32_t expected = refused_at(LZ_REFUSED_RANGE, wide[i].place);
+        struct answer expected = out_of_range(wide[i].place, wide[i].value);
         page_record(record, 2, page_texts[1]);
-        record[wide[i].at] = wide[i].value;
+        record[wide[i].at] = wide[i].byte;
         TAKING_IS(expected, store, record);
         memcpy(record + LZ_RECORD_TEXT, other_text, LZ_PAGE_TEXT_BYTES);
         TAKING_IS(expected, store, record);
@@ -130,7 +101,7 @@ void check_taking_refused(void)
         TAKING_IS(refused(LZ_REFUSED_UNUSED), store, record);
     }
     page_record(record, 4, page_texts[0]);
-    TAKING_IS(refused_at(LZ_REFUSED_RANGE, 207), store, record);
+    TAKING_IS(out_of_range(207, 3), store, record);
     record[LZ_NANKAI_TOTAL] = 4;
     TAKING_IS(refused(LZ_REFUSED_OTHER_BULLETIN), store, record);
     page_record(record, 1, page_texts[0]);
@@ -139,7 +110,7 @@ void check_taking_refused(void)
     nankai_record(record);
     TAKING_IS(refused(LZ_REFUSED_OTHER_BULLETIN), store, record);
     page_record(record, 1, page_texts[0]);
-    TAKING_IS(LZ_TAKEN_SAME, store, record);
+    TAKING_IS(answered(LZ_TAKEN_SAME), store, record);
 }
 
 /* 14 for either store, then 13. */
@@ -156,44 +127,44 @@ void check_merging_refused(void)
         static const uint8_t others[LZ_NAME_BYTES] = {7, 9, 9, 17, 44, 0, 5, 4};
         memcpy(name, bulletin_name, sizeof name);
         name[i] = others[i];
-        SAME_WORD(LZ_FINE, lz_open(name, sizeof name, other, sizeof other));
+        CALL_IS(answered(LZ_FINE), opening, name, sizeof name, other, sizeof other);
         MERGING_IS(refused(LZ_REFUSED_OTHER_BULLETIN), store, other);
     }
 }
 
 static void telling_is_unsound(int line, struct bytes store)
 {
-    uint32_t unsound = refused(LZ_REFUSED_UNSOUND);
+    struct answer unsound = refused(LZ_REFUSED_UNSOUND);
     uint8_t lent[LZ_STORE_BYTES + 1], text[LZ_TEXT_MOST];
     memcpy(lent, store.first, store.length);
     fill(text, sizeof text);
-    same_word(__FILE__, line, "lz_text", unsound,
-              lz_text(lent, store.length, text, sizeof text));
-    same_word(__FILE__, line, "lz_text", unsound, lz_text(lent, store.length, text, 0));
+    same_answer(__FILE__, line, "lz_text", unsound,
+                lz_text(lent, store.length, text, sizeof text));
+    same_answer(__FILE__, line, "lz_text", unsound, lz_text(lent, store.length, text, 0));
     untouched(__FILE__, line, "text", text, 0, sizeof text);
-    same_word(__FILE__, line, "lz_count", unsound, lz_count(lent, store.length));
+    same_answer(__FILE__, line, "lz_count", unsound, lz_count(lent, store.length));
     same_bytes(__FILE__, line, "store", store.first, lent, store.length);
 }
 
 /* Whatever is lent beside the store, even what would be refused by itself. */
 static void unsound_in_each_call(int line, struct bytes store)
 {
-    uint32_t unsound = refused(LZ_REFUSED_UNSOUND);
+    struct answer unsound = refused(LZ_REFUSED_UNSOUND);
     uint8_t full[LZ_STORE_BYTES], page[LZ_RECORD_BYTES], zeros[LZ_RECORD_BYTES] = {0};
     struct bytes sound = {full, sizeof full};
     open_full_store(full);
     page_record(page, 1, page_texts[0]);
-    refused_is(line, "lz_take", lz_take, unsound, store, BYTES(page, sizeof page));
-    refused_is(line, "lz_take", lz_take, unsound, store, BYTES(page, sizeof page - 1));
-    refused_is(line, "lz_take", lz_take, unsound, store, BYTES(zeros, sizeof zeros));
+    taking_is(__FILE__, line, unsound, store, BYTES(page, sizeof page));
+    taking_is(__FILE__, line, unsound, store, BYTES(page, sizeof page - 1));
+    taking_is(__FILE__, line, unsound, store, BYTES(zeros, sizeof zeros));
     page[LZ_NANKAI_SPARE2] = 2;
-    refused_is(line, "lz_take", lz_take, unsound, store, BYTES(page, sizeof page));
-    refused_is(line, "lz_merge", lz_merge, unsound, store, sound);
-    refused_is(line, "lz_merge", lz_merge, unsound, sound, store);
+    taking_is(__FILE__, line, unsound, store, BYTES(page, sizeof page));
+    merging_is(__FILE__, line, unsound, store, sound);
+    merging_is(__FILE__, line, unsound, sound, store);
     full[LZ_NAME_MINUTE]++;
-    refused_is(line, "lz_merge", lz_merge, unsound, store, sound);
-    refused_is(line, "lz_merge", lz_merge, unsound, sound, store);
-    refused_is(line, "lz_merge", lz_merge, unsound, store, store);
+    merging_is(__FILE__, line, unsound, store, sound);
+    merging_is(__FILE__, line, unsound, sound, store);
+    merging_is(__FILE__, line, unsound, store, store);
     telling_is_unsound(line, store);
 }
 
@@ -242,21 +213,25 @@ void check_takings_of_other_lengths(void)
     open_full_store(full);
     page_record(record, 3, page_texts[2]);
     for (unsigned i = 0; i < 3; i++) {
-        refused_is(__LINE__, "lz_take", lz_take, refused(LZ_REFUSED_PREAMBLE), store,
-                   BYTES(record, other_record_lengths[i]));
+        taking_is(__FILE__, __LINE__, refused(LZ_REFUSED_PREAMBLE), store,
+                  BYTES(record, other_record_lengths[i]));
     }
-    TAKING_IS(LZ_TAKEN_SAME, full, record);
+    TAKING_IS(answered(LZ_TAKEN_SAME), full, record);
 }
 
-/* Neither a good name nor one with a page total out of range is looked at. */
+/*
+ * Neither a good name nor one with a page total out of range is looked at. Asked
+ * for the value, the latter is, since that question has no store.
+ */
 static void opening_is_wrong(size_t name_length, size_t store_length)
 {
+    uint64_t value = name_length == LZ_NAME_BYTES ? 64 : 0;
     uint8_t name[LZ_NAME_BYTES + 1] = {0}, store[LZ_STORE_BYTES + 1];
     memcpy(name, bulletin_name, LZ_NAME_BYTES);
     fill(store, sizeof store);
-    SAME_WORD(refused(LZ_WRONG_CALL), lz_open(name, name_length, store, store_length));
+    CALL_IS(refused(LZ_WRONG_CALL), opening, name, name_length, store, store_length);
     name[LZ_NAME_TOTAL] = 64;
-    SAME_WORD(refused(LZ_WRONG_CALL), lz_open(name, name_length, store, store_length));
+    CALL_IS(refused_with(LZ_WRONG_CALL, 0, value), opening, name, name_length, store, store_length);
     UNTOUCHED(store, 0, sizeof store);
 }
 

@@ -1,5 +1,6 @@
 #include "bulletin_samples.h"
 
+#include "calls.h"
 #include "check.h"
 
 #include <string.h>
@@ -35,7 +36,7 @@ void page_record(uint8_t *record, uint8_t page, const uint8_t *text)
 void open_store(uint8_t *store)
 {
     fill(store, LZ_STORE_BYTES);
-    SAME_WORD(LZ_FINE, lz_open(bulletin_name, LZ_NAME_BYTES, store, LZ_STORE_BYTES));
+    CALL_IS(answered(LZ_FINE), opening, bulletin_name, LZ_NAME_BYTES, store, LZ_STORE_BYTES);
 }
 
 void open_full_store(uint8_t *store)
@@ -46,9 +47,16 @@ void open_full_store(uint8_t *store)
     }
 }
 
+uint32_t take_record(uint8_t *store, const uint8_t *record)
+{
+    taking_value_is(__FILE__, __LINE__, 0, BYTES(store, LZ_STORE_BYTES),
+                    BYTES(record, LZ_RECORD_BYTES));
+    return lz_take(store, LZ_STORE_BYTES, record, LZ_RECORD_BYTES);
+}
+
 uint32_t take_page(uint8_t *store, uint8_t page, const uint8_t *text)
 {
     uint8_t record[LZ_RECORD_BYTES];
     page_record(record, page, text);
-    return lz_take(store, LZ_STORE_BYTES, record, sizeof record);
+    return take_record(store, record);
 }

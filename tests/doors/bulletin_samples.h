@@ -18,7 +18,8 @@ void open_store(uint8_t *store);
 /* With all three pages. */
 void open_full_store(uint8_t *store);
 
-/* What lz_take answers. */
+/* What lz_take answers of a record with nothing out of range, so that it has no value. */
+uint32_t take_record(uint8_t *store, const uint8_t *record);
 uint32_t take_page(uint8_t *store, uint8_t page, const uint8_t *text);
 
 #endif

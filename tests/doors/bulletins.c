@@ -2,6 +2,7 @@
 #include "groups.h"
 
 #include "bulletin_samples.h"
+#include "calls.h"
 #include "check.h"
 #include "lavendelzug.h"
 
@@ -10,11 +11,11 @@
 #define SAME_COUNTS(store, held, disputed, lowest) \
     SAME_WORD(counted((held), (disputed), (lowest)), lz_count((store), LZ_STORE_BYTES))
 
-static void text_refused(int line, uint32_t expected, const uint8_t *store, size_t room)
+static void text_refused(int line, struct answer expected, const uint8_t *store, size_t room)
 {
     uint8_t lent[LZ_TEXT_MOST];
     fill(lent, sizeof lent);
-    same_word(__FILE__, line, "lz_text", expected, lz_text(store, LZ_STORE_BYTES, lent, room));
+    same_answer(__FILE__, line, "lz_text", expected, lz_text(store, LZ_STORE_BYTES, lent, room));
     untouched(__FILE__, line, "text", lent, 0, sizeof lent);
 }
 
@@ -28,8 +29,8 @@ static void opening_refused(int line, unsigned at, uint8_t value, unsigned place
     name[LZ_NAME_TOTAL] = 0;
     name[at] = value;
     fill(store, sizeof store);
-    same_word(__FILE__, line, "lz_open", refused_at(LZ_REFUSED_RANGE, place),
-              lz_open(name, sizeof name, store, sizeof store));
+    call_is(__FILE__, line, out_of_range(place, value),
+            (struct call){&opening, {name, sizeof name}, store, sizeof store});
     untouched(__FILE__, line, "store", store, 0, sizeof store);
 }
 
@@ -114,7 +115,7 @@ static uint32_t take_variant(uint8_t *store, size_t variant, const uint8_t *text
             record[differences[i].at] = differences[i].value;
         }
     }
-    return lz_take(store, LZ_STORE_BYTES, record, sizeof record);
+    return take_record(store, record);
 }
 
 /* The store is as if plain pages had come, whether the text is the same or another. */
@@ -182,11 +183,11 @@ static void check_longest_text(void)
     memcpy(name, bulletin_name, sizeof name);
     name[LZ_NAME_TOTAL] = 63;
     fill(expected, sizeof expected);
-    SAME_WORD(LZ_FINE, lz_open(name, sizeof name, store, sizeof store));
+    CALL_IS(answered(LZ_FINE), opening, name, sizeof name, store, sizeof store);
     for (uint8_t page = 63; page >= 1; page--) {
         page_record(record, page, expected + LZ_PAGE_TEXT_BYTES * (page - 1));
         record[LZ_NANKAI_TOTAL] = 63;
-        SAME_WORD(LZ_TAKEN_NEW, lz_take(store, sizeof store, record, sizeof record));
+        SAME_WORD(LZ_TAKEN_NEW, take_record(store, record));
     }
     SAME_COUNTS(store, 63, 0, 0);
     TEXT_IS(expected, 1134, store, LZ_TEXT_MOST);
@@ -227,9 +228,9 @@ void check_live_store_kept(void)
     name[LZ_NAME_TOTAL] = 64;
     open_full_store(store);
     memcpy(before, store, sizeof before);
-    SAME_WORD(refused_at(LZ_REFUSED_RANGE, 207), lz_open(name, sizeof name, store, sizeof store));
+    CALL_IS(out_of_range(207, 64), opening, name, sizeof name, store, sizeof store);
     SAME_BYTES(before, store, LZ_STORE_BYTES);
-    SAME_WORD(refused(LZ_WRONG_CALL), lz_open(name, sizeof name - 1, store, sizeof store));
+    CALL_IS(refused(LZ_WRONG_CALL), opening, name, sizeof name - 1, store, sizeof store);
     SAME_BYTES(before, store, LZ_STORE_BYTES);
     SAME_COUNTS(store, 3, 0, 0);
     TEXT_IS(page_texts[0], BULLETIN_TEXT_BYTES, store, LZ_TEXT_MOST);

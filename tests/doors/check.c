@@ -14,6 +14,22 @@ void same_word(const char *file, int line, const char *what, uint32_t expected,
     }
 }
 
+void same_value(const char *file, int line, const char *what, uint64_t expected,
+                uint64_t got)
+{
+    if (expected != got) {
+        fprintf(stderr, "%s:%d: value of %s: expected %" PRIu64 ", got %" PRIu64 "\n",
+                file, line, what, expected, got);
+        exit(1);
+    }
+}
+
+void same_answer(const char *file, int line, const char *what,
+                 struct answer expected, uint32_t got)
+{
+    same_word(file, line, what, expected.word, got);
+}
+
 static void same_byte(const char *file, int line, const char *what, size_t at,
                       uint8_t expected, uint8_t got)
 {
@@ -58,19 +74,34 @@ static uint32_t word(uint32_t first, uint32_t second, uint32_t third, uint32_t l
     return first * 0x1000000u + second * 0x10000u + third * 0x100u + last;
 }
 
-uint32_t refused_page(unsigned number, unsigned page, unsigned mark)
+struct answer answered(uint32_t answer)
 {
-    return word(number, 0, page, mark);
+    return (struct answer){answer, 0};
 }
 
-uint32_t refused_at(unsigned number, unsigned place)
+struct answer refused_page(unsigned number, unsigned page, unsigned mark)
 {
-    return word(number, place, 0, 0);
+    return answered(word(number, 0, page, mark));
 }
 
-uint32_t refused(unsigned number)
+struct answer refused_with(unsigned number, unsigned place, uint64_t value)
+{
+    return (struct answer){word(number, place, 0, 0), value};
+}
+
+struct answer refused_at(unsigned number, unsigned place)
+{
+    return refused_with(number, place, 0);
+}
+
+struct answer refused(unsigned number)
 {
     return refused_at(number, 0);
+}
+
+struct answer out_of_range(unsigned place, uint64_t value)
+{
+    return refused_with(8, place, value);
 }
 
 uint32_t counted(unsigned held, unsigned disputed, unsigned lowest)

@@ -66,7 +66,7 @@ static void check_values(const struct sample *sample, unsigned first, unsigned w
         report_of(&report, sample->line, sample->record);
         put(report.frame, first, width, value);
         report.record[at] = (uint8_t)value;
-        REPORT_IS(passes ? LZ_FINE : refused_at(LZ_REFUSED_RANGE, first), &report);
+        REPORT_IS(passes ? answered(LZ_FINE) : out_of_range(first, value), &report);
     }
 }
 

@@ -1,17 +1,18 @@
 /*
- * Reading a frame and writing a record: what is answered, and every byte that
- * was lent.
+ * Reading a frame or a line and writing a record: what is answered, the value
+ * that is told of it, and every byte that was lent.
  */
 #ifndef FRAME_CALLS_H
 #define FRAME_CALLS_H
 
+#include "calls.h"
 #include "lavendelzug.h"
 #include "samples.h"
 
-/* Room behind a buffer, in which a call must not write. */
-#define BEHIND 9
-
-/* A refusal: whatever was lent, for the answer too, is as it was. */
+/*
+ * A refusal: whatever was lent, for the answer too, is as it was. Where the frame
+ * has a line, that is refused alike.
+ */
 #define READING_IS(expected, frame, length) \
     reading_is(__FILE__, __LINE__, (expected), (frame), (length))
 #define WRITING_IS(expected, record, room) \
@@ -35,11 +36,13 @@ void report_of(struct report *report, const char *line, sample_record record);
  */
 #define REPORT_IS(expected, report) report_is(__FILE__, __LINE__, (expected), (report))
 
-void reading_is(const char *file, int line, uint32_t expected, const uint8_t *frame,
+void reading_is(const char *file, int line, struct answer expected, const uint8_t *frame,
                 size_t length);
-void writing_is(const char *file, int line, uint32_t expected, const uint8_t *record,
+void line_reading_is(const char *file, int line, struct answer expected, const uint8_t *digits,
+                     size_t length);
+void writing_is(const char *file, int line, struct answer expected, const uint8_t *record,
                 size_t room);
 void each_from_the_other(const char *file, int line, const uint8_t *frame, const uint8_t *record);
-void report_is(const char *file, int line, uint32_t expected, struct report *report);
+void report_is(const char *file, int line, struct answer expected, struct report *report);
 
 #endif

@@ -56,9 +56,9 @@ void check_parity(void)
     SAME_WORD(0xC24C39, lz_parity(frame, LZ_FRAME_BYTES));
     put(frame, 100, 1, 1);
     SAME_WORD(0x8B80B1, lz_parity(frame, LZ_FRAME_BYTES));
-    SAME_WORD(refused(LZ_REFUSED_LENGTH), lz_parity(frame, 0));
-    SAME_WORD(refused(LZ_REFUSED_LENGTH), lz_parity(frame, LZ_FRAME_BYTES - 1));
-    SAME_WORD(refused(LZ_REFUSED_LENGTH), lz_parity(frame, LZ_FRAME_BYTES + 1));
+    SAME_ANSWER(refused(LZ_REFUSED_LENGTH), lz_parity(frame, 0));
+    SAME_ANSWER(refused(LZ_REFUSED_LENGTH), lz_parity(frame, LZ_FRAME_BYTES - 1));
+    SAME_ANSWER(refused(LZ_REFUSED_LENGTH), lz_parity(frame, LZ_FRAME_BYTES + 1));
 }
 
 /* A line, its frame and its record: each is had from another one. */
@@ -71,7 +71,7 @@ static void check_sample(const char *digits, const uint8_t *record)
     EACH_FROM_THE_OTHER(frame, record);
 
     fill(lent, sizeof lent);
-    SAME_WORD(LZ_FINE, lz_read_line(line, LZ_LINE_DIGITS, lent, LZ_RECORD_BYTES));
+    CALL_IS(answered(LZ_FINE), line_reading, line, LZ_LINE_DIGITS, lent, LZ_RECORD_BYTES);
     SAME_BYTES(record, lent, LZ_RECORD_BYTES);
     UNTOUCHED(lent, LZ_RECORD_BYTES, sizeof lent);
 
@@ -109,8 +109,8 @@ void check_all_samples(void)
         for (unsigned i = 0; i < LZ_LINE_DIGITS; i++) {
             small[i] = (uint8_t)tolower((unsigned char)line[i]);
         }
-        SAME_WORD(LZ_FINE, lz_read_line(small, sizeof small, record, sizeof record));
-        SAME_WORD(LZ_FINE, lz_write(record, sizeof record, frame, sizeof frame));
+        CALL_IS(answered(LZ_FINE), line_reading, small, sizeof small, record, sizeof record);
+        CALL_IS(answered(LZ_FINE), writing, record, sizeof record, frame, sizeof frame);
         SAME_WORD(LZ_FINE, lz_write_line(frame, sizeof frame, back, sizeof back));
         SAME_BYTES((const uint8_t *)line, back, LZ_LINE_DIGITS);
         count++;

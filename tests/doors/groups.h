@@ -32,6 +32,17 @@ void check_records_lent_for_reading(void);
 void check_writing_refused(void);
 void check_records_lent_for_writing(void);
 
+/* values.c */
+void check_values_of_fields(void);
+void check_values_together(void);
+void check_values_of_pairs(void);
+void check_values_behind_others(void);
+void check_values_of_names(void);
+void check_values_of_takings(void);
+
+/* value_lengths.c */
+void check_values_of_other_lengths(void);
+
 /* meanings.c */
 void check_depths(void);
 void check_magnitudes(void);

@@ -50,6 +50,13 @@ static const struct group groups[] = {
     {"stores of other lengths", check_stores_of_other_lengths},
     {"records of other lengths, taken", check_takings_of_other_lengths},
     {"names and buffers of other lengths, opened", check_openings_of_other_lengths},
+    {"values of each field", check_values_of_fields},
+    {"values of fields that go together", check_values_together},
+    {"values where two fields are out of range", check_values_of_pairs},
+    {"no values behind other refusals", check_values_behind_others},
+    {"values of names", check_values_of_names},
+    {"values of takings", check_values_of_takings},
+    {"values of other lengths", check_values_of_other_lengths},
 };
 
 int main(void)

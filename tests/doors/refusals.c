@@ -9,71 +9,73 @@
 
 #include <string.h>
 
-/* A field of a sample's frame: a value that is refused, and its own. */
+/* A field of a sample's frame: a value that is refused, and its own; and what is told of it. */
 struct fault {
     unsigned first, width;
     uint32_t wrong, right;
     unsigned number, place;
+    uint32_t value;
 };
 
 /* What comes before the fields of a category, and an Rc that it may not have. */
 #define FIRST_FAULTS(category, rc) \
-    {8, 6, 44, 43, LZ_REFUSED_MESSAGE, 0}, {214, 6, 2, 1, LZ_REFUSED_VERSION, 0}, \
-        {17, 4, 6, (category), LZ_REFUSED_CATEGORY, 0}, {14, 3, (rc), 7, LZ_REFUSED_RANGE, 14}
+    {8, 6, 44, 43, LZ_REFUSED_MESSAGE, 0, 0}, {214, 6, 2, 1, LZ_REFUSED_VERSION, 0, 0}, \
+        {17, 4, 6, (category), LZ_REFUSED_CATEGORY, 0, 0}, \
+        {14, 3, (rc), 7, LZ_REFUSED_RANGE, 14, (rc)}
 
 /* In the order in which they are refused. */
 static const struct fault hypocenter_faults[] = {
     FIRST_FAULTS(2, 1),
-    {41, 2, 1, 0, LZ_REFUSED_RANGE, 41},
-    {53, 9, 100, 226, LZ_REFUSED_RANGE, 53},
-    {96, 9, 502, 40, LZ_REFUSED_RANGE, 96},
-    {105, 7, 0, 64, LZ_REFUSED_RANGE, 105},
-    {157, 6, 60, 0, LZ_REFUSED_RANGE, 157},
+    {41, 2, 1, 0, LZ_REFUSED_RANGE, 41, 1},
+    {53, 9, 100, 226, LZ_REFUSED_RANGE, 53, 100},
+    {96, 9, 502, 40, LZ_REFUSED_RANGE, 96, 502},
+    {105, 7, 0, 64, LZ_REFUSED_RANGE, 105, 0},
+    {157, 6, 60, 0, LZ_REFUSED_RANGE, 157, 60},
 };
 
 /* Nine slots of sixteen are used. */
 static const struct fault intensity_faults[] = {
     FIRST_FAULTS(3, 1),
-    {41, 2, 1, 0, LZ_REFUSED_RANGE, 41},
-    {53, 5, 0, 11, LZ_REFUSED_RANGE, 53},
-    {69, 3, 0, 4, LZ_REFUSED_RANGE, 69},
-    {72, 6, 48, 44, LZ_REFUSED_RANGE, 72},
-    {204, 9, 300, 0, LZ_REFUSED_GAP, 204},
+    {41, 2, 1, 0, LZ_REFUSED_RANGE, 41, 1},
+    {53, 5, 0, 11, LZ_REFUSED_RANGE, 53, 0},
+    {69, 3, 0, 4, LZ_REFUSED_RANGE, 69, 0},
+    {72, 6, 48, 44, LZ_REFUSED_RANGE, 72, 48},
+    {204, 9, 300, 0, LZ_REFUSED_GAP, 204, 0},
 };
 
 static const struct fault nankai_faults[] = {
     FIRST_FAULTS(4, 1),
-    {41, 2, 1, 0, LZ_REFUSED_RANGE, 41},
-    {53, 4, 0, 5, LZ_REFUSED_RANGE, 53},
-    {201, 6, 0, 1, LZ_REFUSED_RANGE, 201},
-    {207, 6, 0, 27, LZ_REFUSED_RANGE, 207},
+    {41, 2, 1, 0, LZ_REFUSED_RANGE, 41, 1},
+    {53, 4, 0, 5, LZ_REFUSED_RANGE, 53, 0},
+    {201, 6, 0, 1, LZ_REFUSED_RANGE, 201, 0},
+    {207, 6, 0, 27, LZ_REFUSED_RANGE, 207, 0},
 };
 
 /* Hour 24 stands with minute 63, since 31 would pass there. An empty second area makes a gap. */
 static const struct fault tsunami_faults[] = {
     FIRST_FAULTS(5, 2),
-    {41, 2, 1, 0, LZ_REFUSED_RANGE, 41},
-    {53, 9, 100, 122, LZ_REFUSED_RANGE, 53},
-    {71, 9, 501, 124, LZ_REFUSED_RANGE, 71},
-    {80, 4, 0, 3, LZ_REFUSED_RANGE, 80},
-    {85, 5, 24, 4, LZ_REFUSED_RANGE, 85},
-    {90, 6, 63, 5, LZ_REFUSED_RANGE, 90},
-    {96, 4, 0, 3, LZ_REFUSED_RANGE, 96},
-    {100, 10, 99, 600, LZ_REFUSED_RANGE, 100},
-    {110, 26, 0, 0x414E62, LZ_REFUSED_GAP, 136},
-    {152, 10, 1001, 760, LZ_REFUSED_RANGE, 152},
-    {188, 1, 1, 0, LZ_REFUSED_GAP, 188},
+    {41, 2, 1, 0, LZ_REFUSED_RANGE, 41, 1},
+    {53, 9, 100, 122, LZ_REFUSED_RANGE, 53, 100},
+    {71, 9, 501, 124, LZ_REFUSED_RANGE, 71, 501},
+    {80, 4, 0, 3, LZ_REFUSED_RANGE, 80, 0},
+    {85, 5, 24, 4, LZ_REFUSED_RANGE, 85, 24},
+    {90, 6, 63, 5, LZ_REFUSED_RANGE, 90, 63},
+    {96, 4, 0, 3, LZ_REFUSED_RANGE, 96, 0},
+    {100, 10, 99, 600, LZ_REFUSED_RANGE, 100, 99},
+    {110, 26, 0, 0x414E62, LZ_REFUSED_GAP, 136, 0},
+    {152, 10, 1001, 760, LZ_REFUSED_RANGE, 152, 1001},
+    {188, 1, 1, 0, LZ_REFUSED_GAP, 188, 0},
 };
 
 /* An empty third place makes a gap, behind which the fourth is half filled. */
 static const struct fault ash_fall_faults[] = {
     FIRST_FAULTS(9, 1),
-    {41, 2, 3, 0, LZ_REFUSED_RANGE, 41},
-    {53, 5, 0, 11, LZ_REFUSED_RANGE, 53},
-    {71, 12, 100, 503, LZ_REFUSED_RANGE, 71},
-    {83, 3, 0, 1, LZ_REFUSED_RANGE, 83},
-    {141, 29, 0, 0x4C24604, LZ_REFUSED_GAP, 170},
-    {173, 3, 1, 0, LZ_REFUSED_RANGE, 170},
+    {41, 2, 3, 0, LZ_REFUSED_RANGE, 41, 3},
+    {53, 5, 0, 11, LZ_REFUSED_RANGE, 53, 0},
+    {71, 12, 100, 503, LZ_REFUSED_RANGE, 71, 100},
+    {83, 3, 0, 1, LZ_REFUSED_RANGE, 83, 0},
+    {141, 29, 0, 0x4C24604, LZ_REFUSED_GAP, 170, 0},
+    {173, 3, 1, 0, LZ_REFUSED_RANGE, 170, 0},
 };
 
 struct order {
@@ -112,7 +114,7 @@ static void check_order_of_reading(const struct report *good, const struct order
     for (size_t i = 0; i < order->count; i++) {
         const struct fault *fault = &order->faults[i];
         put_parity(frame);
-        READING_IS(refused_at(fault->number, fault->place), frame, LZ_FRAME_BYTES);
+        READING_IS(refused_with(fault->number, fault->place, fault->value), frame, LZ_FRAME_BYTES);
         put(frame, fault->first, fault->width, fault->right);
     }
     put_parity(frame);
@@ -136,19 +138,11 @@ void check_reading_refused(void)
     READING_IS(refused_at(LZ_REFUSED_GAP, 159), frame, LZ_FRAME_BYTES);
     put(frame, 69 + 9 * 9, 3, 3);
     put_parity(frame);
-    READING_IS(refused_at(LZ_REFUSED_RANGE, 153), frame, LZ_FRAME_BYTES);
+    READING_IS(out_of_range(153, 0), frame, LZ_FRAME_BYTES);
 }
 
-static void line_reading_is(int line, uint32_t expected, const char *digits)
-{
-    uint8_t lent[LZ_RECORD_BYTES];
-    fill(lent, sizeof lent);
-    same_word(__FILE__, line, "lz_read_line", expected,
-              lz_read_line((const uint8_t *)digits, strlen(digits), lent, sizeof lent));
-    untouched(__FILE__, line, "record", lent, 0, sizeof lent);
-}
-
-#define LINE_READING_IS(expected, digits) line_reading_is(__LINE__, (expected), (digits))
+#define LINE_READING_IS(expected, digits) \
+    line_reading_is(__FILE__, __LINE__, (expected), (const uint8_t *)(digits), strlen(digits))
 
 /* Document 01's four lines, and more of other lengths or with other digits. */
 static void check_line_readings(void)
@@ -169,12 +163,13 @@ static void check_line_readings(void)
     LINE_READING_IS(refused(LZ_REFUSED_PADDING), line);
 }
 
-static void line_writing_is(int line, uint32_t expected, const uint8_t *frame, size_t length,
+static void line_writing_is(int line, struct answer expected, const uint8_t *frame, size_t length,
                             size_t room)
 {
     uint8_t lent[LZ_LINE_DIGITS];
     fill(lent, sizeof lent);
-    same_word(__FILE__, line, "lz_write_line", expected, lz_write_line(frame, length, lent, room));
+    same_answer(__FILE__, line, "lz_write_line", expected,
+                lz_write_line(frame, length, lent, room));
     untouched(__FILE__, line, "line", lent, 0, sizeof lent);
 }
 
@@ -205,10 +200,10 @@ void check_records_lent_for_reading(void)
     fill(lent, sizeof lent);
     for (unsigned i = 0; i < 3; i++) {
         size_t length = other_record_lengths[i];
-        SAME_WORD(refused(LZ_WRONG_CALL), lz_read(frame, LZ_FRAME_BYTES, lent, length));
-        SAME_WORD(refused(LZ_WRONG_CALL), lz_read(frame, 0, lent, length));
-        SAME_WORD(refused(LZ_WRONG_CALL), lz_read_line(line, LZ_LINE_DIGITS, lent, length));
-        SAME_WORD(refused(LZ_WRONG_CALL), lz_read_line(line, 2, lent, length));
+        CALL_IS(refused(LZ_WRONG_CALL), reading, frame, LZ_FRAME_BYTES, lent, length);
+        CALL_IS(refused(LZ_WRONG_CALL), reading, frame, 0, lent, length);
+        CALL_IS(refused(LZ_WRONG_CALL), line_reading, line, LZ_LINE_DIGITS, lent, length);
+        CALL_IS(refused(LZ_WRONG_CALL), line_reading, line, 2, lent, length);
     }
     UNTOUCHED(lent, 0, sizeof lent);
 }

@@ -143,6 +143,11 @@ void put_parity(uint8_t *frame)
     put(frame, 226, 24, lz_parity(frame, LZ_FRAME_BYTES));
 }
 
+uint64_t greatest(unsigned bits)
+{
+    return UINT64_MAX >> (64 - bits);
+}
+
 void put_bytes(uint8_t *bytes, unsigned count, uint64_t value)
 {
     for (unsigned i = 0; i < count; i++) {

@@ -44,6 +44,9 @@ void put(uint8_t *frame, unsigned first, unsigned width, uint64_t value);
 /* Puts the parity of its other bits into a frame. */
 void put_parity(uint8_t *frame);
 
+/* The greatest number that so many bits hold, from 1 up to 64. */
+uint64_t greatest(unsigned bits);
+
 /* Puts a number into as many bytes, the most significant first. */
 void put_bytes(uint8_t *bytes, unsigned count, uint64_t value);
 

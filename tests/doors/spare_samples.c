@@ -14,7 +14,7 @@ const struct spared spared[CATEGORIES] = {
 
 uint64_t highest_of(const struct spare *spare)
 {
-    return (UINT64_C(1) << spare->width) - 1;
+    return greatest(spare->width);
 }
 
 void put_spare(struct report *report, const struct spare *spare, uint64_t value)

@@ -27,11 +27,11 @@ static void check_bits(const struct spared *sample, const struct spare *spare)
         report_of(&report, sample->line, sample->record);
         put(report.frame, spare->first + i, 1, 1);
         put_bytes(report.record + spare->at, spare->bytes, bit);
-        REPORT_IS(LZ_FINE, &report);
+        REPORT_IS(answered(LZ_FINE), &report);
         report_with_spares(&report, sample);
         put(report.frame, spare->first + i, 1, 0);
         put_bytes(report.record + spare->at, spare->bytes, highest_of(spare) - bit);
-        REPORT_IS(LZ_FINE, &report);
+        REPORT_IS(answered(LZ_FINE), &report);
     }
 }
 
@@ -41,7 +41,7 @@ static void check_highest(const struct spared *sample, const struct spare *spare
     struct report report;
     report_of(&report, sample->line, sample->record);
     put_spare(&report, spare, highest_of(spare));
-    REPORT_IS(LZ_FINE, &report);
+    REPORT_IS(answered(LZ_FINE), &report);
 }
 
 /* A line is read and written as its frame is. */
@@ -49,7 +49,7 @@ static void check_line(const struct report *report)
 {
     uint8_t line[LZ_LINE_DIGITS] = {0}, record[LZ_RECORD_BYTES] = {0};
     SAME_WORD(LZ_FINE, lz_write_line(report->frame, LZ_FRAME_BYTES, line, sizeof line));
-    SAME_WORD(LZ_FINE, lz_read_line(line, sizeof line, record, sizeof record));
+    CALL_IS(answered(LZ_FINE), line_reading, line, sizeof line, record, sizeof record);
     SAME_BYTES(report->record, record, LZ_RECORD_BYTES);
 }
 
@@ -58,7 +58,7 @@ void check_spares_kept(void)
     for (unsigned i = 0; i < CATEGORIES; i++) {
         struct report report;
         report_with_spares(&report, &spared[i]);
-        REPORT_IS(LZ_FINE, &report);
+        REPORT_IS(answered(LZ_FINE), &report);
         check_line(&report);
     }
     for_each_spare(check_highest);
@@ -99,12 +99,12 @@ static void put_beside(uint8_t *frame, unsigned category)
 static void same_spares(const uint8_t *frame, const struct spared *sample, const uint8_t *expected)
 {
     uint8_t record[LZ_RECORD_BYTES] = {0}, back[LZ_FRAME_BYTES] = {0};
-    SAME_WORD(LZ_FINE, lz_read(frame, LZ_FRAME_BYTES, record, sizeof record));
+    CALL_IS(answered(LZ_FINE), reading, frame, LZ_FRAME_BYTES, record, sizeof record);
     for (unsigned k = 0; k < sample->count; k++) {
         const struct spare *spare = &sample->spares[k];
         SAME_BYTES(expected + spare->at, record + spare->at, spare->bytes);
     }
-    SAME_WORD(LZ_FINE, lz_write(record, sizeof record, back, sizeof back));
+    CALL_IS(answered(LZ_FINE), writing, record, sizeof record, back, sizeof back);
     SAME_BYTES(frame, back, LZ_FRAME_BYTES);
 }
 
@@ -127,7 +127,7 @@ void check_beside_spares(void)
 /* Beside spares that are zero, and beside others that are full. */
 static void spare_refused(const struct spared *sample, const struct spare *spare, uint64_t value)
 {
-    uint32_t expected = refused_at(LZ_REFUSED_RANGE, spare->first);
+    struct answer expected = out_of_range(spare->first, value);
     struct report report;
     report_of(&report, sample->line, sample->record);
     put_bytes(report.record + spare->at, spare->bytes, value);
@@ -144,7 +144,7 @@ static void check_wide(const struct spared *sample, const struct spare *spare)
         spare_refused(sample, spare, UINT64_C(1) << bit);
         spare_refused(sample, spare, (UINT64_C(1) << bit) + highest_of(spare));
     }
-    spare_refused(sample, spare, UINT64_MAX);
+    spare_refused(sample, spare, greatest(8 * spare->bytes));
 }
 
 void check_wide_spares(void)

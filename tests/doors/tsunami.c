@@ -44,14 +44,15 @@ static const struct arrival arrivals[] = {
 static void check_arrival(struct arrival arrival, unsigned i, uint8_t day, struct area others)
 {
     struct report report;
-    uint32_t expected = LZ_FINE;
+    struct answer expected = answered(LZ_FINE);
     report_of(&report, tsunami_line, tsunami_record);
     for (unsigned other = 0; other < AREAS; other++) {
         set_area(&report, other, others);
     }
     set_area(&report, i, (struct area){day, arrival.hour, arrival.minute, 3, 600});
     if (arrival.refused != NONE) {
-        expected = refused_at(LZ_REFUSED_RANGE, area_bit(i) + arrival.refused);
+        expected = out_of_range(area_bit(i) + arrival.refused,
+                                arrival.refused == HOUR ? arrival.hour : arrival.minute);
     }
     REPORT_IS(expected, &report);
 }
@@ -74,30 +75,31 @@ struct area_case {
     unsigned i;
     struct area area;
     unsigned number, place;
+    uint64_t value;
 };
 
 static const struct area_case area_cases[] = {
-    {0, {1, 23, 59, 1, 100}, LZ_FINE, 0},
-    {0, {0, 31, 63, 15, 1000}, LZ_FINE, 0},
-    {0, {0, 4, 5, 14, 600}, LZ_FINE, 0},
-    {0, {0, 4, 5, 0, 600}, LZ_REFUSED_RANGE, 96},
-    {0, {0, 4, 5, 3, 0}, LZ_REFUSED_RANGE, 100},
-    {0, {0, 4, 5, 3, 99}, LZ_REFUSED_RANGE, 100},
-    {0, {0, 4, 5, 3, 1001}, LZ_REFUSED_RANGE, 100},
+    {0, {1, 23, 59, 1, 100}, LZ_FINE, 0, 0},
+    {0, {0, 31, 63, 15, 1000}, LZ_FINE, 0, 0},
+    {0, {0, 4, 5, 14, 600}, LZ_FINE, 0, 0},
+    {0, {0, 4, 5, 0, 600}, LZ_REFUSED_RANGE, 96, 0},
+    {0, {0, 4, 5, 3, 0}, LZ_REFUSED_RANGE, 100, 0},
+    {0, {0, 4, 5, 3, 99}, LZ_REFUSED_RANGE, 100, 99},
+    {0, {0, 4, 5, 3, 1001}, LZ_REFUSED_RANGE, 100, 1001},
     /* the first is used, even of zeros, and a later one of zeros is empty */
-    {0, {0, 0, 0, 0, 0}, LZ_REFUSED_RANGE, 96},
-    {1, {0, 0, 0, 0, 0}, LZ_REFUSED_GAP, 136},
-    {2, {0, 0, 0, 0, 0}, LZ_FINE, 0},
+    {0, {0, 0, 0, 0, 0}, LZ_REFUSED_RANGE, 96, 0},
+    {1, {0, 0, 0, 0, 0}, LZ_REFUSED_GAP, 136, 0},
+    {2, {0, 0, 0, 0, 0}, LZ_FINE, 0, 0},
     /* behind a used one: half filled, from the day on, or whole */
-    {3, {1, 0, 0, 0, 0}, LZ_REFUSED_RANGE, 174},
-    {3, {0, 31, 63, 0, 0}, LZ_REFUSED_RANGE, 174},
-    {3, {0, 0, 0, 3, 0}, LZ_REFUSED_RANGE, 178},
-    {3, {0, 0, 0, 0, 600}, LZ_REFUSED_RANGE, 174},
-    {3, {0, 0, 0, 3, 600}, LZ_FINE, 0},
+    {3, {1, 0, 0, 0, 0}, LZ_REFUSED_RANGE, 174, 0},
+    {3, {0, 31, 63, 0, 0}, LZ_REFUSED_RANGE, 174, 0},
+    {3, {0, 0, 0, 3, 0}, LZ_REFUSED_RANGE, 178, 0},
+    {3, {0, 0, 0, 0, 600}, LZ_REFUSED_RANGE, 174, 0},
+    {3, {0, 0, 0, 3, 600}, LZ_FINE, 0, 0},
     /* behind an empty one: the same, and the gap comes before the fields */
-    {4, {1, 0, 0, 0, 0}, LZ_REFUSED_GAP, 188},
-    {4, {0, 31, 63, 0, 0}, LZ_REFUSED_GAP, 188},
-    {4, {0, 0, 0, 3, 600}, LZ_REFUSED_GAP, 188},
+    {4, {1, 0, 0, 0, 0}, LZ_REFUSED_GAP, 188, 0},
+    {4, {0, 31, 63, 0, 0}, LZ_REFUSED_GAP, 188, 0},
+    {4, {0, 0, 0, 3, 600}, LZ_REFUSED_GAP, 188, 0},
 };
 
 /* The last bit in front of the version is one of the fifth area's, and no spare. */
@@ -119,7 +121,7 @@ void check_areas(void)
         struct report report;
         report_of(&report, tsunami_line, tsunami_record);
         set_area(&report, one->i, one->area);
-        REPORT_IS(refused_at(one->number, one->place), &report);
+        REPORT_IS(refused_with(one->number, one->place, one->value), &report);
     }
     check_each_bit_uses_an_area();
 }
@@ -135,10 +137,10 @@ static void check_notifications(void)
             report_of(&report, tsunami_line, tsunami_record);
             put(report.frame, first, 9, passing[k]);
             put_bytes(report.record + at, 2, passing[k]);
-            REPORT_IS(LZ_FINE, &report);
+            REPORT_IS(answered(LZ_FINE), &report);
             put(report.frame, first, 9, wrong[k]);
             put_bytes(report.record + at, 2, wrong[k]);
-            REPORT_IS(refused_at(LZ_REFUSED_RANGE, first), &report);
+            REPORT_IS(out_of_range(first, wrong[k]), &report);
         }
     }
 }
@@ -151,34 +153,38 @@ void check_warnings(void)
     for (uint8_t code = 0; code <= 15; code++) {
         put(report.frame, 80, 4, code);
         report.record[LZ_TSUNAMI_WARNING] = code;
-        REPORT_IS(code == 0 ? refused_at(LZ_REFUSED_RANGE, 80) : LZ_FINE, &report);
+        REPORT_IS(code == 0 ? out_of_range(80, 0) : answered(LZ_FINE), &report);
     }
     check_notifications();
 }
 
-/* A byte of the sample's record with more bits than its field has, the lower ones as they were. */
+/*
+ * A byte of the sample's record with more bits than its field has, the lower ones
+ * as they were; and the value of all the bytes which the field has.
+ */
 struct wide {
     unsigned at;
-    uint8_t value;
+    uint8_t byte;
     unsigned place;
+    uint64_t value;
 };
 
 static const struct wide wide[] = {
-    {LZ_RECORD_RC, 8 + 7, 14},
-    {LZ_RECORD_IT, 4 + 0, 41},
-    {LZ_TSUNAMI_NOTIFICATIONS, 2, 53},
-    {LZ_TSUNAMI_NOTIFICATIONS + 2, 2, 62},
-    {LZ_TSUNAMI_NOTIFICATIONS + 4, 2, 71},
-    {LZ_TSUNAMI_WARNING, 16 + 3, 80},
-    {LZ_RECORD_SLOT(0) + LZ_SLOT_DAY, 2 + 0, 84},
-    {LZ_RECORD_SLOT(0) + LZ_SLOT_HOUR, 32 + 4, 85},
-    {LZ_RECORD_SLOT(0) + LZ_SLOT_MINUTE, 64 + 5, 90},
-    {LZ_RECORD_SLOT(0) + LZ_SLOT_STRENGTH, 16 + 3, 96},
-    {LZ_RECORD_SLOT(0) + LZ_SLOT_PLACE + 6, 4 + 2, 100},
-    {LZ_RECORD_SLOT(0) + LZ_SLOT_PLACE, 1, 100},
+    {LZ_RECORD_RC, 8 + 7, 14, 8 + 7},
+    {LZ_RECORD_IT, 4 + 0, 41, 4 + 0},
+    {LZ_TSUNAMI_NOTIFICATIONS, 2, 53, 512 + 122},
+    {LZ_TSUNAMI_NOTIFICATIONS + 2, 2, 62, 512 + 123},
+    {LZ_TSUNAMI_NOTIFICATIONS + 4, 2, 71, 512 + 124},
+    {LZ_TSUNAMI_WARNING, 16 + 3, 80, 16 + 3},
+    {LZ_RECORD_SLOT(0) + LZ_SLOT_DAY, 2 + 0, 84, 2 + 0},
+    {LZ_RECORD_SLOT(0) + LZ_SLOT_HOUR, 32 + 4, 85, 32 + 4},
+    {LZ_RECORD_SLOT(0) + LZ_SLOT_MINUTE, 64 + 5, 90, 64 + 5},
+    {LZ_RECORD_SLOT(0) + LZ_SLOT_STRENGTH, 16 + 3, 96, 16 + 3},
+    {LZ_RECORD_SLOT(0) + LZ_SLOT_PLACE + 6, 4 + 2, 100, 1024 + 600},
+    {LZ_RECORD_SLOT(0) + LZ_SLOT_PLACE, 1, 100, (UINT64_C(1) << 56) + 600},
 };
 
-static void wide_area_is(int line, uint32_t expected, unsigned i, struct area area)
+static void wide_area_is(int line, struct answer expected, unsigned i, struct area area)
 {
     uint8_t record[LZ_RECORD_BYTES];
     tsunami_record(record);
@@ -195,12 +201,12 @@ void check_wide_tsunami_records(void)
     for (size_t k = 0; k < sizeof wide / sizeof wide[0]; k++) {
         uint8_t record[LZ_RECORD_BYTES];
         tsunami_record(record);
-        record[wide[k].at] = wide[k].value;
-        WRITING_IS(refused_at(LZ_REFUSED_RANGE, wide[k].place), record, LZ_FRAME_BYTES);
+        record[wide[k].at] = wide[k].byte;
+        WRITING_IS(out_of_range(wide[k].place, wide[k].value), record, LZ_FRAME_BYTES);
     }
     /* the bits of an arrival, and those of an empty area */
-    WIDE_AREA_IS(refused_at(LZ_REFUSED_RANGE, 137), 2, 0, 32 + 31, 63, 3, 760);
-    WIDE_AREA_IS(refused_at(LZ_REFUSED_RANGE, 137), 2, 0, 31, 64 + 63, 3, 760);
-    WIDE_AREA_IS(refused_at(LZ_REFUSED_RANGE, 162), 3, 2, 32, 64, 16, 1024);
+    WIDE_AREA_IS(out_of_range(137, 32 + 31), 2, 0, 32 + 31, 63, 3, 760);
+    WIDE_AREA_IS(out_of_range(137, 31), 2, 0, 31, 64 + 63, 3, 760);
+    WIDE_AREA_IS(out_of_range(162, 2), 3, 2, 32, 64, 16, 1024);
     WIDE_AREA_IS(refused_at(LZ_REFUSED_GAP, 188), 4, 2, 32, 64, 16, 1024);
 }

@@ -9,85 +9,89 @@
 
 #include <string.h>
 
-/* A byte of a sample's record: a value that is refused, and its own. */
+/*
+ * A byte of a sample's record: a value that is refused, and its own; and what is
+ * told of it, the value being that of all the bytes which the field has.
+ */
 struct fault {
     unsigned at;
     uint8_t wrong, right;
     unsigned number, place;
+    uint64_t value;
 };
 
 /* What every record may have, in front of the fields and at the end. */
 #define FIRST_FAULTS(category) \
-    {LZ_RECORD_PREAMBLE, 0x54, 0x53, LZ_REFUSED_PREAMBLE, 0}, \
-        {LZ_RECORD_CATEGORY, 6, (category), LZ_REFUSED_CATEGORY, 0}
-#define LAST_FAULT {LZ_RECORD_RESERVED, 64, 0, LZ_REFUSED_RANGE, 220}
+    {LZ_RECORD_PREAMBLE, 0x54, 0x53, LZ_REFUSED_PREAMBLE, 0, 0}, \
+        {LZ_RECORD_CATEGORY, 6, (category), LZ_REFUSED_CATEGORY, 0, 0}
+#define LAST_FAULT {LZ_RECORD_RESERVED, 64, 0, LZ_REFUSED_RANGE, 220, 64}
 
 /* In the order in which they are refused. A spare's byte has the lowest bit that does not fit. */
 static const struct fault hypocenter_faults[] = {
     FIRST_FAULTS(2),
-    {LZ_RECORD_TEXT + 17, 1, 0, LZ_REFUSED_UNUSED, 0},
-    {LZ_RECORD_SLOT(15) + LZ_SLOT_PLACE, 1, 0, LZ_REFUSED_UNUSED, 0},
-    {LZ_RECORD_SLOT(0) + LZ_SLOT_DAY, 1, 0, LZ_REFUSED_UNUSED, 0},
-    {LZ_RECORD_RC, 1, 7, LZ_REFUSED_RANGE, 14},
-    {LZ_RECORD_IT, 1, 0, LZ_REFUSED_RANGE, 41},
-    {LZ_QUAKE_SPARE1, 4, 0, LZ_REFUSED_RANGE, 43},
-    {LZ_QUAKE_NOTIFICATIONS, 2, 0, LZ_REFUSED_RANGE, 53},
-    {LZ_QUAKE_MAGNITUDE, 102, 64, LZ_REFUSED_RANGE, 105},
-    {LZ_QUAKE_LONGITUDE + 1, 180, 132, LZ_REFUSED_RANGE, 143},
-    {LZ_QUAKE_LONGITUDE + 3, 60, 0, LZ_REFUSED_RANGE, 157},
-    {LZ_QUAKE_SPARE2 + 1, 8, 0, LZ_REFUSED_RANGE, 163},
+    {LZ_RECORD_TEXT + 17, 1, 0, LZ_REFUSED_UNUSED, 0, 0},
+    {LZ_RECORD_SLOT(15) + LZ_SLOT_PLACE, 1, 0, LZ_REFUSED_UNUSED, 0, 0},
+    {LZ_RECORD_SLOT(0) + LZ_SLOT_DAY, 1, 0, LZ_REFUSED_UNUSED, 0, 0},
+    {LZ_RECORD_RC, 1, 7, LZ_REFUSED_RANGE, 14, 1},
+    {LZ_RECORD_IT, 1, 0, LZ_REFUSED_RANGE, 41, 1},
+    {LZ_QUAKE_SPARE1, 4, 0, LZ_REFUSED_RANGE, 43, 1024},
+    {LZ_QUAKE_NOTIFICATIONS, 2, 0, LZ_REFUSED_RANGE, 53, 512 + 226},
+    {LZ_QUAKE_MAGNITUDE, 102, 64, LZ_REFUSED_RANGE, 105, 102},
+    {LZ_QUAKE_LONGITUDE + 1, 180, 132, LZ_REFUSED_RANGE, 143, 180},
+    {LZ_QUAKE_LONGITUDE + 3, 60, 0, LZ_REFUSED_RANGE, 157, 60},
+    {LZ_QUAKE_SPARE2 + 1, 8, 0, LZ_REFUSED_RANGE, 163, UINT64_C(1) << 51},
     LAST_FAULT,
 };
 
 static const struct fault intensity_faults[] = {
     FIRST_FAULTS(3),
-    {LZ_RECORD_TEXT, 1, 0, LZ_REFUSED_UNUSED, 0},
-    {LZ_RECORD_SLOT(15) + LZ_SLOT_MINUTE, 1, 0, LZ_REFUSED_UNUSED, 0},
-    {LZ_RECORD_SLOT(0) - 1, 1, 0, LZ_REFUSED_UNUSED, 0},
-    {LZ_INTENSITY_SPARE2 + 1, 1, 0, LZ_REFUSED_UNUSED, 0},
-    {LZ_RECORD_RC, 1, 7, LZ_REFUSED_RANGE, 14},
-    {LZ_RECORD_IT, 1, 0, LZ_REFUSED_RANGE, 41},
-    {LZ_INTENSITY_SPARE1, 4, 0, LZ_REFUSED_RANGE, 43},
-    {LZ_INTENSITY_DAY, 0, 11, LZ_REFUSED_RANGE, 53},
-    {LZ_RECORD_SLOT(0) + LZ_SLOT_STRENGTH, 8, 4, LZ_REFUSED_RANGE, 69},
-    {LZ_RECORD_SLOT(8) + LZ_SLOT_PLACE + 7, 48, 46, LZ_REFUSED_RANGE, 144},
-    {LZ_RECORD_SLOT(15) + LZ_SLOT_STRENGTH, 1, 0, LZ_REFUSED_GAP, 204},
-    {LZ_INTENSITY_SPARE2, 2, 0, LZ_REFUSED_RANGE, 213},
+    {LZ_RECORD_TEXT, 1, 0, LZ_REFUSED_UNUSED, 0, 0},
+    {LZ_RECORD_SLOT(15) + LZ_SLOT_MINUTE, 1, 0, LZ_REFUSED_UNUSED, 0, 0},
+    {LZ_RECORD_SLOT(0) - 1, 1, 0, LZ_REFUSED_UNUSED, 0, 0},
+    {LZ_INTENSITY_SPARE2 + 1, 1, 0, LZ_REFUSED_UNUSED, 0, 0},
+    {LZ_RECORD_RC, 1, 7, LZ_REFUSED_RANGE, 14, 1},
+    {LZ_RECORD_IT, 1, 0, LZ_REFUSED_RANGE, 41, 1},
+    {LZ_INTENSITY_SPARE1, 4, 0, LZ_REFUSED_RANGE, 43, 1024},
+    {LZ_INTENSITY_DAY, 0, 11, LZ_REFUSED_RANGE, 53, 0},
+    {LZ_RECORD_SLOT(0) + LZ_SLOT_STRENGTH, 8, 4, LZ_REFUSED_RANGE, 69, 8},
+    {LZ_RECORD_SLOT(8) + LZ_SLOT_PLACE + 7, 48, 46, LZ_REFUSED_RANGE, 144, 48},
+    {LZ_RECORD_SLOT(15) + LZ_SLOT_STRENGTH, 1, 0, LZ_REFUSED_GAP, 204, 0},
+    {LZ_INTENSITY_SPARE2, 2, 0, LZ_REFUSED_RANGE, 213, 2},
     LAST_FAULT,
 };
 
 static const struct fault nankai_faults[] = {
     FIRST_FAULTS(4),
-    {LZ_RECORD_SLOT(0) + LZ_SLOT_HOUR, 1, 0, LZ_REFUSED_UNUSED, 0},
-    {LZ_RECORD_SLOT(0) - 1, 1, 0, LZ_REFUSED_UNUSED, 0},
-    {LZ_NANKAI_SPARE2 + 1, 1, 0, LZ_REFUSED_UNUSED, 0},
-    {LZ_RECORD_RC, 1, 7, LZ_REFUSED_RANGE, 14},
-    {LZ_RECORD_IT, 1, 0, LZ_REFUSED_RANGE, 41},
-    {LZ_NANKAI_SPARE1, 4, 0, LZ_REFUSED_RANGE, 43},
-    {LZ_NANKAI_IS, 0, 5, LZ_REFUSED_RANGE, 53},
-    {LZ_NANKAI_PAGE, 0, 1, LZ_REFUSED_RANGE, 201},
-    {LZ_NANKAI_TOTAL, 64, 27, LZ_REFUSED_RANGE, 207},
-    {LZ_NANKAI_SPARE2, 2, 0, LZ_REFUSED_RANGE, 213},
+    {LZ_RECORD_SLOT(0) + LZ_SLOT_HOUR, 1, 0, LZ_REFUSED_UNUSED, 0, 0},
+    {LZ_RECORD_SLOT(0) - 1, 1, 0, LZ_REFUSED_UNUSED, 0, 0},
+    {LZ_NANKAI_SPARE2 + 1, 1, 0, LZ_REFUSED_UNUSED, 0, 0},
+    {LZ_RECORD_RC, 1, 7, LZ_REFUSED_RANGE, 14, 1},
+    {LZ_RECORD_IT, 1, 0, LZ_REFUSED_RANGE, 41, 1},
+    {LZ_NANKAI_SPARE1, 4, 0, LZ_REFUSED_RANGE, 43, 1024},
+    {LZ_NANKAI_IS, 0, 5, LZ_REFUSED_RANGE, 53, 0},
+    {LZ_NANKAI_PAGE, 0, 1, LZ_REFUSED_RANGE, 201, 0},
+    {LZ_NANKAI_TOTAL, 64, 27, LZ_REFUSED_RANGE, 207, 64},
+    {LZ_NANKAI_SPARE2, 2, 0, LZ_REFUSED_RANGE, 213, 2},
     LAST_FAULT,
 };
 
 static const struct fault tsunami_faults[] = {
     FIRST_FAULTS(5),
-    {LZ_RECORD_TEXT, 1, 0, LZ_REFUSED_UNUSED, 0},
-    {LZ_RECORD_SLOT(15) + LZ_SLOT_HOUR, 1, 0, LZ_REFUSED_UNUSED, 0},
-    {LZ_RECORD_SLOT(5) + LZ_SLOT_DAY, 1, 0, LZ_REFUSED_UNUSED, 0},
-    {LZ_TSUNAMI_WARNING + 1, 1, 0, LZ_REFUSED_UNUSED, 0},
-    {LZ_RECORD_RC, 2, 7, LZ_REFUSED_RANGE, 14},
-    {LZ_RECORD_IT, 1, 0, LZ_REFUSED_RANGE, 41},
-    {LZ_TSUNAMI_SPARE1, 4, 0, LZ_REFUSED_RANGE, 43},
-    {LZ_TSUNAMI_NOTIFICATIONS, 2, 0, LZ_REFUSED_RANGE, 53},
-    {LZ_TSUNAMI_WARNING, 16, 3, LZ_REFUSED_RANGE, 80},
-    {LZ_RECORD_SLOT(0) + LZ_SLOT_DAY, 2, 0, LZ_REFUSED_RANGE, 84},
-    {LZ_RECORD_SLOT(0) + LZ_SLOT_HOUR, 24, 4, LZ_REFUSED_RANGE, 85},
-    {LZ_RECORD_SLOT(0) + LZ_SLOT_MINUTE, 63, 5, LZ_REFUSED_RANGE, 90},
-    {LZ_RECORD_SLOT(0) + LZ_SLOT_STRENGTH, 0, 3, LZ_REFUSED_RANGE, 96},
-    {LZ_RECORD_SLOT(2) + LZ_SLOT_HOUR, 31, 4, LZ_REFUSED_RANGE, 137},
-    {LZ_RECORD_SLOT(4) + LZ_SLOT_DAY, 1, 0, LZ_REFUSED_GAP, 188},
+    {LZ_RECORD_TEXT, 1, 0, LZ_REFUSED_UNUSED, 0, 0},
+    {LZ_RECORD_SLOT(15) + LZ_SLOT_HOUR, 1, 0, LZ_REFUSED_UNUSED, 0, 0},
+    {LZ_RECORD_SLOT(5) + LZ_SLOT_DAY, 1, 0, LZ_REFUSED_UNUSED, 0, 0},
+    {LZ_TSUNAMI_WARNING + 1, 1, 0, LZ_REFUSED_UNUSED, 0, 0},
+    {LZ_RECORD_RC, 2, 7, LZ_REFUSED_RANGE, 14, 2},
+    {LZ_RECORD_IT, 1, 0, LZ_REFUSED_RANGE, 41, 1},
+    {LZ_TSUNAMI_SPARE1, 4, 0, LZ_REFUSED_RANGE, 43, 1024},
+    {LZ_TSUNAMI_NOTIFICATIONS, 2, 0, LZ_REFUSED_RANGE, 53, 512 + 122},
+    {LZ_TSUNAMI_WARNING, 16, 3, LZ_REFUSED_RANGE, 80, 16},
+    {LZ_RECORD_SLOT(0) + LZ_SLOT_DAY, 2, 0, LZ_REFUSED_RANGE, 84, 2},
+    {LZ_RECORD_SLOT(0) + LZ_SLOT_HOUR, 24, 4, LZ_REFUSED_RANGE, 85, 24},
+    {LZ_RECORD_SLOT(0) + LZ_SLOT_MINUTE, 63, 5, LZ_REFUSED_RANGE, 90, 63},
+    {LZ_RECORD_SLOT(0) + LZ_SLOT_STRENGTH, 0, 3, LZ_REFUSED_RANGE, 96, 0},
+    {LZ_RECORD_SLOT(2) + LZ_SLOT_HOUR, 31, 4, LZ_REFUSED_RANGE, 137, 31},
+    {LZ_RECORD_SLOT(4) + LZ_SLOT_DAY, 1, 0, LZ_REFUSED_GAP, 188, 0},
     LAST_FAULT,
 };
 
@@ -100,19 +104,19 @@ static void one_place_record(uint8_t *record)
 
 static const struct fault one_place_faults[] = {
     FIRST_FAULTS(9),
-    {LZ_RECORD_TEXT, 1, 0, LZ_REFUSED_UNUSED, 0},
-    {LZ_RECORD_SLOT(4) + LZ_SLOT_STRENGTH, 1, 0, LZ_REFUSED_UNUSED, 0},
-    {LZ_RECORD_SLOT(0) - 1, 1, 0, LZ_REFUSED_UNUSED, 0},
-    {LZ_ASH_SPARE2 + 2, 1, 0, LZ_REFUSED_UNUSED, 0},
-    {LZ_RECORD_RC, 1, 7, LZ_REFUSED_RANGE, 14},
-    {LZ_RECORD_IT, 3, 0, LZ_REFUSED_RANGE, 41},
-    {LZ_ASH_SPARE1, 4, 0, LZ_REFUSED_RANGE, 43},
-    {LZ_ASH_DAY, 0, 11, LZ_REFUSED_RANGE, 53},
-    {LZ_ASH_VOLCANO, 16, 1, LZ_REFUSED_RANGE, 71},
-    {LZ_RECORD_SLOT(0) + LZ_SLOT_HOUR, 7, 1, LZ_REFUSED_RANGE, 83},
-    {LZ_RECORD_SLOT(1) + LZ_SLOT_STRENGTH, 1, 0, LZ_REFUSED_RANGE, 112},
-    {LZ_RECORD_SLOT(3) + LZ_SLOT_HOUR, 1, 0, LZ_REFUSED_GAP, 170},
-    {LZ_ASH_SPARE2, 128, 0, LZ_REFUSED_RANGE, 199},
+    {LZ_RECORD_TEXT, 1, 0, LZ_REFUSED_UNUSED, 0, 0},
+    {LZ_RECORD_SLOT(4) + LZ_SLOT_STRENGTH, 1, 0, LZ_REFUSED_UNUSED, 0, 0},
+    {LZ_RECORD_SLOT(0) - 1, 1, 0, LZ_REFUSED_UNUSED, 0, 0},
+    {LZ_ASH_SPARE2 + 2, 1, 0, LZ_REFUSED_UNUSED, 0, 0},
+    {LZ_RECORD_RC, 1, 7, LZ_REFUSED_RANGE, 14, 1},
+    {LZ_RECORD_IT, 3, 0, LZ_REFUSED_RANGE, 41, 3},
+    {LZ_ASH_SPARE1, 4, 0, LZ_REFUSED_RANGE, 43, 1024},
+    {LZ_ASH_DAY, 0, 11, LZ_REFUSED_RANGE, 53, 0},
+    {LZ_ASH_VOLCANO, 16, 1, LZ_REFUSED_RANGE, 71, 4096 + 247},
+    {LZ_RECORD_SLOT(0) + LZ_SLOT_HOUR, 7, 1, LZ_REFUSED_RANGE, 83, 7},
+    {LZ_RECORD_SLOT(1) + LZ_SLOT_STRENGTH, 1, 0, LZ_REFUSED_RANGE, 112, 0},
+    {LZ_RECORD_SLOT(3) + LZ_SLOT_HOUR, 1, 0, LZ_REFUSED_GAP, 170, 0},
+    {LZ_ASH_SPARE2, 128, 0, LZ_REFUSED_RANGE, 199, 32768},
     LAST_FAULT,
 };
 
@@ -144,10 +148,11 @@ static void check_order_of_writing(const struct order *order)
     WRITING_IS(refused(LZ_REFUSED_LENGTH), record, LZ_FRAME_BYTES + 1);
     for (size_t i = 0; i < order->count; i++) {
         const struct fault *fault = &order->faults[i];
-        WRITING_IS(refused_at(fault->number, fault->place), record, LZ_FRAME_BYTES);
+        WRITING_IS(refused_with(fault->number, fault->place, fault->value), record,
+                   LZ_FRAME_BYTES);
         record[fault->at] = fault->right;
     }
-    SAME_WORD(LZ_FINE, lz_write(record, sizeof record, frame, sizeof frame));
+    CALL_IS(answered(LZ_FINE), writing, record, sizeof record, frame, sizeof frame);
 }
 
 /* Bytes in which nothing of a category stands. */
@@ -190,7 +195,7 @@ static void check_slot_refused(void)
     uint8_t record[LZ_RECORD_BYTES];
     ash_fall_record(record);
     record[LZ_RECORD_SLOT(0) + LZ_SLOT_PLACE] = 1;
-    WRITING_IS(refused_at(LZ_REFUSED_RANGE, 89), record, LZ_FRAME_BYTES);
+    WRITING_IS(out_of_range(89, (UINT64_C(1) << 56) + 4321400), record, LZ_FRAME_BYTES);
     record[LZ_RECORD_SLOT(2) + LZ_SLOT_MINUTE] = 1;
     WRITING_IS(refused(LZ_REFUSED_UNUSED), record, LZ_FRAME_BYTES);
     intensity_record(record);
@@ -225,10 +230,10 @@ void check_records_lent_for_writing(void)
     fill(lent, sizeof lent);
     for (unsigned i = 0; i < 3; i++) {
         size_t length = other_record_lengths[i];
-        SAME_WORD(refused(LZ_REFUSED_PREAMBLE), lz_write(record, length, lent, LZ_FRAME_BYTES));
-        SAME_WORD(refused(LZ_REFUSED_LENGTH), lz_write(record, length, lent, LZ_FRAME_BYTES - 1));
-        SAME_WORD(refused(LZ_REFUSED_LENGTH), lz_write(record, length, lent, LZ_FRAME_BYTES + 1));
-        SAME_WORD(refused(LZ_REFUSED_LENGTH), lz_write(record, length, lent, 0));
+        CALL_IS(refused(LZ_REFUSED_PREAMBLE), writing, record, length, lent, LZ_FRAME_BYTES);
+        CALL_IS(refused(LZ_REFUSED_LENGTH), writing, record, length, lent, LZ_FRAME_BYTES - 1);
+        CALL_IS(refused(LZ_REFUSED_LENGTH), writing, record, length, lent, LZ_FRAME_BYTES + 1);
+        CALL_IS(refused(LZ_REFUSED_LENGTH), writing, record, length, lent, 0);
     }
     UNTOUCHED(lent, 0, sizeof lent);
     SAME_BYTES(before, record, sizeof before);

@@ -1,6 +1,7 @@
 #include "doors.h"
 
 #include "bulletin_samples.h"
+#include "calls.h"
 #include "check.h"
 #include "field.h"
 #include "lavendelzug.h"
@@ -38,6 +39,12 @@ static void call_take(void) { answer = lz_take(store, sizeof store, page, sizeof
 static void call_merge(void) { answer = lz_merge(store, sizeof store, full_store, sizeof full_store); }
 static void call_count(void) { answer = lz_count(full_store, sizeof full_store); }
 static void call_text(void) { answer = lz_text(full_store, sizeof full_store, text, sizeof text); }
+static void call_read_value(void) { answer = lz_read_value(frame, sizeof frame); }
+static void call_refused_value(void) { answer = lz_read_value(refused_frame, sizeof refused_frame); }
+static void call_read_line_value(void) { answer = lz_read_line_value(line, sizeof line); }
+static void call_write_value(void) { answer = lz_write_value(record, sizeof record, sizeof frame); }
+static void call_open_value(void) { answer = lz_open_value(bulletin_name, LZ_NAME_BYTES); }
+static void call_take_value(void) { answer = lz_take_value(store, sizeof store, page, sizeof page); }
 static void call_depth(void) { answer = lz_depth(500); }
 static void call_magnitude(void) { answer = lz_magnitude(101); }
 static void call_arrival(void) { answer = lz_arrival(23, 59); }
@@ -62,17 +69,23 @@ struct door {
 static struct door doors[] = {
     {"one field", call_field, 8, 0},
     {"lz_parity", call_parity, 8, 0},
-    {"lz_read, refused by a field", call_refused, 1420, 0},
-    {"lz_read", call_read, 1420, 0},
-    {"lz_read_line", call_read_line, 1452, 0},
-    {"lz_write", call_write, 2512, 0},
+    {"lz_read, refused by a field", call_refused, 1648, 0},
+    {"lz_read", call_read, 1648, 0},
+    {"lz_read_line", call_read_line, 1776, 0},
+    {"lz_write", call_write, 2544, 0},
     {"lz_write_line", call_write_line, 8, 0},
     {"lz_slots_used", call_slots_used, 1552, 0},
-    {"lz_open", call_open, 3720, 0},
-    {"lz_take", call_take, 6840, 0},
-    {"lz_merge", call_merge, 7416, 0},
+    {"lz_open", call_open, 3704, 0},
+    {"lz_take", call_take, 8056, 0},
+    {"lz_merge", call_merge, 7432, 0},
     {"lz_count", call_count, 3672, 0},
     {"lz_text", call_text, 3736, 0},
+    {"lz_read_value, of a field", call_refused_value, 1616, 0},
+    {"lz_read_value", call_read_value, 1616, 0},
+    {"lz_read_line_value", call_read_line_value, 1712, 0},
+    {"lz_write_value", call_write_value, 1776, 0},
+    {"lz_open_value", call_open_value, 8, 0},
+    {"lz_take_value", call_take_value, 3944, 0},
     {"lz_depth", call_depth, 8, 0},
     {"lz_magnitude", call_magnitude, 8, 0},
     {"lz_arrival", call_arrival, 8, 0},
@@ -83,6 +96,7 @@ static struct door doors[] = {
 /*
  * The report of the line, and the same with hour 31, where everything else is as
  * it should be; a store without pages, of which one is to come, and a full one.
+ * Where nothing is out of range, asking for a value goes through every field.
  */
 static void prepare(void)
 {
@@ -90,8 +104,8 @@ static void prepare(void)
     memcpy(refused_frame, frame, sizeof frame);
     put(refused_frame, 30, 5, 31);
     put_parity(refused_frame);
-    SAME_WORD(LZ_FINE, lz_read(frame, sizeof frame, record, sizeof record));
-    SAME_WORD(refused_at(8, 30), lz_read(refused_frame, sizeof frame, record, sizeof record));
+    CALL_IS(answered(LZ_FINE), reading, frame, sizeof frame, record, sizeof record);
+    CALL_IS(out_of_range(30, 31), reading, refused_frame, sizeof frame, record, sizeof record);
     page_record(page, 2, page_texts[1]);
     open_full_store(full_store);
     open_store(store);

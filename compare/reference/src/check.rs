@@ -1,10 +1,7 @@
 //! The rules on values that reading and writing share: ranges and slots.
 
 use crate::fields::{fields, slot_layout, Field, PAGE_NUMBER_FIRST, PAGE_TOTAL_FIRST};
-use crate::record::{Category, Refusal};
-
-pub const OUT_OF_RANGE: u8 = 8;
-pub const SLOT_AFTER_EMPTY: u8 = 10;
+use crate::record::{Category, Refusal, SLOT_AFTER_EMPTY};
 
 /// Every fault of a category's values, in no particular order. The values
 /// may come from a frame or from a record; `value_of` hides which.
@@ -14,8 +11,9 @@ pub fn faults(category: Category, value_of: &dyn Fn(&Field) -> u64) -> Vec<Refus
     if category == Category::Nankai {
         let at_bit =
             |first: usize| fields.iter().find(|field| field.first == first).map_or(0, value_of);
-        if at_bit(PAGE_TOTAL_FIRST) < at_bit(PAGE_NUMBER_FIRST) {
-            found.push(Refusal::at(OUT_OF_RANGE, PAGE_TOTAL_FIRST));
+        let total = at_bit(PAGE_TOTAL_FIRST);
+        if total < at_bit(PAGE_NUMBER_FIRST) {
+            found.push(Refusal::out_of_range(PAGE_TOTAL_FIRST, total));
         }
     }
     found.extend(slot_faults(category, value_of));
@@ -37,7 +35,7 @@ pub fn out_of_range(fields: &[Field], value_of: &dyn Fn(&Field) -> u64) -> Vec<R
     let has_code = |field: &Field| field.group_code == Some(value_of(field));
     let judged = if group.iter().all(has_code) { single } else { fields.to_vec() };
     let bad = judged.iter().filter(|field| !field.allows(value_of(field)));
-    bad.map(|field| Refusal::at(OUT_OF_RANGE, field.first)).collect()
+    bad.map(|field| Refusal::out_of_range(field.first, value_of(field))).collect()
 }
 
 fn slot_faults(category: Category, value_of: &dyn Fn(&Field) -> u64) -> Vec<Refusal> {
@@ -53,7 +51,7 @@ fn slot_faults(category: Category, value_of: &dyn Fn(&Field) -> u64) -> Vec<Refu
             continue;
         }
         if used.contains(&false) {
-            found.push(Refusal::at(SLOT_AFTER_EMPTY, layout.slot_first(slot)));
+            found.push(Refusal::slot_after_empty(layout.slot_first(slot)));
         }
         found.extend(out_of_range(&parts, value_of));
     }

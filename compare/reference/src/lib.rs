@@ -6,9 +6,11 @@
 //! `read` and `write` work on frames, `line` on lines of digits; `meaning` says
 //! what numbers of a record mean; `listing` is the listing of a file of frames.
 //! `store` is the page store, `history` a second account of it, and `player`
-//! drives both, and any other, through the same steps. `generate` builds inputs
-//! for all of them, `samples` holds the values of document 004.
+//! drives both, and any other, through the same steps, each with its `answer`.
+//! `generate` builds inputs for all of them, `samples` holds the values of
+//! document 004.
 
+pub mod answer;
 pub mod bits;
 pub mod check;
 pub mod fields;

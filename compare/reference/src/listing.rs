@@ -2,7 +2,7 @@
 
 use crate::line::read_line;
 use crate::meaning::slots_used;
-use crate::record::{Category, Record, Refusal};
+use crate::record::{Category, Record, Refusal, OUT_OF_RANGE, SLOT_AFTER_EMPTY};
 use std::io::{BufRead, Result, Write};
 
 /// How many lines are read at most.
@@ -10,7 +10,7 @@ pub const MOST_LINES: usize = 1_000_000;
 
 /// Reads lines from `input` to its end and writes the listing to `output`.
 pub fn list(mut input: impl BufRead, mut output: impl Write) -> Result<()> {
-    writeln!(output, "line answer place dc slots")?;
+    writeln!(output, "line answer place dc slots value")?;
     let mut line = Vec::new();
     for number in 1..=MOST_LINES {
         line.clear();
@@ -22,7 +22,7 @@ pub fn list(mut input: impl BufRead, mut output: impl Write) -> Result<()> {
         write_row(&mut output, number, read_line(digits))?;
     }
     if !input.fill_buf()?.is_empty() {
-        writeln!(output, "cut - - - -")?;
+        writeln!(output, "cut - - - - -")?;
     }
     output.flush()
 }
@@ -38,14 +38,17 @@ fn write_row(
             let dc = category.map_or(0, Category::code);
             match category {
                 Some(Category::Intensity | Category::Tsunami | Category::AshFall) => {
-                    writeln!(output, "{line} 0 - {dc} {}", slots_used(&record))
+                    writeln!(output, "{line} 0 - {dc} {} -", slots_used(&record))
                 }
-                _ => writeln!(output, "{line} 0 - {dc} -"),
+                _ => writeln!(output, "{line} 0 - {dc} - -"),
             }
         }
-        Err(Refusal { number: number @ (8 | 10), place, .. }) => {
-            writeln!(output, "{line} {number} {place} - -")
+        Err(Refusal { number: number @ OUT_OF_RANGE, place, value, .. }) => {
+            writeln!(output, "{line} {number} {place} - - {value}")
         }
-        Err(Refusal { number, .. }) => writeln!(output, "{line} {number} - - -"),
+        Err(Refusal { number: number @ SLOT_AFTER_EMPTY, place, .. }) => {
+            writeln!(output, "{line} {number} {place} - - -")
+        }
+        Err(Refusal { number, .. }) => writeln!(output, "{line} {number} - - - -"),
     }
 }

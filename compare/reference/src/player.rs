@@ -8,6 +8,7 @@ mod stores;
 pub use histories::Histories;
 pub use stores::Stores;
 
+use crate::answer::Answer;
 use crate::record::Record;
 use crate::store::{Name, StoreBytes};
 
@@ -57,12 +58,6 @@ impl Step {
     }
 }
 
-/// Number, place, page and mark of a refusal; else zeros, but for the last
-/// byte of a taking (1 new, 2 same, 3 disputed), the last two bytes of a text,
-/// which are its length, and the last three of a report: held, disputed and
-/// lowest page.
-pub type Answer = [u8; 4];
-
 /// What a step answers, and the buffer that was lent to it, if any.
 #[derive(Clone, PartialEq, Eq, Debug)]
 pub struct Outcome {
@@ -94,7 +89,7 @@ pub trait Player {
             Step::Text { store, .. } => self.text(*store, &mut lent),
             Step::Put { store, bytes } => {
                 self.put(*store, bytes);
-                [0; 4]
+                Answer::FINE
             }
         };
         Outcome { answer, lent }

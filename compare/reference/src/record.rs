@@ -137,6 +137,10 @@ pub struct Record {
     pub text: [u8; 18],
 }
 
+/// The refusals that name a bit.
+pub const OUT_OF_RANGE: u8 = 8;
+pub const SLOT_AFTER_EMPTY: u8 = 10;
+
 /// Why something was refused: the number from document 01, and the bit, page
 /// and mark it names. What a number does not name is 0.
 #[derive(Clone, Copy, PartialEq, Eq, Debug, Default)]
@@ -145,6 +149,9 @@ pub struct Refusal {
     pub place: u8,
     pub page: u8,
     pub mark: u8,
+    /// What was found in the field that is out of range, in the frame, the record
+    /// or the name. No other refusal has a value, and 0 may be one.
+    pub value: u64,
 }
 
 impl Refusal {
@@ -153,14 +160,18 @@ impl Refusal {
         Refusal { number, ..Refusal::default() }
     }
 
-    /// A refusal at a bit of the frame. Every field, spare and slot begins
-    /// below bit 226, so its bit fits a byte.
-    pub fn at(number: u8, bit: usize) -> Refusal {
-        Refusal { number, place: bit as u8, ..Refusal::default() }
+    /// The field that begins at a bit of the frame must not have this value.
+    pub fn out_of_range(bit: usize, value: u64) -> Refusal {
+        Refusal { value, ..Refusal::at(OUT_OF_RANGE, bit) }
     }
 
-    /// Number, place, page and mark.
-    pub fn answer(self) -> [u8; 4] {
-        [self.number, self.place, self.page, self.mark]
+    /// The slot that begins at a bit of the frame is used after an empty one.
+    pub fn slot_after_empty(bit: usize) -> Refusal {
+        Refusal::at(SLOT_AFTER_EMPTY, bit)
+    }
+
+    /// Every field, spare and slot begins below bit 226, so its bit fits a byte.
+    fn at(number: u8, bit: usize) -> Refusal {
+        Refusal { number, place: bit as u8, ..Refusal::default() }
     }
 }

@@ -78,19 +78,19 @@ impl Name {
         Record { preamble, rc, month, day, hour, minute, it, body, text, ..Record::default() }
     }
 
-    /// The first bit of the first value out of range, in frame order.
-    fn first_bad_value(&self) -> Option<usize> {
+    /// The first value out of range in frame order, and the bit where it begins.
+    fn first_bad_value(&self) -> Option<(usize, u8)> {
         let values = [
-            (14, self.rc == 2 || self.rc == 7),
-            (21, (1..=12).contains(&self.month)),
-            (25, (1..=31).contains(&self.day)),
-            (30, self.hour <= 23),
-            (35, self.minute <= 59),
-            (41, self.it == 0 || self.it == 2),
-            (53, (1..=15).contains(&self.serial)),
-            (207, (1..=63).contains(&self.total)),
+            (14, self.rc, self.rc == 2 || self.rc == 7),
+            (21, self.month, (1..=12).contains(&self.month)),
+            (25, self.day, (1..=31).contains(&self.day)),
+            (30, self.hour, self.hour <= 23),
+            (35, self.minute, self.minute <= 59),
+            (41, self.it, self.it == 0 || self.it == 2),
+            (53, self.serial, (1..=15).contains(&self.serial)),
+            (207, self.total, (1..=63).contains(&self.total)),
         ];
-        values.iter().find(|(_, in_range)| !in_range).map(|(bit, _)| *bit)
+        values.iter().find(|(.., in_range)| !in_range).map(|&(bit, value, _)| (bit, value))
     }
 }
 
@@ -111,7 +111,7 @@ impl Store {
     /// refused.
     pub fn open(name: Name) -> (Result<(), Refusal>, Store) {
         match name.first_bad_value() {
-            Some(bit) => (Err(Refusal::at(8, bit)), Store::ZEROS),
+            Some((bit, value)) => (Err(Refusal::out_of_range(bit, value.into())), Store::ZEROS),
             None => (Ok(()), Store { name, ..Store::ZEROS }),
         }
     }

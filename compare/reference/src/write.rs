@@ -1,7 +1,7 @@
 //! Writing a record as a frame.
 
 use crate::bits::{set, Frame};
-use crate::check::{faults, reported, OUT_OF_RANGE};
+use crate::check::{faults, reported};
 use crate::fields::{slot_layout, spares, Field, RESERVED};
 use crate::parity::parity;
 use crate::record::{Angle, Body, Category, Hypocenter, Record, Refusal, Slot, Time, PREAMBLES};
@@ -30,8 +30,9 @@ pub fn write(record: &Record, frame: &mut [u8]) -> Result<(), Refusal> {
     }
     let placed = placed(record, category);
     let mut found = faults(category, &|field| value_of(&placed, field));
-    if !RESERVED.allows(u64::from(record.reserved)) {
-        found.push(Refusal::at(OUT_OF_RANGE, RESERVED.first));
+    let reserved = u64::from(record.reserved);
+    if !RESERVED.allows(reserved) {
+        found.push(Refusal::out_of_range(RESERVED.first, reserved));
     }
     if let Some(refusal) = reported(&found) {
         return Err(refusal);

@@ -14,7 +14,10 @@ places = record {
   count = 4;
   first = 83;
   bits = 29;
-  rows = row 0 3 (within 1 6) ∷ row 3 3 (within 1 7) ∷ row 6 23 (within 110000 4799999) ∷ [];
+  rows =
+      row 0 3 (within 1 6)  -- hour
+      ∷ row 3 3 (within 1 7)  -- strength
+      ∷ row 6 23 (within 110000 4799999) ∷ [];  -- place
   parts = record { day = false; hour = true; minute = false; strength = true; place = true };
 }
 
@@ -23,10 +26,14 @@ ashFall = record {
   code = 9;
   rcs = twoOrSeven;
   types = corrected;
-  front = spare1 ∷ time 53 ++ row 69 2 (within 1 2) ∷ row 71 12 (within 101 4000) ∷ [];  -- warning type, volcano
+  front =
+      spare1
+      ∷ time 53  -- volcanic activity
+      ++ row 69 2 (within 1 2)  -- warning type
+      ∷ row 71 12 (within 101 4000) ∷ [];  -- volcano
   slots = places;
   text = [];
-  behind = spareRow 199 15 ∷ [];
+  behind = spareRow 199 15 ∷ [];  -- second spare
 }
 
 -- what the values of the rows say

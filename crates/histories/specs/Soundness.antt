@@ -16,14 +16,14 @@ use Rattle.bulletin.specs.Stores.{pageBehind}
 -- wire" and "Category 4" have it, and its first bit
 abbrev pub openQuestions : Name → List Question
 openQuestions n =
-    ((n .common .rc ≡ 2) ⊎ (n .common .rc ≡ 7)) or Range 14
-    ∷ ((1 ≤ n .common .month) × (n .common .month ≤ 12)) or Range 21
-    ∷ ((1 ≤ n .common .day) × (n .common .day ≤ 31)) or Range 25
-    ∷ (n .common .hour ≤ 23) or Range 30
-    ∷ (n .common .minute ≤ 59) or Range 35
-    ∷ ((n .common .it ≡ 0) ⊎ (n .common .it ≡ 2)) or Range 41
-    ∷ ((1 ≤ n .serial) × (n .serial ≤ 15)) or Range 53
-    ∷ ((1 ≤ n .total) × (n .total ≤ 63)) or Range 207
+    ((n .common .rc ≡ 2) ⊎ (n .common .rc ≡ 7)) or Range 14 (n .common .rc)
+    ∷ ((1 ≤ n .common .month) × (n .common .month ≤ 12)) or Range 21 (n .common .month)
+    ∷ ((1 ≤ n .common .day) × (n .common .day ≤ 31)) or Range 25 (n .common .day)
+    ∷ (n .common .hour ≤ 23) or Range 30 (n .common .hour)
+    ∷ (n .common .minute ≤ 59) or Range 35 (n .common .minute)
+    ∷ ((n .common .it ≡ 0) ⊎ (n .common .it ≡ 2)) or Range 41 (n .common .it)
+    ∷ ((1 ≤ n .serial) × (n .serial ≤ 15)) or Range 53 (n .serial)
+    ∷ ((1 ≤ n .total) × (n .total ≤ 63)) or Range 207 (n .total)
     ∷ []
 
 -- each value is in its range

@@ -20,10 +20,13 @@ depth = among (0 to 501 ∷ 511 to 511 ∷ [])
 abbrev pub magnitude : Rule
 magnitude = among (1 to 101 ∷ 126 to 126 ∷ 127 to 127 ∷ [])
 
--- side, degrees (so many bits, at most so many), minutes, seconds
+-- a latitude or a longitude, its degrees in so many bits and at most so many
 abbrev pub angle : ℕ → ℕ → ℕ → List Row
 angle a w most =
-    row a 1 (within 0 1) ∷ row (a + 1) w (within 0 most) ∷ row (a + 1 + w) 6 (within 0 59) ∷ row (a + 7 + w) 6 (within 0 59) ∷ []
+    row a 1 (within 0 1)  -- side
+    ∷ row (a + 1) w (within 0 most)  -- degrees
+    ∷ row (a + 1 + w) 6 (within 0 59)  -- minutes
+    ∷ row (a + 7 + w) 6 (within 0 59) ∷ []  -- seconds
 
 abbrev pub hypocenter : Layout
 hypocenter = record {
@@ -33,15 +36,15 @@ hypocenter = record {
   front =
       spare1
       ∷ notifications
-      ++ time 80
-      ++ row 96 9 depth
-      ∷ row 105 7 magnitude
+      ++ time 80  -- earthquake
+      ++ row 96 9 depth  -- depth
+      ∷ row 105 7 magnitude  -- magnitude
       ∷ row 112 10 (within 11 1000)  -- epicenter
       ∷ angle 122 7 89  -- latitude
       ++ angle 142 8 179;  -- longitude
   slots = noSlots;
   text = [];
-  behind = spareRow 163 51 ∷ [];
+  behind = spareRow 163 51 ∷ [];  -- second spare
 }
 
 -- ---- what the values of the rows say

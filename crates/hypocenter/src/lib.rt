@@ -110,12 +110,24 @@ impl Quake {
         let longitude = self.longitude;
         let front = found
             .spare(43, 10, spares.first)
-            .ranged(53, is_notification(self.notification1))
-            .ranged(62, is_notification(self.notification2))
-            .ranged(71, is_notification(self.notification3))
+            .ranged(
+                53,
+                self.notification1 as u64,
+                is_notification(self.notification1),
+            )
+            .ranged(
+                62,
+                self.notification2 as u64,
+                is_notification(self.notification2),
+            )
+            .ranged(
+                71,
+                self.notification3 as u64,
+                is_notification(self.notification3),
+            )
             .time(80, time)
-            .ranged(96, is_depth(self.depth))
-            .ranged(105, is_magnitude(self.magnitude))
+            .ranged(96, self.depth as u64, is_depth(self.depth))
+            .ranged(105, self.magnitude as u64, is_magnitude(self.magnitude))
             .within(112, self.epicenter as u64, 11, 1000);
         longitude.check(latitude.check(front, 122, 7, 89), 142, 8, 179)
     }

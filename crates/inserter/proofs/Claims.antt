@@ -1,5 +1,6 @@
 -- What is claimed of one call, over the words and bytes that a program in C sees. What calls in a row come to is claimed in `calls`.
-use mathlib.Core.Path.{_≡_, refl}
+use mathlib.Core.Path.{_≡_, refl, sym, ap, _∙_}
+use mathlib.Core.Bool.{true}
 use mathlib.Core.List.{List, [], _∷_}
 use lib.ListN.{length}
 use Prim.Native.Nat.{ℕ, _+_, _*_, _/_, _^_, _≤_, _<_}
@@ -7,24 +8,28 @@ use Rattle.rows.specs.declared.refusal.Refusal.{Refusal}
 use Rattle.rows.specs.declared.refusal.Said.{Said}
 use Rattle.rows.specs.declared.refusal.Verdict.{Verdict}
 use Rattle.rows.specs.declared.refusal.Verdict.the-variants.{Fine, Refused}
-use Rattle.rows.specs.Refusals.{plain, says, answers}
-use Rattle.report.specs.Runs.Reading.{readOf, readSays}
-use Rattle.report.specs.Runs.Writing.{writeSays}
+use Rattle.rows.specs.declared.refusal.Refusal.the-variants.{Range}
+use Rattle.rows.specs.Refusals.{at, plain, says, answers}
+use Rattle.rows.proofs.Rules.Numbers.{answered-value}
+use Rattle.report.specs.Runs.Reading.{readAnswer, readOf, readSays}
+use Rattle.report.specs.Runs.Writing.{writeAnswer, writeSays}
 use Rattle.line.specs.Lines.{lineReading, lineSays, lineWriteSays}
 use Rattle.pages.specs.Names.{nameSays}
 use Rattle.bulletin.specs.declared.take.Taken.{Taken}
 use Rattle.bulletin.specs.declared.take.Taken.the-variants.{New, Same, Disputed, Refused as NotTaken}
-use Rattle.bulletin.specs.Takings.{takeOf}
+use Rattle.bulletin.specs.Stores.{soundStore}
+use Rattle.bulletin.specs.Takings.{takeOf, takeSays}
 use Rattle.bulletin.specs.Merges.{mergeSays}
 use Rattle.record_bytes.specs.Unpacked.{recordFrom}
 use Rattle.bulletin.specs.Counts.{countOf}
 use Rattle.bulletin.specs.Text.{textAnswer}
 use Rattle.store_bytes.specs.Stores.{nameFrom, storeOrZeros}
 use Rattle.parity.specs.Parity.{parityOf}
-use Rattle.inserter.specs.Answers.{answerWord, countAnswer, InBytes, IsRefusal, mergeInto, openInto, parityAnswer, readInto, readLineInto, takeInto, takenWord, textInto, wordBytes, writeInto, writeLineInto}
+use Rattle.inserter.specs.Answers.{answerWord, countAnswer, InBytes, IsRefusal, mergeInto, openInto, openValue, parityAnswer, readInto, readLineInto, readLineValue, readValue, takeInto, takeValue, takenWord, textInto, wordBytes, writeInto, writeLineInto, writeValue}
 use Rattle.inserter.specs.Meanings.{arrivalAnswer, depthAnswer, heightAnswer, magnitudeAnswer, prefectureAnswer, slotsAnswer}
 use Rattle.inserter.proofs.Meant as Meant
 use Rattle.inserter.proofs.Said as Said
+use Rattle.inserter.proofs.ValuesSaid as ValuesSaid
 use Rattle.inserter.proofs.Kept as Kept
 use Rattle.inserter.proofs.Refusing as Refusing
 use Rattle.inserter.proofs.Counting as Counting
@@ -63,9 +68,10 @@ pub a-word-has-number-place-page-and-mark : (s : Said) → InBytes s
     → wordBytes (answerWord s) ≡ s .number ∷ s .place ∷ s .page ∷ s .mark ∷ []
 a-word-has-number-place-page-and-mark = Refusing.four-bytes
 
--- .. so two refusals never give the same word ..
-pub words-tell-refusals-apart : (x y : Refusal) → InBytes (says x) → InBytes (says y) → answerWord (says x) ≡ answerWord (says y) → x ≡ y
-words-tell-refusals-apart = Refusing.words-apart
+-- .. so two refusals never give the same word and the same value ..
+pub words-and-values-tell-refusals-apart : (x y : Refusal) → InBytes (says x) → InBytes (says y) → answerWord (says x) ≡ answerWord (says y)
+    → says x .value ≡ says y .value → x ≡ y
+words-and-values-tell-refusals-apart = Refusing.words-apart
 
 -- .. every refusal has a number above 0 there ..
 pub a-refusal-is-told-as-one : (x : Refusal) → IsRefusal (answerWord (says x))
@@ -149,6 +155,52 @@ no-frame-has-a-parity = Said.no-parity
 
 pub a-parity-is-no-refusal : (frame : List ℕ) → parityOf frame < 2 ^ 24
 a-parity-is-no-refusal = Counting.parity-is-low
+
+-- ---- the value of an 8
+
+-- "reading, writing and opening pass it on": beside a call that refuses with 8 the question for the value answers it, ..
+pub a-refused-frame-tells-its-value : (frame buffer : List ℕ) (p x : ℕ) → length buffer ≡ 251 → readAnswer frame ≡ Refused (Range p x)
+    → (readInto frame buffer .answer ≡ answerWord (at 8 p x)) × (readValue frame ≡ x)
+a-refused-frame-tells-its-value frame buffer p x long e =
+    (Said.read-told frame buffer long ∙ ap (λ (v : Verdict). answerWord (answers v)) e, ap (λ (v : Verdict). answers v .value) e)
+
+pub a-refused-line-tells-its-value : (line buffer : List ℕ) (p x : ℕ) → length buffer ≡ 251 → lineSays line ≡ at 8 p x
+    → (readLineInto line buffer .answer ≡ answerWord (at 8 p x)) × (readLineValue line ≡ x)
+a-refused-line-tells-its-value line buffer p x long e = (Said.line-told line buffer long ∙ ap answerWord e, ap (λ (s : Said). s .value) e)
+
+pub a-refused-record-tells-its-value : (bytes buffer : List ℕ) (p x : ℕ) → writeAnswer (recordFrom bytes) (length buffer) ≡ Refused (Range p x)
+    → (writeInto bytes buffer .answer ≡ answerWord (at 8 p x)) × (writeValue bytes (length buffer) ≡ x)
+a-refused-record-tells-its-value bytes buffer p x e =
+    (Said.write-told bytes buffer ∙ ap (λ (v : Verdict). answerWord (answers v)) e, ap (λ (v : Verdict). answers v .value) e)
+
+pub a-refused-name-tells-its-value : (name buffer : List ℕ) (p x : ℕ) → length name ≡ 8 → length buffer ≡ 1205 → nameSays (nameFrom name) ≡ at 8 p x
+    → (openInto name buffer .answer ≡ answerWord (at 8 p x)) × (openValue name ≡ x)
+a-refused-name-tells-its-value name buffer p x long room e =
+    (Said.open-told name buffer long room ∙ ap answerWord e, ValuesSaid.named-value name long ∙ ap (λ (s : Said). s .value) e)
+
+-- .. which for a taking is that of writing the record: "Taking a record: 14, then what writing that record to 32 bytes would refuse" ..
+pub a-taking-tells-the-value-of-the-record : (store bytes : List ℕ) → soundStore (storeOrZeros store) ≡ true → takeValue store bytes ≡ writeValue bytes 32
+a-taking-tells-the-value-of-the-record store bytes h = sym (ValuesSaid.take-value (storeOrZeros store) (recordFrom bytes) h)
+
+-- .. and asked behind a refused taking it is the same as before.
+pub a-refused-taking-keeps-its-value : (buffer bytes : List ℕ) → IsRefusal (takeInto buffer bytes .answer)
+    → takeValue (takeInto buffer bytes .buffer) bytes ≡ takeValue buffer bytes
+a-refused-taking-keeps-its-value buffer bytes h = ap (λ (b : List ℕ). takeValue b bytes) (Kept.taking-leaves buffer bytes h)
+
+-- "All other numbers carry zero": where 8 is not what is said, the question answers 0.
+pub no-value-beside-another-number :
+    ((frame : List ℕ) → (readSays frame .number ≡ 8 → ⊥) → readValue frame ≡ 0)
+    × ((line : List ℕ) → (lineSays line .number ≡ 8 → ⊥) → readLineValue line ≡ 0)
+    × ((bytes : List ℕ) (size : ℕ) → (writeSays (recordFrom bytes) size .number ≡ 8 → ⊥) → writeValue bytes size ≡ 0)
+    × ((name : List ℕ) → (nameSays (nameFrom name) .number ≡ 8 → ⊥) → openValue name ≡ 0)
+    × ((store bytes : List ℕ) → (takeSays (storeOrZeros store) (recordFrom bytes) .number ≡ 8 → ⊥) → takeValue store bytes ≡ 0)
+no-value-beside-another-number = (
+  λ frame. answered-value (readAnswer frame),
+  ValuesSaid.line-without-8,
+  λ bytes size. answered-value (writeAnswer (recordFrom bytes) size),
+  ValuesSaid.opening-without-8,
+  λ store bytes. ValuesSaid.taking-without-8 (storeOrZeros store) (recordFrom bytes),
+)
 
 -- ---- what a number says
 

@@ -77,7 +77,7 @@ report-is-low store e =
 
 told : (v : Verdict) (c : Count) → v ≡ Fine → Few c → wordBytes (countWordBy v c) ≡ 0 ∷ c .held ∷ c .disputed ∷ c .lowest ∷ []
 told v c e f =
-    rw e (four-bytes (record { number = 0; place = c .held; page = c .disputed; mark = c .lowest })
+    rw e (four-bytes (record { number = 0; place = c .held; value = 0; page = c .disputed; mark = c .lowest })
     (record { place = omega (arith, f .held); page = omega (arith, f .disputed); mark = omega (arith, f .lowest) }))
 
 pub report-in-bytes : (store : List ℕ) → countOf (storeOrZeros store) .answer ≡ Fine

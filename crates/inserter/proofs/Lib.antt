@@ -9,3 +9,4 @@ pub mod Kept
 pub mod Counting
 pub mod Meant
 pub mod Said
+pub mod ValuesSaid

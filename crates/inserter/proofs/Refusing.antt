@@ -40,14 +40,14 @@ four-bytes s h =
     fourth : (a b c d : ℕ) → d < 256 → (a * 2 ^ 24 + b * 2 ^ 16 + c * 2 ^ 8 + d) % 256 ≡ d
     fourth a b c d r = omega arith
 
--- so the words of two refusals differ
-pub words-apart : (x y : Refusal) → InBytes (says x) → InBytes (says y) → answerWord (says x) ≡ answerWord (says y) → x ≡ y
-words-apart x y p q e =
+-- so the words of two refusals differ, or their values do
+pub words-apart : (x y : Refusal) → InBytes (says x) → InBytes (says y) → answerWord (says x) ≡ answerWord (says y) → says x .value ≡ says y .value → x ≡ y
+words-apart x y p q e f =
     let same : (says x .number ∷ says x .place ∷ says x .page ∷ says x .mark ∷ []) ≡ (says y .number ∷ says y .place ∷ says y .page ∷ says y .mark ∷ []) =
     sym (four-bytes (says x) p) ∙ ap wordBytes e ∙ four-bytes (says y) q
     in
     let at : (i : ℕ) → getD (says x .number ∷ says x .place ∷ says x .page ∷ says x .mark ∷ []) i 0 ≡ getD (says y .number ∷ says y .place ∷ says y .page ∷ says y .mark ∷ []) i 0 = λ i. ap (λ (l : List ℕ). getD l i 0) same in
-    says-apart x y (λ i. record { number = at 0 i; place = at 1 i; page = at 2 i; mark = at 3 i })
+    says-apart x y (λ i. record { number = at 0 i; place = at 1 i; value = f i; page = at 2 i; mark = at 3 i })
 
 pub wrong-call-is-high : IsRefusal (answerWord (plain 255))
 wrong-call-is-high = omega arith

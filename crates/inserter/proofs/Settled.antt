@@ -58,3 +58,18 @@ lz-arrival-is-settled κs a x y = answer
 
 pub lz-height-is-settled : Settled inserter.meanings.lz_height.ended inserter.meanings.lz_height.Reads.Post
 lz-height-is-settled κs a x y = answer
+
+pub lz-read-value-is-settled : Settled inserter.values.lz_read_value.ended inserter.values.lz_read_value.Reads.Post
+lz-read-value-is-settled κs a x y = answer
+
+pub lz-read-line-value-is-settled : Settled inserter.values.lz_read_line_value.ended inserter.values.lz_read_line_value.Reads.Post
+lz-read-line-value-is-settled κs a x y = answer
+
+pub lz-write-value-is-settled : Settled inserter.values.lz_write_value.ended inserter.values.lz_write_value.Reads.Post
+lz-write-value-is-settled κs a x y = answer
+
+pub lz-open-value-is-settled : Settled inserter.values.lz_open_value.ended inserter.values.lz_open_value.Reads.Post
+lz-open-value-is-settled κs a x y = answer
+
+pub lz-take-value-is-settled : Settled inserter.values.lz_take_value.ended inserter.values.lz_take_value.Reads.Post
+lz-take-value-is-settled κs a x y = answer

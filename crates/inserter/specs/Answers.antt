@@ -11,9 +11,10 @@ use Rattle.rows.specs.declared.refusal.Verdict.the-variants.{Fine, Refused}
 use Rattle.report.specs.declared.record.Record.{Record}
 use Rattle.report.specs.declared.read.Reading.{Reading}
 use Rattle.rows.specs.Refusals.{plain, says, answers}
-use Rattle.report.specs.Runs.Reading.{readOf}
-use Rattle.report.specs.Runs.Writing.{writeAnswer, writeOf}
-use Rattle.line.specs.Lines.{lineReading, lineAnswer, lineInto}
+use Rattle.report.specs.Runs.Reading.{readOf, readSays}
+use Rattle.report.specs.Runs.Writing.{writeAnswer, writeOf, writeSays}
+use Rattle.line.specs.Lines.{lineReading, lineAnswer, lineInto, lineSays}
+use Rattle.pages.specs.Names.{nameSays}
 use Rattle.bulletin.specs.declared.store.Store.{Store}
 use Rattle.bulletin.specs.declared.take.Taken.{Taken}
 use Rattle.bulletin.specs.declared.take.Taken.the-variants.{New, Same, Disputed, Refused as NotTaken}
@@ -21,7 +22,7 @@ use Rattle.bulletin.specs.declared.take.Taking.{Taking}
 use Rattle.bulletin.specs.declared.merge.Merging.{Merging}
 use Rattle.bulletin.specs.declared.count.Count.{Count}
 use Rattle.bulletin.specs.Stores.{openOf}
-use Rattle.bulletin.specs.Takings.{takeOf}
+use Rattle.bulletin.specs.Takings.{takeOf, takeSays}
 use Rattle.bulletin.specs.Merges.{mergeOf}
 use Rattle.bulletin.specs.Counts.{countOf}
 use Rattle.bulletin.specs.Text.{textAnswer, textBuffer}
@@ -33,7 +34,8 @@ use Rattle.store_bytes.specs.Stores.{storeBytes, storeInto, nameFrom, storeOrZe
 unfoldable pub parityAnswer : List ℕ → ℕ
 parityAnswer s = cond (eqb (length s) 32) (parityOf s) (1 * 2 ^ 24)
 
--- an answer as one word: the number of the refusal in the high byte, 0 where there is none, then place, page and mark
+-- an answer as one word: the number of the refusal in the high byte, 0 where there is none, then place, page and mark. The value has
+-- no room there and is asked for
 abbrev pub answerWord : Said → ℕ
 answerWord a = a .number * 2 ^ 24 + a .place * 2 ^ 16 + a .page * 2 ^ 8 + a .mark
 
@@ -119,7 +121,7 @@ mergeInto buffer other = mergeResult (mergeOf (storeOrZeros buffer) (storeOrZero
 
 -- held, disputed and lowest stand where a refusal has place, page and mark
 abbrev pub countWordBy : Verdict → Count → ℕ
-countWordBy Fine c = answerWord (record { number = 0; place = c .held; page = c .disputed; mark = c .lowest })
+countWordBy Fine c = answerWord (record { number = 0; place = c .held; value = 0; page = c .disputed; mark = c .lowest })
 countWordBy (Refused x) c = answerWord (says x)
 
 abbrev pub countWord : Count → ℕ
@@ -140,3 +142,22 @@ textResult s buffer =
 
 abbrev pub textInto : List ℕ → List ℕ → CallResult
 textInto store buffer = textResult (storeOrZeros store) buffer
+
+-- ---- the value that each call refuses with 8; 0 where it refuses with another number, or not at all
+
+abbrev pub readValue : List ℕ → ℕ
+readValue frame = readSays frame .value
+
+abbrev pub readLineValue : List ℕ → ℕ
+readLineValue line = lineSays line .value
+
+-- to a frame of so many bytes
+abbrev pub writeValue : List ℕ → ℕ → ℕ
+writeValue bytes size = writeSays (recordFrom bytes) size .value
+
+-- bytes of another length are no name
+unfoldable pub openValue : List ℕ → ℕ
+openValue name = cond (eqb (length name) 8) (nameSays (nameFrom name) .value) 0
+
+abbrev pub takeValue : List ℕ → List ℕ → ℕ
+takeValue store bytes = takeSays (storeOrZeros store) (recordFrom bytes) .value

@@ -8,7 +8,7 @@ use record_bytes::sizes::RECORD_SIZE;
 use report::read::Reading;
 use rows::refusal::Verdict;
 
-const FRAME_SIZE: usize = 32;
+pub(crate) const FRAME_SIZE: usize = 32;
 
 // The parity of a lent frame in the low three bytes. A slice that is no frame has 1, the number of
 // that refusal, in the high byte, and zeros below it.

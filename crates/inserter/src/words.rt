@@ -55,6 +55,7 @@ pub(crate) fn count_word(count: Count) -> u32
         Verdict::Fine => word(Said {
             number: 0,
             place: count.held,
+            value: 0,
             page: count.disputed,
             mark: count.lowest,
         }),

@@ -12,7 +12,9 @@ prefectures = record {
   count = 16;
   first = 69;
   bits = 9;
-  rows = row 0 3 (within 1 7) ∷ row 3 6 (within 1 47) ∷ [];
+  rows =
+      row 0 3 (within 1 7)  -- intensity
+      ∷ row 3 6 (within 1 47) ∷ [];  -- prefecture
   parts = record { day = false; hour = false; minute = false; strength = true; place = true };
 }
 
@@ -21,10 +23,12 @@ intensity = record {
   code = 3;
   rcs = twoOrSeven;
   types = uncorrected;
-  front = spare1 ∷ time 53;
+  front =
+      spare1
+      ∷ time 53;  -- earthquake
   slots = prefectures;
   text = [];
-  behind = spareRow 213 1 ∷ [];
+  behind = spareRow 213 1 ∷ [];  -- second spare
 }
 
 -- what the values of the rows say

@@ -80,6 +80,10 @@ past-end {l} {m} {i} {j} t k h x =
       place = omega arith;
     }
 
+-- the answer is not further on than t is long
+pub wrote-within : {l m t : List ℕ} {i j k : ℕ} → Wrote l m i j t → length t ≤ k → j ≤ i + k
+wrote-within w h = omega (arith, w .place)
+
 -- ---- where there was room
 
 -- an answer within the buffer is the place behind all of t

@@ -47,9 +47,12 @@ decimal-length : (k n : ℕ) → n < 10 ^ suc k → length (decimal n) ≤ suc k
 decimal-length zero n h = simp (decimal-one n h) (omega arith)
 decimal-length (suc k) n h = longer k n (ltb n 10) refl λ b. decimal-length k (n / 10) (div-lt-iff-lt-mul {k = 10} {x = n} {y = 10 ^ suc k} (omega arith) .1 (omega (arith, h)))
 
--- numbers of one byte and of four
+-- numbers of one byte, of four and of eight
 pub three-digits : (n : ℕ) → n < 256 → length (decimal n) ≤ 3
 three-digits n h = decimal-length 2 n (omega arith)
 
 pub ten-digits : (n : ℕ) → n < 4294967296 → length (decimal n) ≤ 10
 ten-digits n h = decimal-length 9 n (omega arith)
+
+pub twenty-digits : (n : ℕ) → n < 18446744073709551616 → length (decimal n) ≤ 20
+twenty-digits n h = decimal-length 19 n (omega arith)

@@ -48,7 +48,7 @@ pub fn put_wide(out: &mut [u8], at: usize, count: usize, value: u64) -> usize
 }
 
 // The number in decimal digits.
-pub fn put_decimal(out: &mut [u8], at: usize, number: u32) -> usize
+pub fn put_decimal(out: &mut [u8], at: usize, number: u64) -> usize
     ensures { λ r. ⌜ Wrote (now (out .entry)) (now (out .exit)) at r (decimal number) ⌝ }
 {
     if number < 10 {

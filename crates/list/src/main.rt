@@ -7,20 +7,20 @@ use listing::scan::LIMIT;
 ghost use mathlib.Core.Path.{_≡_};
 ghost use lib.ListN.{length};
 
-const CHUNK: usize = 16384;
+const CHUNK: usize = 8192;
 
-// 27 times as many, the longest row for each byte of a chunk.
-const TEXT: usize = 442368;
+// 48 times as many, the longest row for each byte of a chunk.
+const TEXT: usize = 393216;
 
 // The contracts of these two say the length alone, so that no proof above them unfolds so many zeros.
 fn chunk() -> [u8; CHUNK]
-    ensures { λ r. ⌜ 16384 ≡ length r ⌝ }
+    ensures { λ r. ⌜ 8192 ≡ length r ⌝ }
 {
     [0u8; CHUNK]
 }
 
 fn text() -> [u8; TEXT]
-    ensures { λ r. ⌜ 442368 ≡ length r ⌝ }
+    ensures { λ r. ⌜ 393216 ≡ length r ⌝ }
 {
     [0u8; TEXT]
 }

@@ -23,6 +23,7 @@ use lib.Seq.{take-all, take-append-seam}
 use Rattle.report.specs.declared.read.Reading.{Reading}
 use Rattle.rows.specs.Runs.Verdict.{allowed}
 use Rattle.line.specs.Lines.{digits, lineReading}
+use Rattle.rows.specs.Refusals.{plain}
 use Rattle.listing.specs.declared.row.Entry.the-variants.{Dash, Number}
 use Rattle.listing.specs.declared.progress.Progress.{Progress}
 use Rattle.listing.specs.Rows.{Filled, rowFor, rowOf, slotsEntry, refusedRow, rowText, headingText, cutText, longest, filledBy}
@@ -125,7 +126,7 @@ more-lines-are-cut ls h = cut-behind limit 0 ls (omega arith) h
 -- ---- 17
 
 abbrev pub row17 : ℕ → List ℕ
-row17 n = rowText n (refusedRow 17 Dash)
+row17 n = rowText n (refusedRow (plain 17))
 
 says-17 : (n : ℕ) (l : List ℕ) → lineReading l ≡ noLine → lineRow n l ≡ row17 n
 unfolding lineRow

@@ -19,11 +19,11 @@ zeros n = replicate n 48
 abbrev pub fourLines : List ℕ
 fourLines = zeros 63 ++ (10 ∷ 53 ∷ 51 ∷ zeros 61 ++ (10 ∷ 53 ∷ 51 ∷ 10 ∷ zeros 62 ++ (49 ∷ 10 ∷ [])))
 
--- " - - -", and the end of a row
+-- " - - -", one dash more for the value, and the end of a row
 abbrev pub dashes : List ℕ
-dashes = 32 ∷ 45 ∷ 32 ∷ 45 ∷ 32 ∷ 45 ∷ 10 ∷ []
+dashes = 32 ∷ 45 ∷ 32 ∷ 45 ∷ 32 ∷ 45 ∷ 32 ∷ 45 ∷ 10 ∷ []
 
--- "1 3", "2 4", "3 17", "4 2", each with three dashes
+-- "1 3", "2 4", "3 17", "4 2", each with four dashes
 pub four-lines-are-listed-so : listing fourLines ≡ headingText ++ (49 ∷ 32 ∷ 51 ∷ dashes ++ (50 ∷ 32 ∷ 52 ∷ dashes ++ (51 ∷ 32 ∷ 49 ∷ 55 ∷ dashes ++ (52 ∷ 32 ∷ 50 ∷ dashes))))
 unfolding listing linesOf onto rowsFrom limit lineRow rowText decimal figures lineReading isLine allDigits allowed frameOfLine paired outerOf _then_ unless parityOf step
 four-lines-are-listed-so = refl

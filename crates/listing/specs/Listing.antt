@@ -24,7 +24,7 @@ lineRow n l = rowText n (rowOf (lineReading l))
 unfoldable pub limit : ℕ
 limit = 1000000
 
--- the rows of the lines behind line n: "if more follow, a last line `cut - - - -` is printed"
+-- the rows of the lines behind line n: "if more follow, a last line `cut - - - -` is printed", with a fifth dash
 unfoldable pub rowsFrom : ℕ → List (List ℕ) → List ℕ
 rowsFrom n [] = []
 rowsFrom n (l ∷ ls) = cond (ltb n limit) (lineRow (suc n) l ++ rowsFrom (suc n) ls) cutText

@@ -1,5 +1,5 @@
 -- The lines of text of a listing (document 01, "The listing"): "line number from 1, answer (0 when read), first bit for 8, 9, 10, category, slots used in
--- categories 3 and 9", and in category 5.
+-- categories 3 and 9", and in category 5; and document 02: "a sixth column `value`".
 use Prim.Native.Nat.{ℕ}
 use mathlib.Core.Bool.{_||_, cond}
 use mathlib.Core.List.{List, [], _∷_, _++_}
@@ -15,6 +15,8 @@ use Rattle.report.specs.Meaning.{usedOf}
 use Rattle.listing.specs.declared.row.Entry.{Entry}
 use Rattle.listing.specs.declared.row.Entry.the-variants.{Dash, Number}
 use Rattle.listing.specs.declared.row.Row.{Row}
+use Rattle.listing.specs.declared.row.Value.{Value}
+use Rattle.listing.specs.declared.row.Value.the-variants.{Dash as NoValue, Number as Found}
 use Rattle.lent.specs.Numbers.{decimal}
 use Rattle.report.specs.Categories.{layout}
 
@@ -28,42 +30,54 @@ placeEntry a = cond (eqb (a .number) 8 || eqb (a .number) 10) (Number (a .place)
 abbrev pub slotsEntry : ℕ → ℕ → Entry
 slotsEntry count n = cond (eqb count 0) Dash (Number n)
 
-abbrev pub refusedRow : ℕ → Entry → Row
-refusedRow number place = record { answer = number; place = place; category = Dash; slots = Dash }
+-- "a dash unless the answer is 8"
+abbrev pub valueEntry : Said → Value
+valueEntry a = cond (eqb (a .number) 8) (Found (a .value)) NoValue
+
+abbrev pub refusedRow : Said → Row
+refusedRow a = record { answer = a .number; place = placeEntry a; category = Dash; slots = Dash; value = valueEntry a }
 
 -- "Category and slots are given only for a frame that was read"
 abbrev pub rowFor : Verdict → Record → Row
-rowFor Fine r = record { answer = 0; place = Dash; category = Number (layout (r .body) .code); slots = slotsEntry (layout (r .body) .slots .count) (usedOf r) }
-rowFor (Refused x) r = refusedRow (says x .number) (placeEntry (says x))
+rowFor Fine r = record { answer = 0; place = Dash; category = Number (layout (r .body) .code); slots = slotsEntry (layout (r .body) .slots .count) (usedOf r); value = NoValue }
+rowFor (Refused x) r = refusedRow (says x)
 
 abbrev pub rowOf : Reading → Row
 rowOf r = rowFor (r .answer) (r .«record»)
 
 -- ---- as text
 
+-- an entry of one byte, with room for 64 bits
+abbrev pub widened : Entry → Value
+widened Dash = NoValue
+widened (Number n) = Found n
+
 -- an entry behind a space: "A dash stands where there is nothing to say"
-abbrev pub entryText : Entry → List ℕ
-entryText Dash = 32 ∷ 45 ∷ []
-entryText (Number n) = 32 ∷ decimal n
+abbrev pub entryText : Value → List ℕ
+entryText NoValue = 32 ∷ 45 ∷ []
+entryText (Found n) = 32 ∷ decimal n
 
 -- the row of the line with this number
 unfoldable pub rowText : ℕ → Row → List ℕ
-rowText n r = decimal n ++ (entryText (Number (r .answer)) ++ (entryText (r .place) ++ (entryText (r .category) ++ (entryText (r .slots) ++ (10 ∷ [])))))
+rowText n r =
+    decimal n
+    ++ (entryText (Found (r .answer))
+    ++ (entryText (widened (r .place)) ++ (entryText (widened (r .category)) ++ (entryText (widened (r .slots)) ++ (entryText (r .value) ++ (10 ∷ []))))))
 
--- "line answer place dc slots"
+-- "line answer place dc slots", and `value`
 unfoldable pub headingText : List ℕ
 headingText =
-    108 ∷ 105 ∷ 110 ∷ 101 ∷ 32 ∷ 97 ∷ 110 ∷ 115 ∷ 119 ∷ 101 ∷ 114 ∷ 32 ∷ 112 ∷ 108 ∷ 97 ∷ 99 ∷ 101 ∷ 32 ∷ 100 ∷ 99 ∷ 32 ∷ 115 ∷ 108 ∷ 111 ∷ 116 ∷ 115 ∷ 10 ∷ []
+    108 ∷ 105 ∷ 110 ∷ 101 ∷ 32 ∷ 97 ∷ 110 ∷ 115 ∷ 119 ∷ 101 ∷ 114 ∷ 32 ∷ 112 ∷ 108 ∷ 97 ∷ 99 ∷ 101 ∷ 32 ∷ 100 ∷ 99 ∷ 32 ∷ 115 ∷ 108 ∷ 111 ∷ 116 ∷ 115 ∷ 32 ∷ 118 ∷ 97 ∷ 108 ∷ 117 ∷ 101 ∷ 10 ∷ []
 
--- "cut - - - -"
+-- "cut - - - -", and "the cut line gets a fifth dash"
 unfoldable pub cutText : List ℕ
-cutText = 99 ∷ 117 ∷ 116 ∷ 32 ∷ 45 ∷ 32 ∷ 45 ∷ 32 ∷ 45 ∷ 32 ∷ 45 ∷ 10 ∷ []
+cutText = 99 ∷ 117 ∷ 116 ∷ 32 ∷ 45 ∷ 32 ∷ 45 ∷ 32 ∷ 45 ∷ 32 ∷ 45 ∷ 32 ∷ 45 ∷ 10 ∷ []
 
 -- ---- in a lent buffer
 
--- no line of a listing has more bytes than its heading
+-- no line of a listing has more bytes, with a line number of 32 bits and a value of 64
 abbrev pub longest : ℕ
-longest = 27
+longest = 48
 
 -- what a call leaves: how many bytes of text there are, and the lent buffer
 pub record Filled : Type 0 where

@@ -5,7 +5,7 @@ ghost use lib.ListN.{length};
 ghost use Rattle.rows.specs.Refusals.{says};
 ghost use Rattle.report.specs.Meaning.{usedOf};
 ghost use Rattle.rows.specs.declared.refusal.Verdict.the-variants.{Fine};
-ghost use Rattle.listing.specs.Rows.{rowFor, rowOf, refusedRow, placeEntry, slotsEntry, entryText, rowText, headingText, cutText, filled, filledBy};
+ghost use Rattle.listing.specs.Rows.{rowFor, rowOf, refusedRow, placeEntry, valueEntry, slotsEntry, widened, entryText, rowText, headingText, cutText, filled, filledBy};
 ghost use Rattle.lent.specs.Writing.{Wrote};
 use lent::put_byte;
 use lent::put_bytes;
@@ -16,13 +16,20 @@ use rows::refusal::Refusal;
 use rows::refusal::Said;
 use rows::refusal::Verdict;
 
-// No line of a listing is longer: its heading is the longest.
-pub const LONGEST: usize = 27;
+// No line of a listing is longer: a number of ten digits, four entries of at most four bytes, a value of at most 21,
+// and a line feed.
+pub const LONGEST: usize = 48;
 
 // A number, or nothing to say.
 pub enum Entry {
     Dash,
     Number(u8),
+}
+
+// The same of a number that was refused, which may need 64 bits.
+pub enum Value {
+    Dash,
+    Number(u64),
 }
 
 // What is said of a line.
@@ -31,6 +38,7 @@ pub struct Row {
     pub place: Entry,
     pub category: Entry,
     pub slots: Entry,
+    pub value: Value,
 }
 
 impl Row {
@@ -45,16 +53,28 @@ impl Row {
         }
     }
 
+    // 8 alone has a value to say, 0 too.
+    fn value_entry(said: Said) -> Value
+        ensures { λ r. ⌜ r ≡ valueEntry said ⌝ }
+    {
+        if said.number == 8 {
+            return Value::Number(said.value);
+        }
+        Value::Dash
+    }
+
     fn of_refusal(refusal: Refusal) -> Row
-        ensures { λ r. ⌜ r ≡ refusedRow (says refusal .number) (placeEntry (says refusal)) ⌝ }
+        ensures { λ r. ⌜ r ≡ refusedRow (says refusal) ⌝ }
     {
         let said = refusal.says();
         let place = Row::place_entry(said);
+        let value = Row::value_entry(said);
         Row {
             answer: said.number,
             place: place,
             category: Entry::Dash,
             slots: Entry::Dash,
+            value: value,
         }
     }
 
@@ -78,6 +98,7 @@ impl Row {
             place: Entry::Dash,
             category: Entry::Number(body.code()),
             slots: slots,
+            value: Value::Dash,
         }
     }
 
@@ -96,42 +117,53 @@ impl Row {
     }
 }
 
-fn put_entry(out: &mut [u8], at: usize, entry: Entry) -> usize
-    requires { ⌜ at + 4 ≤ length (now out) ⌝ }
-    ensures { λ r. ⌜ Wrote (now (out .entry)) (now (out .exit)) at r (entryText entry) × (r ≤ at + 4) ⌝ }
+impl Entry {
+    // With room for 64 bits. It has at most three digits.
+    fn widened(self) -> Value
+        ensures { λ r. ⌜ (r ≡ widened self) × (length (entryText r) ≤ 4) ⌝ }
+    {
+        match self {
+            Entry::Dash => Value::Dash,
+            Entry::Number(n) => Value::Number(n as u64),
+        }
+    }
+}
+
+fn put_entry(out: &mut [u8], at: usize, entry: Value) -> usize
+    ensures { λ r. ⌜ Wrote (now (out .entry)) (now (out .exit)) at r (entryText entry) × (r ≤ at + 21) ⌝ }
 {
     let next = put_byte(out, at, b' ');
     match entry {
-        Entry::Dash => put_byte(out, next, b'-'),
-        Entry::Number(n) => put_decimal(out, next, n as u32),
+        Value::Dash => put_byte(out, next, b'-'),
+        Value::Number(n) => put_decimal(out, next, n),
     }
 }
 
 pub(crate) fn put_row(out: &mut [u8], at: usize, number: u32, row: Row) -> usize
-    requires { ⌜ at + 27 ≤ length (now out) ⌝ }
-    ensures { λ r. ⌜ Wrote (now (out .entry)) (now (out .exit)) at r (rowText number row) × (r ≤ at + 27) ⌝ }
+    ensures { λ r. ⌜ Wrote (now (out .entry)) (now (out .exit)) at r (rowText number row) × (r ≤ at + 48) ⌝ }
 {
-    let answer = put_decimal(out, at, number);
-    let place = put_entry(out, answer, Entry::Number(row.answer));
-    let place_entry = row.place;
-    let category = put_entry(out, place, place_entry);
-    let category_entry = row.category;
-    let slots = put_entry(out, category, category_entry);
-    let slots_entry = row.slots;
-    let end = put_entry(out, slots, slots_entry);
+    let place = row.place;
+    let category = row.category;
+    let slots = row.slots;
+    let value = row.value;
+    let behind_number = put_decimal(out, at, number as u64);
+    let behind_answer = put_entry(out, behind_number, Entry::Number(row.answer).widened());
+    let behind_place = put_entry(out, behind_answer, place.widened());
+    let behind_category = put_entry(out, behind_place, category.widened());
+    let behind_slots = put_entry(out, behind_category, slots.widened());
+    let end = put_entry(out, behind_slots, value);
     put_byte(out, end, b'\n')
 }
 
 // What stands in place of the lines behind the last that is read.
 pub(crate) fn put_cut(out: &mut [u8], at: usize) -> usize
-    requires { ⌜ at + 27 ≤ length (now out) ⌝ }
-    ensures { λ r. ⌜ Wrote (now (out .entry)) (now (out .exit)) at r cutText × (r ≤ at + 27) ⌝ }
+    ensures { λ r. ⌜ Wrote (now (out .entry)) (now (out .exit)) at r cutText × (r ≤ at + 48) ⌝ }
 {
-    put_bytes(out, at, b"cut - - - -\n")
+    put_bytes(out, at, b"cut - - - - -\n")
 }
 
 // Puts the first line of a listing at the start of out, and answers its length. An out of less than
-// 27 bytes is left as it is, and the answer is 0.
+// 48 bytes is left as it is, and the answer is 0.
 pub fn write_heading(out: &mut [u8]) -> usize
     ensures is { λ r. ⌜ filled r (now (out .exit)) ≡ filledBy headingText (now (out .entry)) ⌝ }
     ensures fits { λ r. ⌜ r ≤ length (now (out .entry)) ⌝ }
@@ -139,7 +171,7 @@ pub fn write_heading(out: &mut [u8]) -> usize
     if out.len() < LONGEST {
         return 0;
     }
-    put_bytes(out, 0, b"line answer place dc slots\n")
+    put_bytes(out, 0, b"line answer place dc slots value\n")
 }
 
 // Puts the row of the line with this number at the start of out, as `write_heading` does.

@@ -45,7 +45,7 @@ fn find(s: &[u8], from: usize) -> usize
 // The chunk from index `from` on, where a line begins. Lines are read where they stand; what is left
 // of the last is copied.
 fn scan_lines(lines: u32, chunk: &[u8], from: usize, out: &mut [u8], to: usize) -> Step
-    requires { ⌜ (lines ≤ limit) × (from ≤ length (now chunk)) × (to + 27 * (length (now chunk) - from) ≤ length (now out)) ⌝ }
+    requires { ⌜ (lines ≤ limit) × (from ≤ length (now chunk)) × (to + 48 * (length (now chunk) - from) ≤ length (now out)) ⌝ }
     ensures { λ r. ⌜ Scanned lines [] (drop from (now (chunk .entry))) (now (out .entry)) (now (out .exit)) to r ⌝ }
 {
     let used = chunk.len() - from;
@@ -85,7 +85,7 @@ fn scan_lines(lines: u32, chunk: &[u8], from: usize, out: &mut [u8], to: usize) 
 
 // A chunk that goes on with a line, where out has room for a row of each of its bytes.
 fn scan_first(from: Progress, chunk: &[u8], out: &mut [u8]) -> Step
-    requires { ⌜ (from .lines < limit) × (27 * length (now chunk) ≤ length (now out)) ⌝ }
+    requires { ⌜ (from .lines < limit) × (48 * length (now chunk) ≤ length (now out)) ⌝ }
     ensures { λ r. ⌜ Scanned (from .lines) (begunIn from) (now (chunk .entry)) (now (out .entry)) (now (out .exit)) 0 r ⌝ }
 {
     let used = chunk.len();
@@ -114,7 +114,7 @@ fn scan_first(from: Progress, chunk: &[u8], out: &mut [u8]) -> Step
 
 // A whole chunk, with that room. Behind the last line that is read, its first byte is answered once.
 fn scan_all(from: Progress, chunk: &[u8], out: &mut [u8]) -> Step
-    requires { ⌜ 27 * length (now chunk) ≤ length (now out) ⌝ }
+    requires { ⌜ 48 * length (now chunk) ≤ length (now out) ⌝ }
     ensures { λ r. ⌜ Scanned (from .lines) (begunIn from) (now (chunk .entry)) (now (out .entry)) (now (out .exit)) 0 r ⌝ }
 {
     let used = chunk.len();
@@ -141,8 +141,8 @@ fn scan_all(from: Progress, chunk: &[u8], out: &mut [u8]) -> Step
 }
 
 // Takes bytes of a chunk of the input, of any length, and puts the rows of the lines that end in them
-// at the start of out. It takes as many as out has room for, at 27 bytes a row, or all of them: an out
-// of 27 times the chunk's length leaves no byte.
+// at the start of out. It takes as many as out has room for, at 48 bytes a row, or all of them: an out
+// of 48 times the chunk's length leaves no byte.
 pub fn scan(from: Progress, chunk: &[u8], out: &mut [u8]) -> Step
     ensures is { λ r. ⌜ afterScan r (now (out .exit)) ≡ scanned from (now (chunk .entry)) (now (out .entry)) ⌝ }
     ensures fits { λ r. ⌜ r .written ≤ length (now (out .entry)) ⌝ }
@@ -152,7 +152,7 @@ pub fn scan(from: Progress, chunk: &[u8], out: &mut [u8]) -> Step
 }
 
 // The end of the input: puts the row of a last line that lacks its line feed at the start of out, and
-// answers its length, 0 where there is none. An out of less than 27 bytes is left as it is.
+// answers its length, 0 where there is none. An out of less than 48 bytes is left as it is.
 pub fn finish(from: Progress, out: &mut [u8]) -> usize
     ensures is { λ r. ⌜ filled r (now (out .exit)) ≡ finished from (now (out .entry)) ⌝ }
     ensures fits { λ r. ⌜ r ≤ length (now (out .entry)) ⌝ }

@@ -27,7 +27,7 @@ unfolding walk judge
 bytes-pass zero a past text h = refl
 bytes-pass (suc n) a past [] h = refl
 bytes-pass (suc n) a past (t ∷ text) h =
-    ap (λ (v : Verdict). v then walk (t ∷ past) (bytes n (a + 8)) text) (unless-true _ (Range a) (in-allowed (0 to 255 ∷ []) t (inl (zero-le, byte t (h 0)))))
+    ap (λ (v : Verdict). v then walk (t ∷ past) (bytes n (a + 8)) text) (unless-true _ (Range a t) (in-allowed (0 to 255 ∷ []) t (inl (zero-le, byte t (h 0)))))
     ∙ fine-then _
     ∙ bytes-pass n (a + 8) (t ∷ past) text (λ i. h (suc i))
 
@@ -36,13 +36,13 @@ pub any-text-passes : (text : List ℕ) → Bytes text → walk [] (nankai .text
 any-text-passes text h = bytes-pass 18 57 [] text h
 
 -- what is asked of a page's numbers, as the code asks it
-pub front-walk : (p : PageNumbers) (z : Spares) → walk [] (nankai .front) (numberValues p z .front) ≡ ranged (ltb (z .first) (2 ^ 10)) 43 then ranged (leb 1 (p .serial) && leb (p .serial) 15) 53
+pub front-walk : (p : PageNumbers) (z : Spares) → walk [] (nankai .front) (numberValues p z .front) ≡ ranged (ltb (z .first) (2 ^ 10)) 43 (z .first) then ranged (leb 1 (p .serial) && leb (p .serial) 15) 53 (p .serial)
 unfolding walk judge
 front-walk p z = simp (then-fine, allowed-one)
 
 pub behind-walk : (p : PageNumbers) (z : Spares) → walk [] (nankai .behind) (numberValues p z .behind)
-    ≡ ranged (leb 1 (p .number) && leb (p .number) 63) 201
-    then ranged (leb (p .number) (p .total) && leb (p .total) 63) 207
-    then ranged (ltb (z .second) (2 ^ 1)) 213
+    ≡ ranged (leb 1 (p .number) && leb (p .number) 63) 201 (p .number)
+    then ranged (leb (p .number) (p .total) && leb (p .total) 63) 207 (p .total)
+    then ranged (ltb (z .second) (2 ^ 1)) 213 (z .second)
 unfolding walk judge
 behind-walk p z = simp (then-fine, allowed-one)

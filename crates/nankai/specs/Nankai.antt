@@ -13,10 +13,16 @@ nankai = record {
   code = 4;
   rcs = twoOrSeven;
   types = uncorrected;
-  front = spare1 ∷ row 53 4 (within 1 15) ∷ [];  -- Is
+  front =
+      spare1
+      ∷ row 53 4 (within 1 15) ∷ [];  -- information serial code (Is)
   slots = noSlots;
-  text = bytes 18 57;
-  behind = row 201 6 (within 1 63) ∷ row 207 6 (rising 63) ∷ spareRow 213 1 ∷ [];  -- "Page total: at least the page number"
+  text = bytes 18 57;  -- text
+  -- "Page total: at least the page number"
+  behind =
+      row 201 6 (within 1 63)  -- page number
+      ∷ row 207 6 (rising 63)  -- page total
+      ∷ spareRow 213 1 ∷ [];  -- second spare
 }
 
 -- what the values of the rows say

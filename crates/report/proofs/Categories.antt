@@ -219,7 +219,7 @@ spares-told s = by-category (λ (dc : ℕ). sparesAt s (layout (bodyBy s dc)) �
 
 -- ---- a spare that is too wide
 
-pub first-refused : (b : Body) (z : Spares) → 2 ^ spareWidth (layout b .front) ≤ z .first → walk [] (layout b .front) (sidesOf b z .front) ≡ Refused (Range (spareBit (layout b .front)))
+pub first-refused : (b : Body) (z : Spares) → 2 ^ spareWidth (layout b .front) ≤ z .first → walk [] (layout b .front) (sidesOf b z .front) ≡ Refused (Range (spareBit (layout b .front)) (z .first))
 first-refused NoCategory z h = too-wide _ _ 43 10 (z .first) h
 first-refused (Hypocenter q) z h = too-wide _ _ 43 10 (z .first) h
 first-refused (Intensity t) z h = too-wide _ _ 43 10 (z .first) h
@@ -228,12 +228,12 @@ first-refused (Tsunami w) z h = too-wide _ _ 43 10 (z .first) h
 first-refused (AshFall e) z h = too-wide _ _ 43 10 (z .first) h
 
 pub second-refused : (b : Body) (z y : Spares) → hasSpare (layout b .behind) ≡ true → walk [] (layout b .behind) (sidesOf b z .behind) ≡ Fine → 2 ^ spareWidth (layout b .behind) ≤ y .second
-    → walk [] (layout b .behind) (sidesOf b y .behind) ≡ Refused (Range (spareBit (layout b .behind)))
+    → walk [] (layout b .behind) (sidesOf b y .behind) ≡ Refused (Range (spareBit (layout b .behind)) (y .second))
 unfolding walk
 second-refused NoCategory z y s f h = absurd (false-not-true s)
 second-refused (Hypocenter q) z y s f h = too-wide [] [] 163 51 (y .second) h
 second-refused (Intensity t) z y s f h = too-wide [] [] 213 1 (y .second) h
-second-refused (Nankai p) z y s f h = behind-walk p y ∙ behind-two _ _ _ _ (Range 213) (sym (behind-walk p z) ∙ f) (not-ranged 213 1 (y .second) h)
+second-refused (Nankai p) z y s f h = behind-walk p y ∙ behind-two _ _ _ _ (Range 213 (y .second)) (sym (behind-walk p z) ∙ f) (not-ranged 213 1 (y .second) h)
 second-refused (Tsunami w) z y s f h = absurd (false-not-true s)
 second-refused (AshFall e) z y s f h = too-wide [] [] 199 15 (y .second) h
 

@@ -15,7 +15,11 @@ use Rattle.report.specs.declared.record.Record.{Record}
 use Rattle.rows.specs.Refusals.{says, answers}
 use Rattle.rows.specs.Layout.{allRows, tiles, allFit, lowest, Row, spareRow, Member, codesOf, group, ungrouped}
 use Rattle.report.specs.Records.{bodyOf, recordAs, recordOf, zeros, values}
-use Rattle.rows.specs.Values.{hasSpare, sparesAt, valuesOf}
+use Rattle.rows.specs.Values.{cut, flat, hasSpare, sparesAt, valuesOf}
+use Rattle.rows.specs.Found.{FoundAt, Starts}
+use Rattle.nankai.specs.declared.PageNumbers.{PageNumbers}
+use Rattle.report.specs.declared.body.Body.the-variants.{Nankai}
+use Rattle.report.proofs.FoundValues.{frame-field, frame-found, frame-total, record-found, record-total}
 use Rattle.rows.specs.Runs.Verdict.{allowed, empty, walk}
 use Rattle.report.specs.Meaning.{usedOf}
 use Rattle.report.specs.Runs.Reading.{readAnswer, readSays, reading, readOf}
@@ -28,7 +32,7 @@ use Rattle.report.proofs.Reading.Frames.{layoutOf, frameValues, conform
 use Rattle.rows.proofs.Layouts.Lengths.{Filled, frame-filled}
 use Rattle.slots.proofs.Used.{counted-used}
 use Rattle.report.proofs.Reading.Used.{others-empty, used-area, used-place, used-prefecture, used-slot-kept}
-use Rattle.rows.proofs.Rules.Numbers.{answers-not-nine, not-nine, says-apart, says-numbered, zero-fine}
+use Rattle.rows.proofs.Rules.Numbers.{answered-value, answers-not-nine, not-nine, says-apart, says-numbered, zero-fine}
 use Rattle.report.proofs.Reading.ReadNumbers.{read-ten, refused-zeros}
 use Rattle.report.proofs.PaperValues.{found, expected, paperValues, every-row}
 use Rattle.report.proofs.Writing.WriteNumbers.{writeNumbers, write-numbered}
@@ -156,9 +160,25 @@ pub faultless-is-read : (s : List ℕ) → Met (readQuestions s)
     → ((x : Refusal) → Fault (layoutOf s) (frameValues s) x → ⊥) → readAnswer s ≡ Fine
 faultless-is-read s m h = faultless s m h
 
+-- "Every field check hands back the value found beside the place": a row of the frame's table starts at the place of an 8, and the value
+-- is the field of that row's width there ..
+pub a-refused-value-is-the-field-at-its-place : (s : List ℕ) (p x : ℕ) → readAnswer s ≡ Refused (Range p x)
+    → (w : ℕ) × (Starts (allRows (layoutOf s)) p w × (x ≡ fieldOf s p w))
+a-refused-value-is-the-field-at-its-place s p x e = frame-field s p x e
+
+-- .. which is not in the row's normal range ..
+pub a-refused-value-is-out-of-range : (s : List ℕ) (p x : ℕ) → readAnswer s ≡ Refused (Range p x)
+    → FoundAt 0 (allRows (layoutOf s)) (map (cut s) (allRows (layoutOf s))) p x
+a-refused-value-is-out-of-range s p x e = frame-found s p x e
+
+-- .. and "A refused category 4 total gives the total": below the page number, or above 63.
+pub a-refused-total-is-told : (s : List ℕ) (x : ℕ) → fieldOf s 17 4 ≡ 4 → readAnswer s ≡ Refused (Range 207 x)
+    → (x ≡ fieldOf s 207 6) × ((fieldOf s 207 6 < fieldOf s 201 6) ⊎ (63 < fieldOf s 207 6))
+a-refused-total-is-told s x c e = frame-total s x c e
+
 -- "For a slot the gap is tested before its fields."
-pub gap-before-fields : (s : List ℕ) (p : ℕ) → readAnswer s ≡ Refused (Range p) → Fault (layoutOf s) (frameValues s) (Gap p) → ⊥
-gap-before-fields s p e f = no-gap s p e f
+pub gap-before-fields : (s : List ℕ) (p v : ℕ) → readAnswer s ≡ Refused (Range p v) → Fault (layoutOf s) (frameValues s) (Gap p) → ⊥
+gap-before-fields s p v e f = no-gap s p v e f
 
 -- ---- slots
 
@@ -198,7 +218,7 @@ other-slots-are-empty s c i u l = others-empty s c i u l
 
 -- ---- numbers
 
--- "What each number says": no two refusals have the same number, place, page and mark.
+-- "What each number says": no two refusals have the same number, place, value, page and mark.
 pub answers-tell-refusals-apart : (x y : Refusal) → says x ≡ says y → x ≡ y
 answers-tell-refusals-apart x y e = says-apart x y e
 
@@ -209,6 +229,10 @@ refusals-are-1-to-17 x = says-numbered x
 -- .. and where a promise says 0 nothing is refused: "answer (0 when read)".
 pub zero-says-that-nothing-is-refused : (v : Verdict) → answers v .number ≡ 0 → v ≡ Fine
 zero-says-that-nothing-is-refused v e = zero-fine v e
+
+-- .. and no number but 8 has a value.
+pub only-8-has-a-value : (v : Verdict) → (answers v .number ≡ 8 → ⊥) → answers v .value ≡ 0
+only-8-has-a-value v h = answered-value v h
 
 -- "Reading a frame: 1 to 7 in that order", then 8 and 10: no other number is answered ..
 pub answers-are-0-to-10 : (s : List ℕ) → readSays s .number ≤ 10
@@ -254,12 +278,12 @@ the-frame-has-the-spares-of-its-record r s v = on-the-wire r s v
 
 -- "in writing, a spare too wide for its field is 8 at its first bit": any valid record, with such a first spare instead of its own ..
 pub a-first-spare-too-wide-is-8 : (r : Record) → Valid r → (n : ℕ) → 2 ^ spareWidth (layout (r .body) .front) ≤ n
-    → writeAnswer (sparing r (record { first = n; second = r .spares .second })) 32 ≡ Refused (Range (spareBit (layout (r .body) .front)))
+    → writeAnswer (sparing r (record { first = n; second = r .spares .second })) 32 ≡ Refused (Range (spareBit (layout (r .body) .front)) n)
 a-first-spare-too-wide-is-8 r v n h = first-too-wide r v n h
 
 -- .. and any one of a category that has a second spare, with such a one.
 pub a-second-spare-too-wide-is-8 : (r : Record) → Valid r → (n : ℕ) → hasSpare (layout (r .body) .behind) ≡ true → 2 ^ spareWidth (layout (r .body) .behind) ≤ n
-    → writeAnswer (sparing r (record { first = r .spares .first; second = n })) 32 ≡ Refused (Range (spareBit (layout (r .body) .behind)))
+    → writeAnswer (sparing r (record { first = r .spares .first; second = n })) 32 ≡ Refused (Range (spareBit (layout (r .body) .behind)) n)
 a-second-spare-too-wide-is-8 r v n s h = second-too-wide r v n s h
 
 -- "record has something where its category has nothing": a second spare where the category has none is 11.
@@ -299,12 +323,22 @@ pub written-is-faultless : (r : Record) (size : ℕ) → Shaped r → writeAnswe
 written-is-faultless r size s e = fault-free r size s e
 
 -- "the gap again before a slot's fields"
-pub gap-before-fields-in-writing : (r : Record) (size p : ℕ) → Shaped r → writeAnswer r size ≡ Refused (Range p)
+pub gap-before-fields-in-writing : (r : Record) (size p v : ℕ) → Shaped r → writeAnswer r size ≡ Refused (Range p v)
     → Fault (recordLayout r) (recordValues r) (Gap p) → ⊥
-gap-before-fields-in-writing r size p s e f = write-no-gap r size p s e f
+gap-before-fields-in-writing r size p v s e f = write-no-gap r size p v s e f
+
+-- The value of an 8 stands in the record, for the row that starts at its place, and is not in that row's normal range ..
+pub a-value-refused-in-writing-stands-in-the-record : (r : Record) (size p x : ℕ) → Shaped r → writeAnswer r size ≡ Refused (Range p x)
+    → FoundAt 0 (allRows (layout (r .body))) (flat (values r)) p x
+a-value-refused-in-writing-stands-in-the-record r size p x s e = record-found r size p x s e
+
+-- .. and that of a total is the total, below the page number or above 63.
+pub a-total-refused-in-writing-is-told : (r : Record) (p : PageNumbers) (size x : ℕ) → Shaped r → r .body ≡ Nankai p
+    → writeAnswer r size ≡ Refused (Range 207 x) → (x ≡ p .total) × ((p .total < p .number) ⊎ (63 < p .total))
+a-total-refused-in-writing-is-told r p size x s b e = record-total r p size x s b e
 
 -- "a Reserved above 63 is 8 at bit 220": any valid record, with such a Reserved instead of its own.
-pub reserved-above-63 : (r : Record) (n : ℕ) → Valid r → 63 < n → writeAnswer (reserving r n) 32 ≡ Refused (Range 220)
+pub reserved-above-63 : (r : Record) (n : ℕ) → Valid r → 63 < n → writeAnswer (reserving r n) 32 ≡ Refused (Range 220 n)
 reserved-above-63 r n v h = above-63 r n v h
 
 -- "Writing: 1, 3, 7, 11, then 8 and 10": no other number is answered.

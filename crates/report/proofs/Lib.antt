@@ -3,6 +3,7 @@ pub mod Told
 pub mod Tables
 pub mod Texts
 pub mod Shaped
+pub mod FoundValues
 pub mod Spares
 pub mod Reading
 pub mod Writing

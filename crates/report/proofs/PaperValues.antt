@@ -32,7 +32,7 @@ sampleTime = record { day = 1; hour = 0; minute = 0 }
 abbrev pub angle : ℕ → Angle
 angle degrees = record { side = 0; degrees = degrees; minutes = 0; seconds = 0 }
 
--- what is found in a record with this Rc and this It: its number, and its place
+-- what is found in a record with this Rc and this It: its number, place and value
 abbrev pub judgedAs : ℕ → ℕ → Body → List Slot → Said
 judgedAs rc it body slots = answers (verdict (layout body) (values (record {
   preamble = 0x53;
@@ -109,8 +109,8 @@ page n total = said (judged (Nankai (record { serial = 1; number = n; total = to
 abbrev pub passes : Outcome
 passes = said (plain 0)
 
-abbrev pub eightAt : ℕ → Outcome
-eightAt p = said (at 8 p)
+abbrev pub eightAt : ℕ → ℕ → Outcome
+eightAt p v = said (at 8 p v)
 
 infixl 71 _gives_
 pub data Value : Type 0 where
@@ -119,26 +119,26 @@ pub data Value : Type 0 where
 abbrev pub paperValues : List Value
 paperValues =
     depth 501 gives passes  -- P1
-    ∷ depth 502 gives eightAt 96
-    ∷ depth 510 gives eightAt 96  -- P2
+    ∷ depth 502 gives eightAt 96 502
+    ∷ depth 510 gives eightAt 96 510  -- P2
     ∷ depth 511 gives passes
-    ∷ magnitude 0 gives eightAt 105  -- P3
+    ∷ magnitude 0 gives eightAt 105 0  -- P3
     ∷ magnitude 101 gives passes
-    ∷ magnitude 102 gives eightAt 105  -- P4
-    ∷ magnitude 125 gives eightAt 105
+    ∷ magnitude 102 gives eightAt 105 102  -- P4
+    ∷ magnitude 125 gives eightAt 105 125
     ∷ magnitude 126 gives passes
-    ∷ notification 100 gives eightAt 53  -- P5
+    ∷ notification 100 gives eightAt 53 100  -- P5
     ∷ notification 101 gives passes
     ∷ notification 500 gives passes  -- P6
-    ∷ notification 501 gives eightAt 53
-    ∷ epicenter 10 gives eightAt 112  -- P7
+    ∷ notification 501 gives eightAt 53 501
+    ∷ epicenter 10 gives eightAt 112 10  -- P7
     ∷ epicenter 1000 gives passes
     ∷ longitudeDegrees 179 gives passes  -- P8
-    ∷ longitudeDegrees 180 gives eightAt 143
+    ∷ longitudeDegrees 180 gives eightAt 143 180
     ∷ slotValue (slot 4 44) gives number 300  -- P9
     ∷ prefecture 4321400 gives number 43  -- P10
-    ∷ page 1 0 gives eightAt 207  -- P11
-    ∷ secondSlot (slot 3 0) gives eightAt 81 ∷ []  -- P12
+    ∷ page 1 0 gives eightAt 207 0  -- P11
+    ∷ secondSlot (slot 3 0) gives eightAt 81 0 ∷ []  -- P12
 
 -- the two sides of the table
 abbrev pub found : Value → Outcome

@@ -72,28 +72,28 @@ elevenIs = said (plain 11)
 abbrev pub spareValues : List Value
 spareValues =
     spares hypocenter 1023 (2 ^ 51 - 1) gives passes
-    ∷ spares hypocenter 1024 0 gives eightAt 43
-    ∷ spares hypocenter 0 (2 ^ 51) gives eightAt 163
-    ∷ spares hypocenter 1024 (2 ^ 51) gives eightAt 43
+    ∷ spares hypocenter 1024 0 gives eightAt 43 1024
+    ∷ spares hypocenter 0 (2 ^ 51) gives eightAt 163 (2 ^ 51)
+    ∷ spares hypocenter 1024 (2 ^ 51) gives eightAt 43 1024
     ∷ spares intensity 1023 1 gives passes
-    ∷ spares intensity 1024 0 gives eightAt 43
-    ∷ spares intensity 0 2 gives eightAt 213
+    ∷ spares intensity 1024 0 gives eightAt 43 1024
+    ∷ spares intensity 0 2 gives eightAt 213 2
     ∷ spares nankai 1023 1 gives passes
-    ∷ spares nankai 1024 0 gives eightAt 43
-    ∷ spares nankai 0 2 gives eightAt 213
+    ∷ spares nankai 1024 0 gives eightAt 43 1024
+    ∷ spares nankai 0 2 gives eightAt 213 2
     ∷ spares tsunami 1023 0 gives passes
-    ∷ spares tsunami 1024 0 gives eightAt 43
+    ∷ spares tsunami 1024 0 gives eightAt 43 1024
     ∷ spares tsunami 0 1 gives elevenIs
     ∷ spares tsunami 1024 1 gives elevenIs
     ∷ spares ashFall 1023 32767 gives passes
-    ∷ spares ashFall 1024 0 gives eightAt 43
-    ∷ spares ashFall 0 32768 gives eightAt 199
+    ∷ spares ashFall 1024 0 gives eightAt 43 1024
+    ∷ spares ashFall 0 32768 gives eightAt 199 32768
     -- by lowest bit: It at 41, strength in the first place at 86, Reserved at 220
-    ∷ written (withIt 3 (spared ashFall 1024 32768)) gives eightAt 41
-    ∷ written (withStrength 0 (spared ashFall 1024 0)) gives eightAt 43
-    ∷ written (withStrength 0 (spared ashFall 0 32768)) gives eightAt 86
-    ∷ written (withReserved 64 (spared ashFall 0 32768)) gives eightAt 199
-    ∷ written (withReserved 64 (spared ashFall 0 32767)) gives eightAt 220 ∷ []
+    ∷ written (withIt 3 (spared ashFall 1024 32768)) gives eightAt 41 3
+    ∷ written (withStrength 0 (spared ashFall 1024 0)) gives eightAt 43 1024
+    ∷ written (withStrength 0 (spared ashFall 0 32768)) gives eightAt 86 0
+    ∷ written (withReserved 64 (spared ashFall 0 32768)) gives eightAt 199 32768
+    ∷ written (withReserved 64 (spared ashFall 0 32767)) gives eightAt 220 64 ∷ []
 
 pub every-row : map found spareValues ≡ map expected spareValues
 unfolding writeAnswer _then_ unless allowed judge walk empty later slotsVerdict verdict values tidySlots vacant zeros

@@ -73,14 +73,14 @@ module _ (r : Record) (v : Valid r) where
       answered (sparing r z) 32 .met (m .0, (m .1 .0, (m .1 .1 .0, (record { slots = t .slots; others = t .others; spare = h; text = t .text }, tt))))
 
   pub first-too-wide : (n : ℕ) → 2 ^ spareWidth (layout (r .body) .front) ≤ n
-      → writeAnswer (sparing r (record { first = n; second = r .spares .second })) 32 ≡ Refused (Range (spareBit (layout (r .body) .front)))
+      → writeAnswer (sparing r (record { first = n; second = r .spares .second })) 32 ≡ Refused (Range (spareBit (layout (r .body) .front)) n)
   unfolding verdict values
   first-too-wide n h =
       let z : Spares = record { first = n; second = r .spares .second } in
       asked-on z (answered r 32 .fine v .0 .1 .1 .1 .0 .spare) ∙ second-part _ _ _ _ (fine-both _ _ inner-fine .0) (first-refused (r .body) z h)
 
   pub second-too-wide : (n : ℕ) → hasSpare (layout (r .body) .behind) ≡ true → 2 ^ spareWidth (layout (r .body) .behind) ≤ n
-      → writeAnswer (sparing r (record { first = r .spares .first; second = n })) 32 ≡ Refused (Range (spareBit (layout (r .body) .behind)))
+      → writeAnswer (sparing r (record { first = r .spares .first; second = n })) 32 ≡ Refused (Range (spareBit (layout (r .body) .behind)) n)
   unfolding verdict values
   second-too-wide n s h =
       let b = r .body in

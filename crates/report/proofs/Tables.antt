@@ -94,6 +94,6 @@ front-fields s b = tiled s 0 (spareRow 0 8 ∷ allRows (layout b)) (tiles-all b)
 
 -- ---- the last two rows: the version is what it is
 
-pub last-walk : (x : ℕ) → walk [] ending (lastValues x) ≡ ranged (leb 0 x && leb x 63) 220
+pub last-walk : (x : ℕ) → walk [] ending (lastValues x) ≡ ranged (leb 0 x && leb x 63) 220 x
 unfolding walk judge
-last-walk x = simp (unless-true _ (Range 214) (only-yes 1), fine-then, then-fine) (simp allowed-one)
+last-walk x = simp (unless-true _ (Range 214 1) (only-yes 1), fine-then, then-fine) (simp allowed-one)

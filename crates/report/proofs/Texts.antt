@@ -41,7 +41,7 @@ text-passes rs text (inr e) h n =
 pub record-verdict : (r : Record) → Bytes (r .text) → length (r .text) ≡ 18
     → verdict (layout (r .body)) (values r)
     ≡ bodyVerdict (layout (r .body)) (headValues (r .common) (layout (r .body) .code)) (sidesOf (r .body) (r .spares)) (slotsValues (layout (r .body) .slots) (r .slots))
-    then ranged (leb 0 (r .reserved) && leb (r .reserved) 63) 220
+    then ranged (leb 0 (r .reserved) && leb (r .reserved) 63) 220 (r .reserved)
 unfolding verdict values bodyVerdict
 record-verdict r h n = simp (text-passes (layout (r .body) .text) (r .text) (text-apart (r .body)) h n, last-walk (r .reserved), fine-then, then-assoc)
 

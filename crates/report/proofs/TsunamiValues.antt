@@ -51,44 +51,44 @@ warning w = said (judgedAs 1 0 (Tsunami w) (area 0 4 5 3 600 ∷ []))
 abbrev pub tsunamiValues : List Value
 tsunamiValues =
     arrival 31 63 gives passes  -- the wave has arrived
-    ∷ arrival 31 59 gives eightAt 85
-    ∷ arrival 31 60 gives eightAt 85
-    ∷ arrival 24 63 gives eightAt 85
-    ∷ arrival 5 63 gives eightAt 90
+    ∷ arrival 31 59 gives eightAt 85 31
+    ∷ arrival 31 60 gives eightAt 85 31
+    ∷ arrival 24 63 gives eightAt 85 24
+    ∷ arrival 5 63 gives eightAt 90 63
     ∷ arrival 0 0 gives passes
     ∷ arrival 23 59 gives passes
-    ∷ arrival 24 59 gives eightAt 85
-    ∷ arrival 23 60 gives eightAt 90
+    ∷ arrival 24 59 gives eightAt 85 24
+    ∷ arrival 23 60 gives eightAt 90 60
     ∷ laterArrival 31 63 gives passes
-    ∷ laterArrival 31 59 gives eightAt 111
-    ∷ laterArrival 5 63 gives eightAt 116
+    ∷ laterArrival 31 59 gives eightAt 111 31
+    ∷ laterArrival 5 63 gives eightAt 116 63
     ∷ reported (area 1 31 63 3 600 ∷ []) gives passes  -- the day is no part of it
     ∷ day 1 gives passes
-    ∷ day 2 gives eightAt 84
-    ∷ height 0 gives eightAt 96
+    ∷ day 2 gives eightAt 84 2
+    ∷ height 0 gives eightAt 96 0
     ∷ height 1 gives passes
     ∷ height 14 gives passes  -- unknown
     ∷ height 15 gives passes
-    ∷ height 16 gives eightAt 96
-    ∷ region 99 gives eightAt 100
+    ∷ height 16 gives eightAt 96 16
+    ∷ region 99 gives eightAt 100 99
     ∷ region 100 gives passes
     ∷ region 1000 gives passes
-    ∷ region 1001 gives eightAt 100
-    ∷ reported [] gives eightAt 96  -- a first area of zeros
-    ∷ reported (area 0 4 5 3 600 ∷ area 1 0 0 0 0 ∷ []) gives eightAt 122  -- the day bit alone
-    ∷ reported (area 0 4 5 3 600 ∷ noSlot ∷ area 1 0 0 0 0 ∷ []) gives said (at 10 136)
+    ∷ region 1001 gives eightAt 100 1001
+    ∷ reported [] gives eightAt 96 0  -- a first area of zeros
+    ∷ reported (area 0 4 5 3 600 ∷ area 1 0 0 0 0 ∷ []) gives eightAt 122 0  -- the day bit alone
+    ∷ reported (area 0 4 5 3 600 ∷ noSlot ∷ area 1 0 0 0 0 ∷ []) gives said (at 10 136 0)
     ∷ classified 1 0 gives passes
-    ∷ classified 2 0 gives eightAt 14
+    ∷ classified 2 0 gives eightAt 14 2
     ∷ classified 3 2 gives passes
     ∷ classified 7 0 gives passes
-    ∷ classified 1 1 gives eightAt 41
-    ∷ said (judgedAs 1 0 (Intensity (record { time = sampleTime })) (slot 4 44 ∷ [])) gives eightAt 14  -- another category's Rc
-    ∷ warning (warned 100 0 0 3) gives eightAt 53
-    ∷ warning (warned 0 501 0 3) gives eightAt 62
-    ∷ warning (warned 0 0 100 3) gives eightAt 71
+    ∷ classified 1 1 gives eightAt 41 1
+    ∷ said (judgedAs 1 0 (Intensity (record { time = sampleTime })) (slot 4 44 ∷ [])) gives eightAt 14 1  -- another category's Rc
+    ∷ warning (warned 100 0 0 3) gives eightAt 53 100
+    ∷ warning (warned 0 501 0 3) gives eightAt 62 501
+    ∷ warning (warned 0 0 100 3) gives eightAt 71 100
     ∷ warning (warned 0 101 500 15) gives passes
-    ∷ warning (warned 0 0 0 0) gives eightAt 80
-    ∷ warning (warned 0 0 0 16) gives eightAt 80 ∷ []
+    ∷ warning (warned 0 0 0 0) gives eightAt 80 0
+    ∷ warning (warned 0 0 0 16) gives eightAt 80 16 ∷ []
 
 pub every-row : map found tsunamiValues ≡ map expected tsunamiValues
 unfolding _then_ unless allowed judge walk empty later slotsVerdict verdict values

@@ -10,5 +10,6 @@ pub mod JudgedSlots
 pub mod JudgedFrames
 pub mod Ordered
 pub mod LowestBit
+pub mod Found
 pub mod Numbers
 pub mod Walks

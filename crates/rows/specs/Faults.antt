@@ -11,12 +11,12 @@ use Rattle.rows.specs.Layout.{Row, Slots, Layout, common, ending, slotRo
 use Rattle.rows.specs.Values.{Values}
 use Rattle.rows.specs.Kept.{Keeps, Empty}
 
--- 8 for a field that does not keep its rule
+-- 8 for a field that does not keep its rule, with its value
 abbrev pub RowFault : List ℕ → List Row → List ℕ → Refusal → Type 0
 RowFault past [] vs x = ⊥
 RowFault past (r ∷ rs) [] x = ⊥
 RowFault past (r ∷ rs) (v ∷ vs) x =
-    ((Keeps (r .rule) past v vs → ⊥) × (x ≡ Range (r .first))) ⊎ RowFault (v ∷ past) rs vs x
+    ((Keeps (r .rule) past v vs → ⊥) × (x ≡ Range (r .first) v)) ⊎ RowFault (v ∷ past) rs vs x
 
 -- a slot behind the first that is not empty: 10 where an empty one stands before it (`gap`), and its fields' own faults
 abbrev pub LaterFault : Slots → Bool → ℕ → List (List ℕ) → Refusal → Type 0

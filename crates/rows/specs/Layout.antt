@@ -107,18 +107,18 @@ pub record Layout : Type 0 where
 abbrev pub common : Layout → List Row
 common l =
     row 8 6 (only 43)  -- message type
-    ∷ row 14 3 (among (l .rcs))  -- Rc
-    ∷ row 17 4 (only (l .code))  -- Dc
-    ∷ row 21 4 (within 1 12)  -- month
-    ∷ row 25 5 (within 1 31)  -- day
-    ∷ row 30 5 (within 0 23)  -- hour
-    ∷ row 35 6 (within 0 59)  -- minute
-    ∷ row 41 2 (among (l .types)) ∷ []  -- It
+    ∷ row 14 3 (among (l .rcs))  -- report classification (Rc)
+    ∷ row 17 4 (only (l .code))  -- category (Dc)
+    ∷ row 21 4 (within 1 12)  -- issue: month
+    ∷ row 25 5 (within 1 31)  -- issue: day
+    ∷ row 30 5 (within 0 23)  -- issue: hour
+    ∷ row 35 6 (within 0 59)  -- issue: minute
+    ∷ row 41 2 (among (l .types)) ∷ []  -- information type (It)
 
 -- bits 214 to 225
 abbrev pub ending : List Row
 ending =
-    row 214 6 (only 1)  -- Vn
+    row 214 6 (only 1)  -- version (Vn)
     ∷ row 220 6 (within 0 63) ∷ []  -- Reserved
 
 -- ---- what several categories have
@@ -132,7 +132,10 @@ abbrev pub notified : List Span
 notified = 0 to 0 ∷ 101 to 500 ∷ []
 
 abbrev pub notifications : List Row
-notifications = row 53 9 (among notified) ∷ row 62 9 (among notified) ∷ row 71 9 (among notified) ∷ []
+notifications =
+    row 53 9 (among notified)  -- notification
+    ∷ row 62 9 (among notified)  -- notification
+    ∷ row 71 9 (among notified) ∷ []  -- notification
 
 -- "It: 0 or 2; in category 9 also 1": issue, cancellation, and correction
 abbrev pub uncorrected : List Span
@@ -143,11 +146,14 @@ corrected = 0 to 2 ∷ []
 
 -- "Spare1 at 43, 10 long"
 abbrev pub spare1 : Row
-spare1 = spareRow 43 10
+spare1 = spareRow 43 10  -- first spare
 
--- day, hour, minute
+-- when something was
 abbrev pub time : ℕ → List Row
-time a = row a 5 (within 1 31) ∷ row (a + 5) 5 (within 0 23) ∷ row (a + 10) 6 (within 0 59) ∷ []
+time a =
+    row a 5 (within 1 31)  -- day
+    ∷ row (a + 5) 5 (within 0 23)  -- hour
+    ∷ row (a + 10) 6 (within 0 59) ∷ []  -- minute
 
 -- n bytes, any
 abbrev pub bytes : ℕ → ℕ → List Row

@@ -51,11 +51,11 @@ impl Verdict {
     pub fn common(self, c: Common, rc: bool, it: bool) -> Verdict
         ensures { λ r. ⌜ r ≡ self then commonVerdict c rc it ⌝ }
     {
-        self.ranged(14, rc)
+        self.ranged(14, c.rc as u64, rc)
             .within(21, c.month as u64, 1, 12)
             .within(25, c.day as u64, 1, 31)
             .within(30, c.hour as u64, 0, 23)
             .within(35, c.minute as u64, 0, 59)
-            .ranged(41, it)
+            .ranged(41, c.it as u64, it)
     }
 }

@@ -35,27 +35,33 @@ impl Verdict {
                 }
                 Verdict::Refused(refusal)
             }
-            Verdict::Refused(_) => self,
+            Verdict::Refused(first) => Verdict::Refused(first.anew()),
         }
     }
 
-    // 8, unless the value of the field at this bit is allowed. No other function makes an 8.
-    pub fn ranged(self, at: u8, met: bool) -> Verdict
-        ensures { λ r. ⌜ r ≡ self then ranged met at ⌝ }
+    // 8 with the value of the field at this bit, unless it is allowed. No other function makes an 8.
+    pub fn ranged(self, at: u8, v: u64, met: bool) -> Verdict
+        ensures { λ r. ⌜ r ≡ self then ranged met at v ⌝ }
     {
-        self.unless(met, Refusal::Range(at))
+        self.unless(
+            met,
+            Refusal::Range {
+                place: at,
+                value: v,
+            },
+        )
     }
 
     pub fn within(self, at: u8, v: u64, lo: u64, hi: u64) -> Verdict
-        ensures { λ r. ⌜ r ≡ self then ranged (leb lo v && leb v hi) at ⌝ }
+        ensures { λ r. ⌜ r ≡ self then ranged (leb lo v && leb v hi) at v ⌝ }
     {
-        self.ranged(at, between(v, lo, hi))
+        self.ranged(at, v, between(v, lo, hi))
     }
 
     // A field of a group, whose codes speak for all of its fields: 8, unless the value lies in its normal range or
     // all fields of the group have their codes.
     pub fn in_group(self, at: u8, v: u64, lo: u64, hi: u64, together: bool) -> Verdict
-        ensures { λ r. ⌜ r ≡ self then ranged (leb lo v && leb v hi || together) at ⌝ }
+        ensures { λ r. ⌜ r ≡ self then ranged (leb lo v && leb v hi || together) at v ⌝ }
     {
         if together {
             return self;
@@ -65,8 +71,8 @@ impl Verdict {
 
     // A spare of so many bits: 8, unless the value fits them.
     pub fn spare(self, at: u8, width: u8, v: u64) -> Verdict
-        ensures { λ r. ⌜ r ≡ self then ranged (ltb v (2 ^ width)) at ⌝ }
+        ensures { λ r. ⌜ r ≡ self then ranged (ltb v (2 ^ width)) at v ⌝ }
     {
-        self.ranged(at, fits(v, width))
+        self.ranged(at, v, fits(v, width))
     }
 }

@@ -1,5 +1,5 @@
 // Why a call is refused: a variant for each row of document 01, "What each number says". A place is
-// the first bit of the field or slot that is meant.
+// the first bit of the field or slot that is meant, a value what was found in that field.
 ghost use mathlib.Core.Path.{_≡_};
 ghost use Rattle.rows.specs.Refusals.{plain, at, says};
 ghost use Rattle.rows.specs.Runs.Questions.{_then_};
@@ -12,7 +12,7 @@ pub enum Refusal {
     Message, // 5
     Version, // 6
     Category, // 7
-    Range(u8), // 8
+    Range { place: u8, value: u64 }, // 8: the value may be that of a spare, in a record of 64 bits
     Gap(u8), // 10: 9 was given for a spare that is not zero, and is not used again
     Unused, // 11
     NoPage, // 12
@@ -23,11 +23,12 @@ pub enum Refusal {
     Line, // 17
 }
 
-// What is said of a refusal: its number, and its place, page and mark. What its row does not name is
-// zero.
+// What is said of a refusal: its number, and its place, value, page and mark. What its row does not
+// name is zero.
 pub struct Said {
     pub number: u8,
     pub place: u8,
+    pub value: u64,
     pub page: u8,
     pub mark: u8,
 }
@@ -39,17 +40,19 @@ impl Said {
         Said {
             number: number,
             place: 0,
+            value: 0,
             page: 0,
             mark: 0,
         }
     }
 
-    fn at(number: u8, place: u8) -> Said
-        ensures { λ r. ⌜ r ≡ at number place ⌝ }
+    fn at(number: u8, place: u8, value: u64) -> Said
+        ensures { λ r. ⌜ r ≡ at number place value ⌝ }
     {
         Said {
             number: number,
             place: place,
+            value: value,
             page: 0,
             mark: 0,
         }
@@ -69,8 +72,8 @@ impl Refusal {
             Refusal::Message => Said::plain(5),
             Refusal::Version => Said::plain(6),
             Refusal::Category => Said::plain(7),
-            Refusal::Range(place) => Said::at(8, place),
-            Refusal::Gap(place) => Said::at(10, place),
+            Refusal::Range { place, value } => Said::at(8, place, value),
+            Refusal::Gap(place) => Said::at(10, place, 0),
             Refusal::Unused => Said::plain(11),
             Refusal::NoPage => Said::plain(12),
             Refusal::OtherBulletin => Said::plain(13),
@@ -78,11 +81,45 @@ impl Refusal {
             Refusal::NotHeld { page, mark } => Said {
                 number: 15,
                 place: 0,
+                value: 0,
                 page: page,
                 mark: mark,
             },
             Refusal::Short => Said::plain(16),
             Refusal::Line => Said::plain(17),
+        }
+    }
+}
+
+impl Refusal {
+    // The same refusal, made of its fields. Where one is copied whole, so are the bytes that lie unused between place and
+    // value, and the compiler keeps every verdict on the way in memory: a kilobyte of stack for a reading.
+    pub fn anew(self) -> Refusal
+        ensures { λ r. ⌜ r ≡ self ⌝ }
+    {
+        match self {
+            Refusal::Length => Refusal::Length,
+            Refusal::Padding => Refusal::Padding,
+            Refusal::Preamble => Refusal::Preamble,
+            Refusal::Parity => Refusal::Parity,
+            Refusal::Message => Refusal::Message,
+            Refusal::Version => Refusal::Version,
+            Refusal::Category => Refusal::Category,
+            Refusal::Range { place, value } => Refusal::Range {
+                place: place,
+                value: value,
+            },
+            Refusal::Gap(place) => Refusal::Gap(place),
+            Refusal::Unused => Refusal::Unused,
+            Refusal::NoPage => Refusal::NoPage,
+            Refusal::OtherBulletin => Refusal::OtherBulletin,
+            Refusal::Unsound => Refusal::Unsound,
+            Refusal::NotHeld { page, mark } => Refusal::NotHeld {
+                page: page,
+                mark: mark,
+            },
+            Refusal::Short => Refusal::Short,
+            Refusal::Line => Refusal::Line,
         }
     }
 }
@@ -100,7 +137,7 @@ impl Verdict {
     {
         match self {
             Verdict::Fine => next,
-            Verdict::Refused(_) => self,
+            Verdict::Refused(first) => Verdict::Refused(first.anew()),
         }
     }
 }

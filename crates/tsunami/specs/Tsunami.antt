@@ -13,15 +13,21 @@ classifications = 1 to 1 ∷ 3 to 3 ∷ 7 to 7 ∷ []
 
 -- arrival hour and minute: "0-23, 31" and "0-59, 63", and 31 with 63 alone
 abbrev pub arrivals : List Member
-arrivals = member 5 0 23 31 ∷ member 6 0 59 63 ∷ []
+arrivals =
+    member 5 0 23 31  -- arrival hour
+    ∷ member 6 0 59 63 ∷ []  -- arrival minute
 
--- five areas from 84, 26 bits each: arrival day, hour and minute, height, region
+-- five areas from 84, 26 bits each
 abbrev pub areas : Slots
 areas = record {
   count = 5;
   first = 84;
   bits = 26;
-  rows = row 0 1 (within 0 1) ∷ group 1 arrivals ++ row 12 4 (within 1 15) ∷ row 16 10 (within 100 1000) ∷ [];
+  rows =
+      row 0 1 (within 0 1)  -- arrival day
+      ∷ group 1 arrivals
+      ++ row 12 4 (within 1 15)  -- height
+      ∷ row 16 10 (within 100 1000) ∷ [];  -- region
   parts = record { day = true; hour = true; minute = true; strength = true; place = true };
 }
 
@@ -30,7 +36,10 @@ tsunami = record {
   code = 5;
   rcs = classifications;
   types = uncorrected;
-  front = spare1 ∷ notifications ++ row 80 4 (within 1 15) ∷ [];  -- warning code
+  front =
+      spare1
+      ∷ notifications
+      ++ row 80 4 (within 1 15) ∷ [];  -- warning code
   slots = areas;
   text = [];
   behind = [];

@@ -99,9 +99,21 @@ impl Warning {
     {
         found
             .spare(43, 10, spares.first)
-            .ranged(53, is_notification(self.notification1))
-            .ranged(62, is_notification(self.notification2))
-            .ranged(71, is_notification(self.notification3))
+            .ranged(
+                53,
+                self.notification1 as u64,
+                is_notification(self.notification1),
+            )
+            .ranged(
+                62,
+                self.notification2 as u64,
+                is_notification(self.notification2),
+            )
+            .ranged(
+                71,
+                self.notification3 as u64,
+                is_notification(self.notification3),
+            )
             .within(80, self.code as u64, 1, 15)
     }
 

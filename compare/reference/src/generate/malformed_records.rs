@@ -1,8 +1,8 @@
 //! Records for the writer to refuse.
 
 use super::{
-    any_category, bounds, part_of_zero, set_number, slot_count, valid_record, valid_slot, Bounds,
-    WITH_SLOTS,
+    any_category, bounds, full_record, part_of_zero, set_number, slot_count, valid_record,
+    valid_slot, Bounds, WITH_SLOTS,
 };
 use crate::fields::{spares, RESERVED};
 use crate::random::Random;
@@ -14,10 +14,7 @@ pub fn boundary_records(random: &mut Random, category: Category) -> Vec<Record> 
     let mut records = Vec::new();
     for row in record_bounds(category) {
         for value in record_edges(&row) {
-            let mut record = valid_record(random, category);
-            for slot in record.slots.iter_mut().take(slot_count(category)) {
-                *slot = valid_slot(random, category);
-            }
+            let mut record = full_record(random, category);
             set_number(&mut record, row.first, value);
             records.push(record);
         }

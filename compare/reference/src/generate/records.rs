@@ -24,6 +24,13 @@ pub fn valid_record(random: &mut Random, category: Category) -> Record {
     }
 }
 
+/// A record that must be written, with all slots of its category used.
+pub fn full_record(random: &mut Random, category: Category) -> Record {
+    let mut record = valid_record(random, category);
+    record.slots[..slot_count(category)].fill_with(|| valid_slot(random, category));
+    record
+}
+
 /// One used slot of a category, in range.
 pub fn valid_slot(random: &mut Random, category: Category) -> Slot {
     match category {

@@ -2,7 +2,8 @@
 //! it; of one that is not, only the bytes are known.
 
 use super::stores::{counts_of, number_of, told};
-use super::{Answer, Player, STORES};
+use super::{Player, STORES};
+use crate::answer::Answer;
 use crate::history::History;
 use crate::record::{Record, Refusal};
 use crate::store::{Name, Store, StoreBytes};

@@ -1,6 +1,7 @@
 //! The stores of the reference, by states.
 
-use super::{Answer, Player, STORES};
+use super::{Player, STORES};
+use crate::answer::Answer;
 use crate::record::{Record, Refusal};
 use crate::store::{Name, Report, Store, StoreBytes, Taken};
 
@@ -51,8 +52,8 @@ impl Player for Stores {
 /// The answer of a call that gives a number where it is not refused.
 pub(super) fn told<T>(result: Result<T, Refusal>, number: impl Fn(T) -> u32) -> Answer {
     match result {
-        Ok(value) => number(value).to_be_bytes(),
-        Err(refusal) => refusal.answer(),
+        Ok(value) => Answer::of_word(number(value)),
+        Err(refusal) => refusal.into(),
     }
 }
 

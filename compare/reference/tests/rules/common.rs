@@ -37,23 +37,37 @@ pub fn changed(base: &Frame, values: &[(usize, usize, u64)]) -> Frame {
     raw_frame(base, &values.iter().map(raw).collect::<Vec<_>>())
 }
 
-/// Number and place of an answer, zeros where nothing was refused.
+/// Number, place and value of an answer, zeros where nothing was refused.
+pub fn told<T>(answer: Result<T, Refusal>) -> (u8, u8, u64) {
+    answer.map_or_else(|refusal| (refusal.number, refusal.place, refusal.value), |_| (0, 0, 0))
+}
+
+/// Number and place alone.
 pub fn outcome<T>(answer: Result<T, Refusal>) -> (u8, u8) {
-    answer.map_or_else(|refusal| (refusal.number, refusal.place), |_| (0, 0))
+    let (number, place, _) = told(answer);
+    (number, place)
 }
 
 /// What writing a changed sample record says; a refused one must leave the
 /// buffer alone.
-pub fn writing(category: Category, change: impl Fn(&mut Record)) -> (u8, u8) {
+pub fn write_changed(category: Category, change: impl Fn(&mut Record)) -> Result<(), Refusal> {
     let mut record = base_record(category);
     change(&mut record);
     let mut frame = [0xA5; 32];
-    let answer = outcome(write(&record, &mut frame));
-    assert_eq!(frame == [0xA5; 32], answer != (0, 0));
+    let answer = write(&record, &mut frame);
+    assert_eq!(frame == [0xA5; 32], answer.is_err());
     answer
 }
 
 /// What reading says of a changed sample frame.
+pub fn read_changed(category: Category, values: &[(usize, usize, u64)]) -> Result<Record, Refusal> {
+    read(&changed(&base_frame(category), values))
+}
+
+pub fn writing(category: Category, change: impl Fn(&mut Record)) -> (u8, u8) {
+    outcome(write_changed(category, change))
+}
+
 pub fn reading(category: Category, values: &[(usize, usize, u64)]) -> (u8, u8) {
-    outcome(read(&changed(&base_frame(category), values)))
+    outcome(read_changed(category, values))
 }

@@ -5,4 +5,5 @@ mod ranges;
 mod reading;
 mod spares;
 mod tsunami;
+mod values;
 mod writing;

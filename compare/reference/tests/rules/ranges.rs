@@ -1,6 +1,7 @@
-//! Every value of every field, against ranges written out here once more.
+//! Every value of every field, against ranges written out here once more. What is
+//! refused is told with its value.
 
-use crate::common::{base_frame, changed, outcome};
+use crate::common::{base_frame, changed, told};
 use reference::bits::{get, Frame};
 use reference::check::out_of_range;
 use reference::fields::{fields, slot_layout, Field};
@@ -11,6 +12,9 @@ type Row = (usize, usize, fn(u64) -> bool);
 
 /// A field with more bits has too many values to try them all.
 const MOST_BITS: usize = 15;
+
+/// Number, place and value of an answer that refuses nothing.
+const READ: (u8, u8, u64) = (0, 0, 0);
 
 const RC: Row = (14, 3, |value| value == 2 || value == 7);
 const RC_OF_TSUNAMI: Row = (14, 3, |value| value == 1 || value == 3 || value == 7);
@@ -100,11 +104,11 @@ fn every_value_of_every_field_outside_the_slots() {
         for (first, width, allowed) in rows(category) {
             for value in 0..1 << width.min(MOST_BITS) {
                 let frame = changed(&base, &[(first, width, value)]);
-                let mut expected = if allowed(value) { (0, 0) } else { (8, first as u8) };
+                let mut expected = if allowed(value) { READ } else { (8, first as u8, value) };
                 if (category, first) == (Nankai, 201) && value > 27 {
-                    expected = (8, 207);
+                    expected = (8, 207, 27);
                 }
-                assert_eq!(outcome(read(&frame)), expected, "{category:?} {first} {value}");
+                assert_eq!(told(read(&frame)), expected, "{category:?} {first} {value}");
             }
         }
     }
@@ -129,13 +133,13 @@ fn every_value_of_every_intensity_slot() {
         for value in 0..512 {
             let frame = changed(&base, &[(first, 9, value)]);
             let expected = match (value >> 6, value & 63) {
-                (0, 0) if slot == 15 => (0, 0),
-                (0, 0) if slot > 0 => (10, first as u8 + 9),
-                (0, _) => (8, first as u8),
-                (_, 1..=47) => (0, 0),
-                _ => (8, first as u8 + 3),
+                (0, 0) if slot == 15 => READ,
+                (0, 0) if slot > 0 => (10, first as u8 + 9, 0),
+                (0, _) => (8, first as u8, 0),
+                (_, 1..=47) => READ,
+                (_, prefecture) => (8, first as u8 + 3, prefecture),
             };
-            assert_eq!(outcome(read(&frame)), expected, "slot {slot} value {value}");
+            assert_eq!(told(read(&frame)), expected, "slot {slot} value {value}");
         }
     }
 }
@@ -155,12 +159,12 @@ fn every_day_hour_and_minute_of_every_area() {
         for value in 0..1 << 12 {
             let frame = changed(&base, &[(first, 12, value)]);
             let expected = match (value >> 6 & 31, value & 63) {
-                (31, 63) => (0, 0),
-                (24.., _) => (8, first as u8 + 1),
-                (_, 60..) => (8, first as u8 + 6),
-                _ => (0, 0),
+                (31, 63) => READ,
+                (hour @ 24.., _) => (8, first as u8 + 1, hour),
+                (_, minute @ 60..) => (8, first as u8 + 6, minute),
+                _ => READ,
             };
-            assert_eq!(outcome(read(&frame)), expected, "area {area} value {value}");
+            assert_eq!(told(read(&frame)), expected, "area {area} value {value}");
         }
     }
 }
@@ -171,18 +175,18 @@ fn every_day_hour_and_minute_of_every_area() {
 fn a_group_of_three_has_all_codes_or_none() {
     let row = |first, width, allowed, code| Field { first, width, allowed, group_code: Some(code) };
     let time = [row(0, 5, &[(1, 31)], 0), row(5, 5, &[(0, 23)], 31), row(10, 6, &[(0, 59)], 63)];
-    let places = |values: [u64; 3]| {
+    let faults = |values: [u64; 3]| {
         let value_of = |field: &Field| values[field.first / 5];
         let found = out_of_range(&time, &value_of);
-        found.iter().map(|refusal| refusal.place).collect::<Vec<_>>()
+        found.iter().map(|refusal| (refusal.place, refusal.value)).collect::<Vec<_>>()
     };
-    assert_eq!(places([0, 31, 63]), []);
-    assert_eq!(places([1, 0, 0]), []);
-    assert_eq!(places([0, 31, 59]), [0, 5]);
-    assert_eq!(places([0, 0, 0]), [0]);
-    assert_eq!(places([1, 31, 63]), [5, 10]);
-    assert_eq!(places([31, 23, 63]), [10]);
-    assert_eq!(places([32, 31, 63]), [0, 5, 10]);
+    assert_eq!(faults([0, 31, 63]), []);
+    assert_eq!(faults([1, 0, 0]), []);
+    assert_eq!(faults([0, 31, 59]), [(0, 0), (5, 31)]);
+    assert_eq!(faults([0, 0, 0]), [(0, 0)]);
+    assert_eq!(faults([1, 31, 63]), [(5, 31), (10, 63)]);
+    assert_eq!(faults([31, 23, 63]), [(10, 63)]);
+    assert_eq!(faults([32, 31, 63]), [(0, 32), (5, 31), (10, 63)]);
 }
 
 #[test]
@@ -193,11 +197,11 @@ fn every_height_and_region_of_every_area() {
         for value in 0..1 << 14 {
             let frame = changed(&base, &[(first + 12, 14, value)]);
             let expected = match (value >> 10, value & 1023) {
-                (0, _) => (8, first as u8 + 12),
-                (_, 100..=1000) => (0, 0),
-                _ => (8, first as u8 + 16),
+                (0, _) => (8, first as u8 + 12, 0),
+                (_, 100..=1000) => READ,
+                (_, region) => (8, first as u8 + 16, region),
             };
-            assert_eq!(outcome(read(&frame)), expected, "area {area} value {value}");
+            assert_eq!(told(read(&frame)), expected, "area {area} value {value}");
         }
     }
 }
@@ -210,16 +214,16 @@ fn every_hour_and_strength_of_every_ash_fall_slot() {
         for value in 0..64 {
             let frame = changed(&base, &[(first, 6, value)]);
             let expected = match (value >> 3, value & 7) {
-                (0 | 7, _) => (8, first as u8),
-                (_, 0) => (8, first as u8 + 3),
-                _ => (0, 0),
+                (hour @ (0 | 7), _) => (8, first as u8, hour),
+                (_, 0) => (8, first as u8 + 3, 0),
+                _ => READ,
             };
-            assert_eq!(outcome(read(&frame)), expected, "slot {slot} value {value}");
+            assert_eq!(told(read(&frame)), expected, "slot {slot} value {value}");
         }
         for (place, right) in [(0, false), (109_999, false), (110_000, true), (4_800_000, false)] {
             let frame = changed(&base, &[(first + 6, 23, place)]);
-            let expected = if right { (0, 0) } else { (8, first as u8 + 6) };
-            assert_eq!(outcome(read(&frame)), expected, "slot {slot} place {place}");
+            let expected = if right { READ } else { (8, first as u8 + 6, place) };
+            assert_eq!(told(read(&frame)), expected, "slot {slot} place {place}");
         }
     }
 }

@@ -2,6 +2,7 @@
 //! reach what they are meant to reach.
 
 use crate::words::merged;
+use reference::answer::Answer;
 use reference::generate::*;
 use reference::history::History;
 use reference::player::{Histories, Player, Step, Stores, STORES};
@@ -40,7 +41,7 @@ fn a_refused_opening_leaves_the_store_that_was_there() {
         let (mut stores, mut histories) = (Stores::default(), Histories::default());
         for player in [&mut stores as &mut dyn Player, &mut histories] {
             player.play(&put);
-            assert_eq!(player.play(&open).answer[0], 8);
+            assert_eq!(player.play(&open).answer.number, 8);
             assert_eq!(player.bytes(0), before);
         }
     }
@@ -74,23 +75,23 @@ fn merging_has_the_laws_of_a_union() {
     }
 }
 
-/// Which call gave which answer: its number and place, the low byte of a
-/// taking, the mark of a 15, and whether there was a text.
+/// Which call gave which answer: its number and place, the mark of a taking and
+/// of a 15, and whether there was a text.
 fn seen() -> BTreeSet<(&'static str, u8, u8)> {
     let mut random = Random::new(6);
     let mut seen = BTreeSet::new();
     for _ in 0..COUNT {
         let mut stores = Stores::default();
         for step in any_history(&mut random) {
-            let [number, place, high, low] = stores.play(&step).answer;
+            let Answer { number, place, page, mark, .. } = stores.play(&step).answer;
             seen.insert(match step {
                 Step::Open { .. } => ("open", number, place),
-                Step::Take { .. } if number == 0 => ("taken", number, low),
+                Step::Take { .. } if number == 0 => ("taken", number, mark),
                 Step::Take { .. } => ("take", number, 0),
                 Step::Merge { .. } => ("merge", number, 0),
                 Step::Report { .. } => ("report", number, 0),
-                Step::Text { .. } if number == 0 => ("text", 0, (high != 0 || low != 0).into()),
-                Step::Text { .. } => ("text", number, low),
+                Step::Text { .. } if number == 0 => ("text", 0, (page != 0 || mark != 0).into()),
+                Step::Text { .. } => ("text", number, mark),
                 Step::Put { .. } => ("put", number, 0),
             });
         }
@@ -114,6 +115,22 @@ fn histories_reach_every_answer() {
     assert_eq!(answers("text"), [(0, 0), (0, 1), (14, 0), (15, 1), (15, 2), (16, 0)]);
 }
 
+/// Where opening or taking says 8 a value may stand beside it, and nowhere else.
+#[test]
+fn only_8_has_a_value() {
+    let mut random = Random::new(11);
+    let mut values = BTreeSet::new();
+    for _ in 0..COUNT {
+        let mut stores = Stores::default();
+        for step in any_history(&mut random) {
+            let answer = stores.play(&step).answer;
+            assert!(answer.number == 8 || answer.value == 0, "{step:?} {answer:?}");
+            values.insert(answer.value);
+        }
+    }
+    assert!([1, 64, 255, 1024].iter().all(|value| values.contains(value)));
+}
+
 /// Pages with every filling of the spares are taken, as new and once more, and
 /// those with a spare too wide are not.
 #[test]
@@ -124,12 +141,12 @@ fn histories_reach_pages_that_differ_in_spares() {
     for _ in 0..COUNT {
         let mut stores = Stores::default();
         for step in any_history(&mut random) {
-            let [number, place, _, low] = stores.play(&step).answer;
+            let Answer { number, place, mark, .. } = stores.play(&step).answer;
             let Step::Take { record, .. } = step else {
                 continue;
             };
             if number == 0 {
-                taken.insert((low, record.spares.map(|spare| spare != 0)));
+                taken.insert((mark, record.spares.map(|spare| spare != 0)));
             } else if number == 8 {
                 refused.insert(place);
             }

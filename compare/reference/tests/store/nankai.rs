@@ -3,7 +3,7 @@
 use crate::words::*;
 use reference::random::Random;
 use reference::read::read;
-use reference::record::Record;
+use reference::record::{Record, Refusal};
 use reference::samples;
 use reference::store::{Name, Store, Taken};
 use reference::write::write;
@@ -75,7 +75,7 @@ fn a_page_lost_by_both_receivers_is_named() {
     let east = receiver(&mut random, |page| page == 16 || page == 20);
     let west = receiver(&mut random, |page| page == 16 || page == 2);
     let refusal = merged(&east, &west).text(&mut [0; 1134]).expect_err("page 17 is absent");
-    assert_eq!(refusal.answer(), [15, 0, 17, 1]);
+    assert_eq!(refusal, Refusal { number: 15, place: 0, page: 17, mark: 1, value: 0 });
 }
 
 #[test]
@@ -88,7 +88,7 @@ fn a_page_that_came_out_differently_is_never_shown() {
     assert_eq!(east.take(&wrong), Ok(Taken::Disputed));
     for store in [east, merged(&east, &west), merged(&west, &east)] {
         let refusal = store.text(&mut [0; 1134]).expect_err("page 9 is disputed");
-        assert_eq!(refusal.answer(), [15, 0, 9, 2]);
+        assert_eq!(refusal, Refusal { number: 15, place: 0, page: 9, mark: 2, value: 0 });
     }
 }
 

@@ -5,7 +5,7 @@ use reference::generate::{any_record, any_taking, Bulletin};
 use reference::random::Random;
 use reference::record::{Body, Record, Refusal};
 use reference::samples;
-use reference::store::{place_of_page, Name, Report, Store, Taken, DISPUTED, HELD};
+use reference::store::{place_of_page, Name, Report, Store, DISPUTED, HELD};
 use reference::write::write;
 
 /// The values of a name: the first bit, what is in range and what is not.
@@ -73,11 +73,11 @@ fn every_name_in_range_is_opened() {
 fn opening_is_8_at_the_first_bad_value() {
     for (first, &(bit, _, wrong)) in RANGES.iter().enumerate() {
         for &value in wrong {
-            let refusal = Refusal { number: 8, place: bit, page: 0, mark: 0 };
+            let expected = (out_of_range(bit, value.into()), Store::ZEROS);
             let mut bytes = name_with(first, value).to_bytes();
-            assert_eq!(Store::open(Name::of_bytes(bytes)), (Err(refusal), Store::ZEROS));
+            assert_eq!(Store::open(Name::of_bytes(bytes)), expected);
             bytes[first + 1..].fill(255);
-            assert_eq!(Store::open(Name::of_bytes(bytes)), (Err(refusal), Store::ZEROS));
+            assert_eq!(Store::open(Name::of_bytes(bytes)), expected);
         }
     }
 }
@@ -165,10 +165,9 @@ fn other_categories_are_12_and_wrong_pages_8() {
     for record in others {
         assert_eq!(store.take(&record[0]), refused(12));
     }
-    let at = |place| Err::<Taken, _>(Refusal { number: 8, place, page: 0, mark: 0 });
-    assert_eq!(store.take(&NAME.page(0, SPRING)), at(201));
-    assert_eq!(store.take(&NAME.page(4, SPRING)), at(207));
-    assert_eq!(store.take(&NAME.page(64, SPRING)), at(201));
+    assert_eq!(store.take(&NAME.page(0, SPRING)), out_of_range(201, 0));
+    assert_eq!(store.take(&NAME.page(4, SPRING)), out_of_range(207, 3));
+    assert_eq!(store.take(&NAME.page(64, SPRING)), out_of_range(201, 64));
     assert_eq!(store, opened(NAME));
 }
 
@@ -176,28 +175,27 @@ fn other_categories_are_12_and_wrong_pages_8() {
 /// a spare too wide among it.
 #[test]
 fn a_page_with_a_spare_too_wide_is_8_at_the_spare() {
-    let at = |place| Err::<Taken, _>(Refusal { number: 8, place, page: 0, mark: 0 });
     let sound = store_of(&[(1, SPRING)]);
     let page = NAME.page(1, SPRING);
     let other_bulletin = Name { serial: 6, ..NAME }.page(1, SPRING);
-    for (spares, place) in [
-        ([1024, 0], 43),
-        ([u64::MAX, 0], 43),
-        ([0, 2], 213),
-        ([1023, 3], 213),
-        ([0, u64::MAX], 213),
-        ([1024, 2], 43),
+    for (spares, place, value) in [
+        ([1024, 0], 43, 1024),
+        ([u64::MAX, 0], 43, u64::MAX),
+        ([0, 2], 213, 2),
+        ([1023, 3], 213, 3),
+        ([0, u64::MAX], 213, u64::MAX),
+        ([1024, 2], 43, 1024),
     ] {
         for record in [page, other_bulletin] {
             let (mut store, mut unsound) = (sound, Store::ZEROS);
-            assert_eq!(store.take(&Record { spares, ..record }), at(place));
+            assert_eq!(store.take(&Record { spares, ..record }), out_of_range(place, value));
             assert_eq!(store, sound);
             assert_eq!(unsound.take(&Record { spares, ..record }), refused(14));
         }
     }
     let mut store = sound;
     let quake = samples::hypocenter()[0];
-    assert_eq!(store.take(&Record { spares: [0, 1 << 51], ..quake }), at(163));
+    assert_eq!(store.take(&Record { spares: [0, 1 << 51], ..quake }), out_of_range(163, 1 << 51));
     assert_eq!(store.take(&Record { spares: [0, (1 << 51) - 1], ..quake }), refused(12));
     assert_eq!(store.take(&Record { spares: [1023, 1], ..other_bulletin }), refused(13));
     let tsunami = samples::tsunami_warning()[0];
@@ -207,7 +205,7 @@ fn a_page_with_a_spare_too_wide_is_8_at_the_spare() {
 
 #[test]
 fn text_is_15_with_the_lowest_page_and_its_mark_then_16() {
-    let not_held = |page, mark| Err(Refusal { number: 15, place: 0, page, mark });
+    let not_held = |page, mark| Err(Refusal { number: 15, place: 0, page, mark, value: 0 });
     let cases = [
         (vec![], not_held(1, 1)),
         (vec![(1, SPRING), (3, SPRING), (3, SUMMER)], not_held(2, 1)),

@@ -44,6 +44,11 @@ pub fn text(store: &Store) -> Vec<u8> {
     buffer[..length].to_vec()
 }
 
+/// 8 at a bit, with the value that was found there.
+pub fn out_of_range<T>(place: u8, value: u64) -> Result<T, Refusal> {
+    Err(Refusal { number: 8, place, page: 0, mark: 0, value })
+}
+
 pub fn refused<T>(number: u8) -> Result<T, Refusal> {
     Err(Refusal::plain(number))
 }

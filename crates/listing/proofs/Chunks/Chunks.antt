@@ -104,11 +104,11 @@ idle n begun (b ∷ r) h f = over-reach (b ∷ r) begun n (more-than (ltb limit 
 
 pub taken-fits : (chunk out : List ℕ) → bytesTaken chunk out ≤ length chunk
 unfolding bytesTaken
-taken-fits chunk out = min-le-left (length chunk) (length out / 27)
+taken-fits chunk out = min-le-left (length chunk) (length out / 48)
 
-pub taken-room : (chunk out : List ℕ) → 27 * bytesTaken chunk out ≤ length out
+pub taken-room : (chunk out : List ℕ) → 48 * bytesTaken chunk out ≤ length out
 unfolding bytesTaken
-taken-room chunk out = omega (arith, min-le-right (length chunk) (length out / 27), mul-div-le (length out) 27)
+taken-room chunk out = omega (arith, min-le-right (length chunk) (length out / 48), mul-div-le (length out) 48)
 
 pub scan-left : (p : Progress) (chunk out after : List ℕ) (k : ℕ) (r : Step) → k ≡ bytesTaken chunk out → Scanned (p .lines) (begunIn p) (take k chunk) out after 0 r
     → (afterScan r after ≡ scanned p chunk out) × (r .written ≤ length out)

@@ -80,7 +80,7 @@ turn c o₀ o after n₀ a₀ p₀ n a p e next w h f g t m =
     }
 
 -- the row fits, and there is room for a row of each byte behind its line
-pub room-left : (size to p next n a e : ℕ) → p + 27 * (n - a) ≤ size → next ≤ p + 27 → a ≤ e → e < n → to ≡ size → (next ≤ size) × (next + 27 * (n - (e + 1)) ≤ to)
+pub room-left : (size to p next n a e : ℕ) → p + 48 * (n - a) ≤ size → next ≤ p + 48 → a ≤ e → e < n → to ≡ size → (next ≤ size) × (next + 48 * (n - (e + 1)) ≤ to)
 room-left size to p next n a e h l low more k = (omega arith, omega arith)
 
 -- where the loop ends with what is left

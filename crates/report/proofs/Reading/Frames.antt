@@ -93,11 +93,15 @@ module _ (s : List ℕ) where
   pub faultless : Met (readQuestions s) → ((x : Refusal) → Fault (layoutOf s) (frameValues s) x → ⊥) → readAnswer s ≡ Fine
   faultless = faultless-fine (readAnswer s) (readQuestions s) (layoutOf s) (frameValues s) (answered s) (inner s)
 
-pub no-gap : (s : List ℕ) (p : ℕ) → readAnswer s ≡ Refused (Range p) → Fault (layoutOf s) (frameValues s) (Gap p) → ⊥
-no-gap s p e f = late (inner s .earliest (Range p) (Gap p) refused f)
-  where
-    refused : innerOf s ≡ Refused (Range p)
-    refused = past 8 (readQuestions s) (Range p) (innerOf s ≡ Refused (Range p)) refl (omega arith) (answered s .refused (Range p) _ e (λ i. i))
+-- an 8 comes from the values
+refused-by-values : (s : List ℕ) (p v : ℕ) → readAnswer s ≡ Refused (Range p v) → innerOf s ≡ Refused (Range p v)
+refused-by-values s p v e = past 8 (readQuestions s) (Range p v) (innerOf s ≡ Refused (Range p v)) refl (omega arith) (answered s .refused (Range p v) _ e (λ i. i))
 
-    late : turn (Range p) ≤ turn (Gap p) → ⊥
+pub fault-of-8 : (s : List ℕ) (p v : ℕ) → readAnswer s ≡ Refused (Range p v) → Fault (layoutOf s) (frameValues s) (Range p v)
+fault-of-8 s p v e = inner s .found (Range p v) (refused-by-values s p v e)
+
+pub no-gap : (s : List ℕ) (p v : ℕ) → readAnswer s ≡ Refused (Range p v) → Fault (layoutOf s) (frameValues s) (Gap p) → ⊥
+no-gap s p v e f = late (inner s .earliest (Range p v) (Gap p) (refused-by-values s p v e) f)
+  where
+    late : turn (Range p v) ≤ turn (Gap p) → ⊥
     late h = omega arith

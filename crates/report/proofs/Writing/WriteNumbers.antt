@@ -44,7 +44,7 @@ cond-numbered false v w h k = k
 
 judge-numbered : (r : Rule) (at : ℕ) (past : List ℕ) (v : ℕ) (next : List ℕ) → Numbered (judge r at past v next)
 unfolding judge
-judge-numbered r at past v next = unless-numbered _ (Range at) (inr (inr (inr (inr (inl refl)))))
+judge-numbered r at past v next = unless-numbered _ (Range at v) (inr (inr (inr (inr (inl refl)))))
 
 walk-numbered : (past : List ℕ) (rs : List Row) (vs : List ℕ) → Numbered (walk past rs vs)
 unfolding walk

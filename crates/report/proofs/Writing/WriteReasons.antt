@@ -44,13 +44,17 @@ from-rest ((q or r) ∷ qs) x rest b f =
     (λ u. from-rest qs x rest (k .1) (u .1))
     f
 
-pub no-gap : (r : Record) (size p : ℕ) → Shaped r → writeAnswer r size ≡ Refused (Range p) → Fault (recordLayout r) (recordValues r) (Gap p) → ⊥
-no-gap r size p s e f = late (judged-record r (s .slots) .earliest (Range p) (Gap p) refused f)
-  where
-    refused : innerWrite r ≡ Refused (Range p)
-    refused = from-rest (writeQuestions r size) (Range p) (innerWrite r ≡ Refused (Range p)) refl (answered r size .refused (Range p) _ e (λ i. i))
+-- an 8 comes from the values
+refused-by-values : (r : Record) (size p v : ℕ) → writeAnswer r size ≡ Refused (Range p v) → innerWrite r ≡ Refused (Range p v)
+refused-by-values r size p v e = from-rest (writeQuestions r size) (Range p v) (innerWrite r ≡ Refused (Range p v)) refl (answered r size .refused (Range p v) _ e (λ i. i))
 
-    late : turn (Range p) ≤ turn (Gap p) → ⊥
+pub fault-of-8 : (r : Record) (size p v : ℕ) → Shaped r → writeAnswer r size ≡ Refused (Range p v) → Fault (recordLayout r) (recordValues r) (Range p v)
+fault-of-8 r size p v s e = judged-record r (s .slots) .found (Range p v) (refused-by-values r size p v e)
+
+pub no-gap : (r : Record) (size p v : ℕ) → Shaped r → writeAnswer r size ≡ Refused (Range p v) → Fault (recordLayout r) (recordValues r) (Gap p) → ⊥
+no-gap r size p v s e f = late (judged-record r (s .slots) .earliest (Range p v) (Gap p) (refused-by-values r size p v e) f)
+  where
+    late : turn (Range p v) ≤ turn (Gap p) → ⊥
     late h = omega arith
 
 -- ---- Reserved
@@ -59,7 +63,7 @@ no-gap r size p s e f = late (judged-record r (s .slots) .earliest (Range p) (Ga
 abbrev pub reserving : Record → ℕ → Record
 reserving r n = record { preamble = r .preamble; reserved = n; common = r .common; body = r .body; slots = r .slots; text = r .text; spares = r .spares }
 
-above : (n : ℕ) → 63 < n → walk [] ending (lastValues n) ≡ Refused (Range 220)
+above : (n : ℕ) → 63 < n → walk [] ending (lastValues n) ≡ Refused (Range 220 n)
 unfolding walk judge allowed unless _then_
 above n h = simp (le-leb 0 n (omega arith), lt-leb n 63 h)
 
@@ -73,15 +77,15 @@ behind-fine a b c d k z x f e g =
     let v = fine-both k z (u .1) in
     simp (p .0, q .0, t .0, u .0, v .0, g)
 
-above-inner : (r : Record) (n : ℕ) → 63 < n → innerWrite r ≡ Fine → innerWrite (reserving r n) ≡ Refused (Range 220)
+above-inner : (r : Record) (n : ℕ) → 63 < n → innerWrite r ≡ Fine → innerWrite (reserving r n) ≡ Refused (Range 220 n)
 unfolding verdict values
 above-inner r n h e =
     let l = layout (r .body) in
     let v = values r in
-    behind-fine (walk [] (common l) (v .head)) (walk [] (l .front) (v .front)) (slotsVerdict (l .slots) (v .slots)) (walk [] (l .text) (v .text)) (walk [] (l .behind) (v .behind)) (walk [] ending (v .last)) (Range 220) e
+    behind-fine (walk [] (common l) (v .head)) (walk [] (l .front) (v .front)) (slotsVerdict (l .slots) (v .slots)) (walk [] (l .text) (v .text)) (walk [] (l .behind) (v .behind)) (walk [] ending (v .last)) (Range 220 n) e
     (walk [] ending (lastValues n)) (above n h)
 
-pub above-63 : (r : Record) (n : ℕ) → Valid r → 63 < n → writeAnswer (reserving r n) 32 ≡ Refused (Range 220)
+pub above-63 : (r : Record) (n : ℕ) → Valid r → 63 < n → writeAnswer (reserving r n) 32 ≡ Refused (Range 220 n)
 above-63 r n v h =
     let a = answered r 32 .fine v in
     let m = a .0 in

@@ -110,7 +110,7 @@ module _ (rs : List Row) (ws : List ℕ) where
   broken-walk a cs past [] (v ∷ vs) n x = absurd (suc-ne-zero (length vs) n)
   broken-walk a cs past (m ∷ ms) [] n x = absurd (suc-ne-zero (length ms) (sym n))
   broken-walk a cs past (m ∷ ms) (v ∷ vs) n x = ap₂ (λ (x y : Verdict). x then y)
-      (ap (λ (b : Bool). ranged b a) (or-none (allowed (m .normal) v) _ (rw x)))
+      (ap (λ (b : Bool). ranged b a v) (or-none (allowed (m .normal) v) _ (rw x)))
       (broken-walk (a + m .width) (m .code ∷ cs) (v ∷ past) ms vs (suc-inj n) (and-false (eqb v (m .code)) _ x))
 
   mixed-walk : (a : ℕ) (cs past : List ℕ) (ms : List Member) (vs : List ℕ) → length vs ≡ length ms → (vs ≡ codesOf ms → ⊥)
@@ -120,7 +120,7 @@ module _ (rs : List Row) (ws : List ℕ) where
   mixed-walk a cs past [] (v ∷ vs) n x = absurd (suc-ne-zero (length vs) n)
   mixed-walk a cs past (m ∷ ms) [] n x = absurd (suc-ne-zero (length ms) (sym n))
   mixed-walk a cs past (m ∷ ms) (v ∷ vs) n x = ap₂ (λ (x y : Verdict). x then y)
-      (ap (λ (b : Bool). ranged b a) (or-none (allowed (m .normal) v) _ (and-false (startsWith cs past) _ (alone (startsWith (codesOf ms) (vs ++ ws)) refl))))
+      (ap (λ (b : Bool). ranged b a v) (or-none (allowed (m .normal) v) _ (and-false (startsWith cs past) _ (alone (startsWith (codesOf ms) (vs ++ ws)) refl))))
       (by (eqb v (m .code)) refl (λ f. mixed-walk (a + m .width) (m .code ∷ cs) (v ∷ past) ms vs (suc-inj n) f))
     where
       all : v ≡ m .code → vs ≡ codesOf ms → v ∷ vs ≡ codesOf (m ∷ ms)
@@ -152,7 +152,7 @@ module _ (rs : List Row) (ws : List ℕ) where
       let start = startsWith (codesOf ms) (codesOf ms ++ ws) in
       let own = eqb (m .code) (m .code) in
       let all = both-and (startsWith cs past) (own && start) (with-starts cs past s) (both-and own start (eq-eqb (m .code) (m .code) refl) (with-starts (codesOf ms) (codesOf ms ++ ws) (codes-start ms ws))) in
-      met-then (allowed (m .normal) (m .code) || (startsWith cs past && (own && start))) (Range a) _ (right-or (allowed (m .normal) (m .code)) _ all)
+      met-then (allowed (m .normal) (m .code) || (startsWith cs past && (own && start))) (Range a (m .code)) _ (right-or (allowed (m .normal) (m .code)) _ all)
       ∙ codes-walk (a + m .width) (m .code ∷ cs) (m .code ∷ past) ms (refl, s)
 
   pub group-of-codes : (a : ℕ) (past : List ℕ) (ms : List Member) → walk past (group a ms ++ rs) (codesOf ms ++ ws) ≡ walk (passed (codesOf ms) past) rs ws

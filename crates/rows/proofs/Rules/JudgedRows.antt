@@ -18,10 +18,10 @@ use Rattle.rows.proofs.Rules.Judged.{Judges, unasked, asked, join}
 -- ---- one field
 
 pub field : (a e : ℕ) (r : Rule) (at : ℕ) (past : List ℕ) (v : ℕ) (next : List ℕ) → a ≤ at → at < e
-    → Judges a e (judge r at past v next) (Keeps r past v next) (λ y. (Keeps r past v next → ⊥) × (y ≡ Range at))
+    → Judges a e (judge r at past v next) (Keeps r past v next) (λ y. (Keeps r past v next → ⊥) × (y ≡ Range at v))
 unfolding judge
 field a e r at past v next h k =
-    asked a e (meets r past v next) (Range at) (Keeps r past v next) (meets-keeps r past v next) (keeps-meets r past v next) (omega arith) (omega arith)
+    asked a e (meets r past v next) (Range at v) (Keeps r past v next) (meets-keeps r past v next) (keeps-meets r past v next) (omega arith) (omega arith)
 
 -- ---- fields one behind the other
 

@@ -27,7 +27,7 @@ unsaid a =
     ∷ Message
     ∷ Version
     ∷ Category
-    ∷ Range (a .place)
+    ∷ Range (a .place) (a .value)
     ∷ Line  -- no refusal has the number 9
     ∷ Gap (a .place)
     ∷ Unused
@@ -48,7 +48,7 @@ unsaid-says Parity = refl
 unsaid-says Message = refl
 unsaid-says Version = refl
 unsaid-says Category = refl
-unsaid-says (Range p) = refl
+unsaid-says (Range p v) = refl
 unsaid-says (Gap p) = refl
 unsaid-says Unused = refl
 unsaid-says NoPage = refl
@@ -71,7 +71,7 @@ says-numbered Parity = (lit≤ tt, lit≤ tt)
 says-numbered Message = (lit≤ tt, lit≤ tt)
 says-numbered Version = (lit≤ tt, lit≤ tt)
 says-numbered Category = (lit≤ tt, lit≤ tt)
-says-numbered (Range p) = (lit≤ tt, lit≤ tt)
+says-numbered (Range p v) = (lit≤ tt, lit≤ tt)
 says-numbered (Gap p) = (lit≤ tt, lit≤ tt)
 says-numbered Unused = (lit≤ tt, lit≤ tt)
 says-numbered NoPage = (lit≤ tt, lit≤ tt)
@@ -97,6 +97,30 @@ answers-not-nine (Refused x) e = not-nine x e
 pub zero-fine : (v : Verdict) → answers v .number ≡ 0 → v ≡ Fine
 zero-fine Fine e = refl
 zero-fine (Refused x) e = absurd (omega (arith, says-numbered x .0, e))
+
+-- ---- the value: no number but 8 has one
+
+pub value-with-8 : (x : Refusal) → (says x .number ≡ 8 → ⊥) → says x .value ≡ 0
+value-with-8 Length h = refl
+value-with-8 Padding h = refl
+value-with-8 Preamble h = refl
+value-with-8 Parity h = refl
+value-with-8 Message h = refl
+value-with-8 Version h = refl
+value-with-8 Category h = refl
+value-with-8 (Range p v) h = absurd (h refl)
+value-with-8 (Gap p) h = refl
+value-with-8 Unused h = refl
+value-with-8 NoPage h = refl
+value-with-8 OtherBulletin h = refl
+value-with-8 Unsound h = refl
+value-with-8 (NotHeld page mark) h = refl
+value-with-8 Short h = refl
+value-with-8 Line h = refl
+
+pub answered-value : (v : Verdict) → (answers v .number ≡ 8 → ⊥) → answers v .value ≡ 0
+answered-value Fine h = refl
+answered-value (Refused x) h = value-with-8 x h
 
 -- ---- a promise of an answer, and of what it says: alone, and beside what is promised of a buffer
 
@@ -127,7 +151,7 @@ cond-ten false v w h k = k
 
 judge-ten : (r : Rule) (at : ℕ) (past : List ℕ) (v : ℕ) (next : List ℕ) → UpToTen (judge r at past v next)
 unfolding judge
-judge-ten r at past v next = unless-ten _ (Range at) (lit≤ tt)
+judge-ten r at past v next = unless-ten _ (Range at v) (lit≤ tt)
 
 pub walk-ten : (past : List ℕ) (rs : List Row) (vs : List ℕ) → UpToTen (walk past rs vs)
 unfolding walk

@@ -33,7 +33,7 @@ spareWidth (r ∷ rs) = cond (isSpare (r .rule)) (r .width) (spareWidth rs)
 
 -- ---- too wide
 
-pub too-wide : (vs : List ℕ) (rs : List Row) (a w n : ℕ) → 2 ^ w ≤ n → walk [] (spareRow a w ∷ rs) (n ∷ vs) ≡ Refused (Range a)
+pub too-wide : (vs : List ℕ) (rs : List Row) (a w n : ℕ) → 2 ^ w ≤ n → walk [] (spareRow a w ∷ rs) (n ∷ vs) ≡ Refused (Range a n)
 unfolding walk judge unless _then_
 too-wide vs rs a w n h = simp (le-ltb n (2 ^ w) h)
 
@@ -42,6 +42,6 @@ pub behind-two : (a b c d : Verdict) (x : Refusal) → a then b then c ≡ Fine 
 unfolding _then_
 behind-two a b c d x f e = let p = fine-both a (b then c) f in let q = fine-both b c (p .1) in simp (p .0, q .0, e)
 
-pub not-ranged : (a w n : ℕ) → 2 ^ w ≤ n → ranged (ltb n (2 ^ w)) a ≡ Refused (Range a)
+pub not-ranged : (a w n : ℕ) → 2 ^ w ≤ n → ranged (ltb n (2 ^ w)) a n ≡ Refused (Range a n)
 unfolding unless
 not-ranged a w n h = rw (le-ltb n (2 ^ w) h)

@@ -26,7 +26,7 @@ link v x y a z e f = f ∙ ap (λ (w : Verdict). w then z) e ∙ then-assoc v a 
 -- bits 8 to 42 of a category's table: what is asked where it is known which Rc and It are allowed
 pub common-walk : (l : Layout) (c : Common) → walk [] (common l) (headValues c (l .code)) ≡ commonVerdict c (allowed (l .rcs) (c .rc)) (allowed (l .types) (c .it))
 unfolding walk judge
-common-walk l c = simp (unless-true _ (Range 8) (only-yes 43), unless-true _ (Range 17) (only-yes (l .code)), fine-then, then-fine) (simp allowed-one)
+common-walk l c = simp (unless-true _ (Range 8 43) (only-yes 43), unless-true _ (Range 17 (l .code)) (only-yes (l .code)), fine-then, then-fine) (simp allowed-one)
 
 -- ---- what a category asks, part by part
 
@@ -44,6 +44,6 @@ pub no-slots : (v : Verdict) (k : Slots) → v ≡ v then slotsVerdict k []
 unfolding slotsVerdict
 no-slots v k = sym (then-fine v)
 
-pub spare-found : (v r : Verdict) (a w y : ℕ) → r ≡ v then ranged (ltb y (2 ^ w)) a → r ≡ v then walk [] (spareRow a w ∷ []) (y ∷ [])
+pub spare-found : (v r : Verdict) (a w y : ℕ) → r ≡ v then ranged (ltb y (2 ^ w)) a y → r ≡ v then walk [] (spareRow a w ∷ []) (y ∷ [])
 unfolding walk judge
 spare-found v r a w y e = e ∙ ap (λ (x : Verdict). v then x) (sym (then-fine _))

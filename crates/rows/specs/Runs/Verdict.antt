@@ -19,9 +19,9 @@ unfoldable pub allowed : List Span → ℕ → Bool
 allowed [] v = false
 allowed ((lo to hi) ∷ ss) v = leb lo v && leb v hi || allowed ss v
 
--- 8 at the bit `at`, unless the value there is allowed
-abbrev pub ranged : Bool → ℕ → Verdict
-ranged met at = unless met (Range at)
+-- 8 at the bit `at` with the value v there, unless that is allowed
+abbrev pub ranged : Bool → ℕ → ℕ → Verdict
+ranged met at v = unless met (Range at v)
 
 -- the values start with the codes
 abbrev pub startsWith : List ℕ → List ℕ → Bool
@@ -42,7 +42,7 @@ meets (spare w) past v next = ltb v (2 ^ w)
 
 -- the value v at the bit `at`, behind the values `past`, the latest first, and before the values `next`
 unfoldable pub judge : Rule → ℕ → List ℕ → ℕ → List ℕ → Verdict
-judge r at past v next = ranged (meets r past v next) at
+judge r at past v next = ranged (meets r past v next) at v
 
 -- fields one behind the other; each row has its value (`values-never-run-short`)
 unfoldable pub walk : List ℕ → List Row → List ℕ → Verdict
@@ -74,12 +74,12 @@ slotsVerdict k (v ∷ vs) = walk [] (slotRows k (k .first)) v then later k false
 -- bits 8 to 42, where it is known whether Rc and It are allowed: message type and category are what they are
 abbrev pub commonVerdict : Common → Bool → Bool → Verdict
 commonVerdict c rc it =
-    ranged rc 14
-    then ranged (leb 1 (c .month) && leb (c .month) 12) 21
-    then ranged (leb 1 (c .day) && leb (c .day) 31) 25
-    then ranged (leb 0 (c .hour) && leb (c .hour) 23) 30
-    then ranged (leb 0 (c .minute) && leb (c .minute) 59) 35
-    then ranged it 41
+    ranged rc 14 (c .rc)
+    then ranged (leb 1 (c .month) && leb (c .month) 12) 21 (c .month)
+    then ranged (leb 1 (c .day) && leb (c .day) 31) 25 (c .day)
+    then ranged (leb 0 (c .hour) && leb (c .hour) 23) 30 (c .hour)
+    then ranged (leb 0 (c .minute) && leb (c .minute) 59) 35 (c .minute)
+    then ranged it 41 (c .it)
 
 -- ---- all of them
 

@@ -78,7 +78,7 @@ T-val = LL.val T.the-type T′.the-laws
 abbrev N-val : Taken → Val
 N-val = EL.val N.the-type N′.the-laws
 
--- the types of a taking and of its parts: the store lies four bytes behind the answer
+-- the types of a taking and of its parts: the store lies 24 bytes behind the answer
 abbrev T-ty : Ty
 T-ty = lone (T.the-row .mir)
 
@@ -146,7 +146,7 @@ module _ {M : Type 1} (𝓤 : URA M) (H : Heap 𝓤) (A : Atoms 𝓤) (W : Given
         -- [the store's cell; the open borrow; obs; auth; _4; …; room for _3; …; _2; …; _1; …; room for _0; …]. What came back is spelt by its fields
         drop ! $ land ! (from ! (stop !)) (init ! 6 refl (LL.lawful T.the-type T′.the-laws 𝓤 H A W .typed r (v ∷ []) is .0)) $
         rewrite ! 6 (λ (z : Val). ‵ (fat fullShare T-ty l₃ 0 z)) (ap only (LL.tells T.the-type T′.the-laws r (v ∷ []) is)) refl $
-        assigns ! (of-opd ! (load ! (from ! (fld ! {τ = S-ty} {d = 4} refl (stop !))) (look-in ! 6 {τ = S-ty} (sub ! 1 {τ = S-ty} {d = 4} refl (whole !))))) (from ! (hop ! (look ! 10 refl) (stop !))) (store-raw ! 0 refl (LL.lawful S.the-type S′.the-laws 𝓤 H A W .typed (r .store) _ iS .0)) $
+        assigns ! (of-opd ! (load ! (from ! (fld ! {τ = S-ty} {d = 24} refl (stop !))) (look-in ! 6 {τ = S-ty} (sub ! 1 {τ = S-ty} {d = 24} refl (whole !))))) (from ! (hop ! (look ! 10 refl) (stop !))) (store-raw ! 0 refl (LL.lawful S.the-type S′.the-laws 𝓤 H A W .typed (r .store) _ iS .0)) $
         assigns ! (of-opd ! (load ! (from ! (fld ! {τ = N-ty} {d = 0} refl (stop !))) (look-in ! 6 {τ = N-ty} (sub ! 0 {τ = N-ty} {d = 0} refl (whole !))))) (from ! (stop !)) (init ! 12 refl (EL.lawful N.the-type N′.the-laws 𝓤 H A W tt .typed (r .answer) _ ia .0)) $
         owned ! S.the-row (Is S.the-row) (LL.makes S.the-type S′.the-plain 𝓤 H A) (r .store) _ iS $ move ! (1 ∷ 0 ∷ []) $ closes ! tt S.the-row (r .store) (S-vals (r .store)) b o $
         returns ! (look ! 11 refl) $ forget ! 3 refl $ forget ! 5 refl $ forget ! 7 refl $ forget ! 9 refl $ forget ! 11 refl $

@@ -13,7 +13,7 @@ use Rattle.listing.proofs.scan.scan_lines.Statement.{statement}
 use Rattle.listing.proofs.scan.scan_lines.Tie as tie
 
 abbrev Inv-loop : tie.InvT-loop
-Inv-loop lines chunk from out₀ to used n₀ at₀ put₀ out n at put = (n ≤ 1000000) × (at ≤ length chunk) × (put + 27 * (length chunk - at) ≤ length out) × (length out ≡ length out₀) × Went chunk out₀ out lines from to n at put
+Inv-loop lines chunk from out₀ to used n₀ at₀ put₀ out n at put = (n ≤ 1000000) × (at ≤ length chunk) × (put + 48 * (length chunk - at) ≤ length out) × (length out ≡ length out₀) × Went chunk out₀ out lines from to n at put
 
 abbrev μ-loop : tie.MeasureT-loop
 μ-loop lines chunk from out₀ to used n₀ at₀ put₀ out n at put = 1000000 - n

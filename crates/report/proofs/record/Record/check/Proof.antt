@@ -26,7 +26,7 @@ returns c =
     let l : length (r .text) ≡ 18 = length-unmapped _ (r .text) 18 (good .1 .0 .1) in
     let b : Bytes (r .text) = λ i. elem-fits-field w8 w8 (r .text) _ i (good .1 .1) tt .fits in
     c .within .ensures
-    ∙ ap (λ (v : Verdict). v then ranged (leb 0 (r .reserved) && leb (r .reserved) 63) 220) (k .check .ensures ∙ fine-then _)
+    ∙ ap (λ (v : Verdict). v then ranged (leb 0 (r .reserved) && leb (r .reserved) 63) 220 (r .reserved)) (k .check .ensures ∙ fine-then _)
     ∙ sym (record-verdict r b l)
 
 pub check-spec : {M : Type 1} → statement M

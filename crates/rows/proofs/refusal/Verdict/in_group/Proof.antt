@@ -14,7 +14,7 @@ use Rattle.rows.proofs.refusal.Verdict.in_group.Tie as tie
 returns : tie.Need-returns
 returns c =
     let s = c .before .args in
-    sym (ap (λ (v : Verdict). s .self then v) (unless-true _ (Range (s .at)) (right-or (leb (s .lo) (s .v) && leb (s .v) (s .hi)) (s .together) (c .if1 .taken))) ∙ then-fine (s .self))
+    sym (ap (λ (v : Verdict). s .self then v) (unless-true _ (Range (s .at) (s .v)) (right-or (leb (s .lo) (s .v) && leb (s .v) (s .hi)) (s .together) (c .if1 .taken))) ∙ then-fine (s .self))
 
 returns-2 : tie.Need-returns-2
 returns-2 c = asked _ _ _ _ _ (c .within .ensures) (sym (or-none _ _ (c .before .if1 .left)))

@@ -13,7 +13,7 @@ returns c = simp (c .enum-told .given .1)
 
 returns-2 : tie.Need-returns-2
 unfolding _then_
-returns-2 c = simp (c .enum-told2 .given .1)
+returns-2 c = simp (c .before .before .self .given .1, c .anew .ensures)
 
 pub then-spec : {M : Type 1} → statement M
-then-spec = tie.close (tie.spec enum-told (λ c. search needs) returns returns-2)
+then-spec = tie.close (tie.spec enum-told (λ c. search needs) (λ c κs. search needs) returns returns-2)

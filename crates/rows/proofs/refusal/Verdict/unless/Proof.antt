@@ -17,7 +17,7 @@ returns-2 c = simp (c .before .enum-told .given .1, c .if1 .left)
 
 returns-3 : tie.Need-returns-3
 unfolding _then_ unless
-returns-3 c = simp (c .enum-told2 .given .1)
+returns-3 c = simp (c .before .before .self .given .1, c .anew .ensures)
 
 pub unless-spec : {M : Type 1} → statement M
-unless-spec = tie.close (tie.spec enum-told returns (λ c. search needs) returns-2 returns-3)
+unless-spec = tie.close (tie.spec enum-told returns (λ c. search needs) (λ c κs. search needs) returns-2 returns-3)
