@@ -8,7 +8,7 @@
  * x86-64; it needs memcpy and memset. The functions work on buffers lent as a
  * pointer and a length, never write to a const one, keep nothing between calls
  * and take no other memory than the stack. Of that lz_read was measured to take
- * 1,420 bytes, lz_read_line 1,452, lz_write 2,512, and none more than 7,416; no
+ * 1,648 bytes, lz_read_line 1,776, lz_write 2,544, and none more than 8,056; no
  * promise speaks of it, but the tests keep it from growing.
  *
  * What the caller guarantees. Whatever bytes are lent, and however many, each
@@ -52,9 +52,11 @@ extern "C" {
  * something is refused, every buffer stays as it was. Where nothing is, some
  * functions answer a value, which never reaches the high byte.
  *
- * With 8 there is also the value that was found at the place. It may need 64 bits,
- * and a refused call writes to no buffer, so it is asked for: beside each function
- * that refuses with 8 stands one with the same name and _value behind it.
+ * With 8 there is also the value that was found at the place, which may be 0. It may
+ * need 64 bits, and a refused call writes to no buffer, so it is asked for: beside
+ * each function that refuses with 8 stands one with the same name and _value behind
+ * it, which refuses nothing and answers 0 where there is no 8. (LZ_VALUE, further
+ * down, is something else.)
  */
 #define LZ_NUMBER(answer) ((uint8_t)((uint32_t)(answer) >> 24))
 #define LZ_PLACE(answer) ((uint8_t)((uint32_t)(answer) >> 16))
@@ -283,8 +285,7 @@ uint32_t lz_read(const uint8_t *frame, size_t frame_length,
 
 /*
  * Answers the value that reading the frame refuses with 8: what stands in the field
- * at the place. 0 where the frame is read or another number is given, but 0 may
- * also be the value. Refuses nothing.
+ * at the place. It is asked of the frame alone, whatever record was lent to lz_read.
  */
 uint64_t lz_read_value(const uint8_t *frame, size_t frame_length);
 
@@ -297,8 +298,7 @@ uint32_t lz_write(const uint8_t *record_bytes, size_t record_length,
 
 /*
  * Answers the value that writing the record to a frame of so many bytes refuses
- * with 8: what stands in the record for the field at the place. 0 where the record
- * is written or another number is given. Refuses nothing.
+ * with 8: what stands in the record for the field at the place.
  */
 uint64_t lz_write_value(const uint8_t *record_bytes, size_t record_length,
                         size_t frame_length);
@@ -310,7 +310,7 @@ uint64_t lz_write_value(const uint8_t *record_bytes, size_t record_length,
 uint32_t lz_read_line(const uint8_t *line, size_t line_length,
                       uint8_t *record_bytes, size_t record_length);
 
-/* Answers of a line what lz_read_value answers of a frame. Refuses nothing. */
+/* Answers of a line what lz_read_value answers of a frame. */
 uint64_t lz_read_line_value(const uint8_t *line, size_t line_length);
 
 /*
@@ -385,8 +385,8 @@ uint32_t lz_open(const uint8_t *name, size_t name_length,
                  uint8_t *store, size_t store_length);
 
 /*
- * Answers the value that opening a store for the name refuses with 8. 0 where all
- * are in range, and where name_length is not 8. Refuses nothing.
+ * Answers the value that opening a store for the name refuses with 8, and 0 where
+ * name_length is not 8. It is asked of the name alone, whatever store is lent.
  */
 uint64_t lz_open_value(const uint8_t *name, size_t name_length);
 
@@ -403,8 +403,8 @@ uint32_t lz_take(uint8_t *store, size_t store_length,
                  const uint8_t *record_bytes, size_t record_length);
 
 /*
- * Answers the value that taking the record into the store refuses with 8, and 0
- * where it is taken or another number is given. Takes nothing and refuses nothing.
+ * Answers the value that taking the record into the store refuses with 8. Nothing
+ * is taken.
  */
 uint64_t lz_take_value(const uint8_t *store, size_t store_length,
                        const uint8_t *record_bytes, size_t record_length);

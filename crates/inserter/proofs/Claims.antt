@@ -188,8 +188,7 @@ pub a-refused-taking-keeps-its-value : (buffer bytes : List ℕ) → IsRefusal (
 a-refused-taking-keeps-its-value buffer bytes h = ap (λ (b : List ℕ). takeValue b bytes) (Kept.taking-leaves buffer bytes h)
 
 -- "All other numbers carry zero": where 8 is not what is said, the question answers 0.
-pub no-value-beside-another-number :
-    ((frame : List ℕ) → (readSays frame .number ≡ 8 → ⊥) → readValue frame ≡ 0)
+pub no-value-beside-another-number : ((frame : List ℕ) → (readSays frame .number ≡ 8 → ⊥) → readValue frame ≡ 0)
     × ((line : List ℕ) → (lineSays line .number ≡ 8 → ⊥) → readLineValue line ≡ 0)
     × ((bytes : List ℕ) (size : ℕ) → (writeSays (recordFrom bytes) size .number ≡ 8 → ⊥) → writeValue bytes size ≡ 0)
     × ((name : List ℕ) → (nameSays (nameFrom name) .number ≡ 8 → ⊥) → openValue name ≡ 0)
