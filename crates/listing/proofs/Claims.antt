@@ -9,7 +9,9 @@ use Rattle.hypocenter.specs.declared.Quake.{Quake}
 use Rattle.nankai.specs.declared.PageNumbers.{PageNumbers}
 use Rattle.report.specs.Meaning.{usedOf}
 use Rattle.report.specs.Categories.{layout}
-use Rattle.rows.specs.declared.refusal.Verdict.the-variants.{Fine}
+use Rattle.rows.specs.declared.refusal.Verdict.the-variants.{Fine, Refused}
+use Rattle.rows.specs.declared.refusal.Refusal.{Refusal}
+use Rattle.rows.specs.declared.refusal.Refusal.the-variants.{Range}
 use mathlib.Core.Path.{_≡_, refl, sym, ap, _∙_}
 use mathlib.Core.Bool.{false, cond}
 use mathlib.Core.List.{List, [], _∷_, _++_, append-assoc, append-nil}
@@ -23,8 +25,9 @@ use lib.Seq.{take-all, take-append-seam}
 use Rattle.report.specs.declared.read.Reading.{Reading}
 use Rattle.rows.specs.Runs.Verdict.{allowed}
 use Rattle.line.specs.Lines.{digits, lineReading}
-use Rattle.rows.specs.Refusals.{plain}
+use Rattle.rows.specs.Refusals.{plain, says}
 use Rattle.listing.specs.declared.row.Entry.the-variants.{Dash, Number}
+use Rattle.listing.specs.declared.row.Value.the-variants.{Dash as NoValue, Number as Found}
 use Rattle.listing.specs.declared.progress.Progress.{Progress}
 use Rattle.listing.specs.Rows.{Filled, rowFor, rowOf, slotsEntry, refusedRow, rowText, headingText, cutText, longest, filledBy}
 use Rattle.listing.specs.Listing.{onto, linesOf, lineRow, limit, rowsFrom, listing}
@@ -162,3 +165,13 @@ no-slots-are-shown-in-category-2 r q e = ap (λ (b : Body). slotsEntry (layout b
 
 pub no-slots-are-shown-in-category-4 : (r : Record) (p : PageNumbers) → r .body ≡ Nankai p → rowFor Fine r .slots ≡ Dash
 no-slots-are-shown-in-category-4 r p e = ap (λ (b : Body). slotsEntry (layout b .slots .count) (usedOf r)) e
+
+-- "a sixth column `value`, a dash unless the answer is 8": with 8 the value, be it 0, with any other number and of a frame that was read a dash
+pub a-refused-value-is-shown : (r : Record) (p v : ℕ) → rowFor (Refused (Range p v)) r .value ≡ Found v
+a-refused-value-is-shown r p v = refl
+
+pub no-value-is-shown-with-another-number : (r : Record) (x : Refusal) → (says x .number ≡ 8 → ⊥) → rowFor (Refused x) r .value ≡ NoValue
+no-value-is-shown-with-another-number r x h = simp (ne-eqb (says x .number) 8 h)
+
+pub no-value-is-shown-of-a-frame-that-was-read : (r : Record) → rowFor Fine r .value ≡ NoValue
+no-value-is-shown-of-a-frame-that-was-read r = refl
