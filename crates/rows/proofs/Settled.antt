@@ -6,9 +6,6 @@ use Rattle.settled.proofs.Law.{answer}
 pub Refusal-says-is-settled : Settled rows.refusal.Refusal.says.ended rows.refusal.Refusal.says.Reads.Post
 Refusal-says-is-settled κs a x y = answer
 
-pub Refusal-anew-is-settled : Settled rows.refusal.Refusal.anew.ended rows.refusal.Refusal.anew.Reads.Post
-Refusal-anew-is-settled κs a x y = answer
-
 pub Verdict-unless-is-settled : Settled rows.refusal.Verdict.unless.ended rows.refusal.Verdict.unless.Reads.Post
 Verdict-unless-is-settled κs a x y = answer
 

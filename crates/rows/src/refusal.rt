@@ -94,7 +94,7 @@ impl Refusal {
 impl Refusal {
     // The same refusal, made of its fields. Where one is copied whole, so are the bytes that lie unused between place and
     // value, and the compiler keeps every verdict on the way in memory: a kilobyte of stack for a reading.
-    pub fn anew(self) -> Refusal
+    pub(crate) fn anew(self) -> Refusal
         ensures { λ r. ⌜ r ≡ self ⌝ }
     {
         match self {
