@@ -15,7 +15,6 @@ pub mod angle; // a latitude or a longitude
 use crate::angle::Angle;
 use crate::codes::is_depth;
 use crate::codes::is_magnitude;
-use rows::codes::is_notification;
 use rows::codes::is_two_or_seven;
 use rows::codes::is_uncorrected;
 use rows::common::Common;
@@ -110,21 +109,9 @@ impl Quake {
         let longitude = self.longitude;
         let front = found
             .spare(43, 10, spares.first)
-            .ranged(
-                53,
-                self.notification1 as u64,
-                is_notification(self.notification1),
-            )
-            .ranged(
-                62,
-                self.notification2 as u64,
-                is_notification(self.notification2),
-            )
-            .ranged(
-                71,
-                self.notification3 as u64,
-                is_notification(self.notification3),
-            )
+            .notification(53, self.notification1)
+            .notification(62, self.notification2)
+            .notification(71, self.notification3)
             .time(80, time)
             .ranged(96, self.depth as u64, is_depth(self.depth))
             .ranged(105, self.magnitude as u64, is_magnitude(self.magnitude))

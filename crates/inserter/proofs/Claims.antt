@@ -178,6 +178,9 @@ pub a-refused-name-tells-its-value : (name buffer : List ℕ) (p x : ℕ) → le
 a-refused-name-tells-its-value name buffer p x long room e =
     (Said.open-told name buffer long room ∙ ap answerWord e, ValuesSaid.named-value name long ∙ ap (λ (s : Said). s .value) e)
 
+pub a-name-of-another-length-has-no-value : (name : List ℕ) → (length name ≡ 8 → ⊥) → openValue name ≡ 0
+a-name-of-another-length-has-no-value = ValuesSaid.no-name-value
+
 -- .. which for a taking is that of writing the record: "Taking a record: 14, then what writing that record to 32 bytes would refuse" ..
 pub a-taking-tells-the-value-of-the-record : (store bytes : List ℕ) → soundStore (storeOrZeros store) ≡ true → takeValue store bytes ≡ writeValue bytes 32
 a-taking-tells-the-value-of-the-record store bytes h = sym (ValuesSaid.take-value (storeOrZeros store) (recordFrom bytes) h)

@@ -5,7 +5,7 @@ use Prim.Native.Nat.{ℕ}
 use mathlib.Core.List.{List}
 use lib.Dec.{eqb}
 use lib.ListN.{length}
-use borrow.Author.Tests.{eq-eqb}
+use borrow.Author.Tests.{eq-eqb, ne-eqb}
 use Rattle.rows.specs.declared.refusal.Refusal.{Refusal}
 use Rattle.rows.specs.declared.refusal.Refusal.the-variants.{Line, Unsound}
 use Rattle.rows.specs.declared.refusal.Verdict.{Verdict}
@@ -99,3 +99,7 @@ opening-without-8 name h = by (eqb (length name) 8)
 pub named-value : (name : List ℕ) → length name ≡ 8 → openValue name ≡ nameSays (nameFrom name) .value
 unfolding openValue
 named-value name e = rw (eq-eqb (length name) 8 e)
+
+pub no-name-value : (name : List ℕ) → (length name ≡ 8 → ⊥) → openValue name ≡ 0
+unfolding openValue
+no-name-value name n = rw (ne-eqb (length name) 8 n)

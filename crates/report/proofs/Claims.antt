@@ -13,10 +13,11 @@ use Rattle.rows.specs.declared.refusal.Refusal.{Refusal}
 use Rattle.rows.specs.declared.refusal.Refusal.the-variants.{Range, Gap, Unused}
 use Rattle.report.specs.declared.record.Record.{Record}
 use Rattle.rows.specs.Refusals.{says, answers}
-use Rattle.rows.specs.Layout.{allRows, tiles, allFit, lowest, Row, spareRow, Member, codesOf, group, ungrouped}
+use Rattle.rows.specs.Layout.{allRows, tiles, allFit, lowest, Row, Rule, spareRow, Member, codesOf, group, ungrouped}
 use Rattle.report.specs.Records.{bodyOf, recordAs, recordOf, zeros, values}
 use Rattle.rows.specs.Values.{cut, flat, hasSpare, sparesAt, valuesOf}
-use Rattle.rows.specs.Found.{FoundAt, Starts}
+use Rattle.rows.specs.Found.{FoundAt, Normal, Starts}
+use Rattle.rows.proofs.Rules.Found.{Coded, normal-or-coded, one-width}
 use Rattle.nankai.specs.declared.PageNumbers.{PageNumbers}
 use Rattle.report.specs.declared.body.Body.the-variants.{Nankai}
 use Rattle.report.proofs.FoundValues.{frame-field, frame-found, frame-total, record-found, record-total}
@@ -53,7 +54,7 @@ use Rattle.slots.specs.declared.slot.Slot.{Slot}
 use Rattle.ash_fall.specs.AshFall.{ashFall}
 use Rattle.ash_fall.specs.Meaning.{prefectureOf}
 use Rattle.ash_fall.specs.declared.meaning.Prefecture.the-variants.{Number}
-use Rattle.rows.specs.Kept.{AllNormal, In, Keeps, Kept}
+use Rattle.rows.specs.Kept.{AllNormal, In, Keeps, Kept, latest}
 use Rattle.rows.proofs.Rules.Groups.{group-kept, group-of-codes, mixed-group, passed}
 use Rattle.tsunami.specs.Tsunami.{tsunami}
 use Rattle.tsunami.specs.Meaning.{arrivalOf, heightOf}
@@ -61,7 +62,7 @@ use Rattle.tsunami.specs.declared.meaning.Arrival.the-variants.{At, Arrived}
 use Rattle.tsunami.specs.declared.meaning.Height.the-variants.{Code, Unknown}
 use Rattle.report.proofs.TsunamiValues.{tsunamiValues, every-row as every-tsunami-row}
 use Rattle.intensity.specs.Intensity.{intensity}
-use Rattle.report.proofs.Tables.{passing, tables-tile as tiled, rules-fit as fit}
+use Rattle.report.proofs.Tables.{all-rows-rise, passing, tables-tile as tiled, rules-fit as fit}
 use Rattle.report.proofs.Writing.Validity.{recordLayout, recordValues, valid-keeps, keeps-valid, reason as write-reason, faulty as write-faulty, faultless as write-faultless, fault-free}
 use Rattle.report.proofs.Writing.WriteReasons.{reserving, no-gap as write-no-gap, above-63}
 
@@ -131,6 +132,10 @@ pub a-mixture-is-refused-by-the-normal-ranges : (rs : List Row) (ws : List ℕ) 
     → (vs ≡ codesOf ms → ⊥) → walk past (group a ms ++ rs) (vs ++ ws) ≡ walk past (ungrouped a ms ++ rs) (vs ++ ws)
 a-mixture-is-refused-by-the-normal-ranges rs ws a past ms vs n x = mixed-group rs ws a past ms vs n x
 
+-- A field passes exactly where its value is in its normal range, or its group has its codes.
+pub passes-in-its-normal-range-or-with-its-codes : (r : Rule) (past : List ℕ) (v : ℕ) (next : List ℕ) → Keeps r past v next ↔ Normal r (latest past) v ⊎ Coded r past v next
+passes-in-its-normal-range-or-with-its-codes r past v next = normal-or-coded r past v next
+
 -- ---- reading
 
 -- "a conforming frame is read" ..
@@ -165,6 +170,10 @@ faultless-is-read s m h = faultless s m h
 pub a-refused-value-is-the-field-at-its-place : (s : List ℕ) (p x : ℕ) → readAnswer s ≡ Refused (Range p x)
     → (w : ℕ) × (Starts (allRows (layoutOf s)) p w × (x ≡ fieldOf s p w))
 a-refused-value-is-the-field-at-its-place s p x e = frame-field s p x e
+
+-- .. the only one that starts there ..
+pub one-row-starts-at-a-place : (b : Body) (p w u : ℕ) → Starts (allRows (layout b)) p w → Starts (allRows (layout b)) p u → w ≡ u
+one-row-starts-at-a-place b p w u f g = one-width 8 226 (allRows (layout b)) p w u (all-rows-rise b) f g
 
 -- .. which is not in the row's normal range ..
 pub a-refused-value-is-out-of-range : (s : List ℕ) (p x : ℕ) → readAnswer s ≡ Refused (Range p x)

@@ -2,6 +2,7 @@
 use Rattle.report.specs.declared.body.Body.{Body}
 use mathlib.Core.Bool.{_&&_, _||_, true, Bool, cond, not}
 use Rattle.rows.proofs.Rules.JudgedFrames.{JudgesAll, judged, ordered}
+use Rattle.rows.proofs.Rules.JudgedRows.{Rises, rises, tested}
 use mathlib.Core.List.{List, _∷_, map, [], _++_}
 use Rattle.rows.specs.Layout.{allFit, allRows, spareRow, tiles, Layout, ending, slotsRows}
 use Rattle.slots.proofs.Tables.{Suited, is-suited, suited}
@@ -73,6 +74,12 @@ tiles-all b = listed (λ l. tiles 8 226 (allRows l)) tables-tile b
 
 pub rises-all : (b : Body) → ordered (layout b) ≡ true
 rises-all b = listed ordered tables-rise b
+
+rows-rise : all (λ l. rises 8 226 (allRows l)) layouts ≡ true
+rows-rise = refl
+
+pub all-rows-rise : (b : Body) → Rises 8 226 (allRows (layout b))
+all-rows-rise b = tested 8 226 (allRows (layout b)) (listed (λ l. rises 8 226 (allRows l)) rows-rise b)
 
 pub fits-all : (b : Body) → allFit (allRows (layout b)) ≡ true
 fits-all b = listed (λ l. allFit (allRows l)) rules-fit b

@@ -57,8 +57,8 @@ Common-of-zeros-is-settled κs a x y = answer
 pub Verdict-in-group-is-settled : Settled rows.refusal.Verdict.in_group.ended rows.refusal.Verdict.in_group.Reads.Post
 Verdict-in-group-is-settled κs a x y = answer
 
-pub is-notification-is-settled : Settled rows.codes.is_notification.ended rows.codes.is_notification.Reads.Post
-is-notification-is-settled κs a x y = answer
+pub Verdict-notification-is-settled : Settled rows.refusal.Verdict.notification.ended rows.refusal.Verdict.notification.Reads.Post
+Verdict-notification-is-settled κs a x y = answer
 
 pub Spares-none-is-settled : Settled rows.fields.Spares.none.ended rows.fields.Spares.none.Reads.Post
 Spares-none-is-settled κs a x y = answer

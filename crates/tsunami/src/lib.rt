@@ -13,7 +13,6 @@ pub mod meaning; // what the arrival and the height of an area say
 pub mod areas; // its slots
 
 use crate::areas::check_areas;
-use rows::codes::is_notification;
 use rows::codes::is_uncorrected;
 use rows::common::Common;
 use rows::fields::Fields;
@@ -99,21 +98,9 @@ impl Warning {
     {
         found
             .spare(43, 10, spares.first)
-            .ranged(
-                53,
-                self.notification1 as u64,
-                is_notification(self.notification1),
-            )
-            .ranged(
-                62,
-                self.notification2 as u64,
-                is_notification(self.notification2),
-            )
-            .ranged(
-                71,
-                self.notification3 as u64,
-                is_notification(self.notification3),
-            )
+            .notification(53, self.notification1)
+            .notification(62, self.notification2)
+            .notification(71, self.notification3)
             .within(80, self.code as u64, 1, 15)
     }
 

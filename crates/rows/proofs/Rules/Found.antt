@@ -1,8 +1,8 @@
 -- Where the value of an 8 stands, and that it is none of its field's normal range.
 use mathlib.Core.Path.{_≡_, refl, sym, ap, ap₂, _∙_}
-use mathlib.Core.Logic.{_⊎_, inl, inr, ⊎-elim}
+use mathlib.Core.Logic.{_⊎_, inl, inr, ⊎-elim, _↔_}
 use mathlib.Core.Bool.{Bool, true, not, _&&_}
-use Prim.Native.Nat.{ℕ, zero, suc, _+_, _≤_}
+use Prim.Native.Nat.{ℕ, zero, suc, _+_, _≤_, _<_}
 use native.Mathlib.Nat.{suc-inj, suc-ne-zero}
 use native.Mathlib.Omega.{arith}
 use mathlib.Core.List.{List, [], _∷_, _++_, map}
@@ -15,11 +15,12 @@ use Rattle.rows.specs.declared.refusal.Refusal.the-variants.{Range, Gap}
 use Rattle.rows.specs.Refusals.{says}
 use Rattle.rows.specs.Layout.{Rule, among, rising, inGroup, spare, Row, Slots, Layout, common, ending, slotRows, slotsRows, allRows}
 use Rattle.rows.specs.Values.{Values, cut, flat, joined}
-use Rattle.rows.specs.Kept.{Keeps, latest}
+use Rattle.rows.specs.Kept.{Keeps, Together, latest}
 use Rattle.rows.specs.Faults.{RowFault, LaterFault, SlotsFault, Fault}
 use Rattle.rows.specs.Found.{Normal, FoundAt, Starts}
 use Rattle.rows.proofs.Layouts.Lengths.{SlotsFilled, Filled}
 use Rattle.rows.proofs.Rules.Outcomes.{and-both}
+use Rattle.rows.proofs.Rules.JudgedRows.{Rises}
 
 -- ---- one stretch of rows
 
@@ -149,3 +150,30 @@ nowhere past (r ∷ rs) [] p x h f = f
 nowhere past (r ∷ rs) (v ∷ vs) p x h f =
     let q = and-both (not (eqb (r .first) p)) (noneStarts rs p) h in
     ⊎-elim (λ u. eqb-false (r .first) p (not-true _ (q .0)) (same-place (u .1))) (nowhere (v ∷ past) rs vs p x (q .1)) f
+
+-- ---- rows that rise have one row at a bit
+
+none-before : (a e : ℕ) (rs : List Row) (p w : ℕ) → Rises a e rs → p < a → Starts rs p w → ⊥
+none-before a e [] p w h k f = f
+none-before a e (r ∷ rs) p w h k f = ⊎-elim (λ u. omega (arith, h .0, k, u .0)) (none-before (suc (r .first)) e rs p w (h .1) (omega (arith, h .0, k))) f
+
+pub one-width : (a e : ℕ) (rs : List Row) (p w u : ℕ) → Rises a e rs → Starts rs p w → Starts rs p u → w ≡ u
+one-width a e [] p w u h f g = absurd f
+one-width a e (r ∷ rs) p w u h (inl f) (inl g) = sym (f .1) ∙ g .1
+one-width a e (r ∷ rs) p w u h (inl f) (inr g) = absurd (none-before (suc (r .first)) e rs p u (h .1) (omega (arith, f .0)) g)
+one-width a e (r ∷ rs) p w u h (inr f) (inl g) = absurd (none-before (suc (r .first)) e rs p w (h .1) (omega (arith, g .0)) f)
+one-width a e (r ∷ rs) p w u h (inr f) (inr g) = one-width (suc (r .first)) e rs p w u (h .1) f g
+
+-- ---- what a field may hold: its normal range, or its code where its group has them all
+
+abbrev pub Coded : Rule → List ℕ → ℕ → List ℕ → Type 0
+Coded (among ss) past v next = ⊥
+Coded (rising hi) past v next = ⊥
+Coded (inGroup ss c) past v next = Together c past v next
+Coded (spare w) past v next = ⊥
+
+pub normal-or-coded : (r : Rule) (past : List ℕ) (v : ℕ) (next : List ℕ) → Keeps r past v next ↔ Normal r (latest past) v ⊎ Coded r past v next
+normal-or-coded (among ss) past v next = (inl, ⊎-elim (λ h. h) (λ h. absurd h))
+normal-or-coded (rising hi) past v next = (inl, ⊎-elim (λ h. h) (λ h. absurd h))
+normal-or-coded (inGroup ss c) past v next = (λ h. h, λ h. h)
+normal-or-coded (spare w) past v next = (inl, ⊎-elim (λ h. h) (λ h. absurd h))

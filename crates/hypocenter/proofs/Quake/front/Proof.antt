@@ -12,17 +12,19 @@ returns : tie.Need-returns
 returns c =
     let magnitude = c .before .before .before .before in
     let depth = magnitude .before .before .before in
-    let third = depth .before .before .before .before in
-    let second = third .before .before .before in
-    let first = second .before .before .before in
-    let s = first .before .before .before .before .before .before .before in
-    link _ _ _ _ _ (first .before .before .before .spare .ensures)
-    (link _ _ _ _ _ (asked _ _ _ _ _ (first .ranged .ensures) (first .before .is-notification .ensures))
-    (link _ _ _ _ _ (asked _ _ _ _ _ (second .ranged2 .ensures) (second .before .is-notification2 .ensures))
-    (link _ _ _ _ _ (asked _ _ _ _ _ (third .ranged3 .ensures) (third .before .is-notification3 .ensures))
-    (link _ _ _ _ _ (depth .before .before .before .time2 .ensures)
-    (link _ _ _ _ _ (asked _ _ _ _ _ (depth .ranged4 .ensures) (depth .before .is-depth .ensures))
-    (link _ _ _ _ _ (asked _ _ _ _ _ (magnitude .ranged5 .ensures) (magnitude .before .is-magnitude .ensures))
+    let time = depth .before .before .before in
+    let third = time .before in
+    let second = third .before in
+    let first = second .before in
+    let spare = first .before in
+    let s = spare .before .before .before .before in
+    link _ _ _ _ _ (spare .spare .ensures)
+    (link _ _ _ _ _ (first .notification .ensures)
+    (link _ _ _ _ _ (second .notification2 .ensures)
+    (link _ _ _ _ _ (third .notification3 .ensures)
+    (link _ _ _ _ _ (time .time2 .ensures)
+    (link _ _ _ _ _ (asked _ _ _ _ _ (depth .ranged .ensures) (depth .before .is-depth .ensures))
+    (link _ _ _ _ _ (asked _ _ _ _ _ (magnitude .ranged2 .ensures) (magnitude .before .is-magnitude .ensures))
     (link _ _ _ _ _ (c .before .before .within .ensures)
     (link _ _ _ _ _ (c .before .check .ensures)
     (c .check2 .ensures)))))))))
@@ -30,4 +32,4 @@ returns c =
 
 pub front-spec : {M : Type 1} → statement M
 front-spec =
-    tie.close (tie.spec (λ c κs. search needs) (λ c. search needs) (λ c κs. search needs) (λ c κs. search needs) (λ c. search needs) (λ c κs. search needs) (λ c κs. search needs) (λ c. search needs) (λ c κs. search needs) (λ c κs. search needs) (λ c κs. search needs) (λ c. search needs) (λ c κs. search needs) (λ c κs. search needs) (λ c. search needs) (λ c κs. search needs) (λ c κs. search needs) (λ c. search needs) (λ c κs. search needs) (λ c κs. search needs) (λ c κs. search needs) returns)
+    tie.close (tie.spec (λ c κs. search needs) (λ c κs. search needs) (λ c κs. search needs) (λ c κs. search needs) (λ c κs. search needs) (λ c. search needs) (λ c κs. search needs) (λ c κs. search needs) (λ c. search needs) (λ c κs. search needs) (λ c κs. search needs) (λ c. search needs) (λ c κs. search needs) (λ c κs. search needs) (λ c κs. search needs) returns)

@@ -10,13 +10,10 @@ returns : tie.Need-returns
 unfolding walk judge
 returns c = simp (
   c .within .ensures,
-  c .before .before .ranged3 .ensures,
-  c .before .before .before .is-notification3 .ensures,
-  c .before .before .before .before .before .ranged2 .ensures,
-  c .before .before .before .before .before .before .is-notification2 .ensures,
-  c .before .before .before .before .before .before .before .before .ranged .ensures,
-  c .before .before .before .before .before .before .before .before .before .is-notification .ensures,
-  c .before .before .before .before .before .before .before .before .before .before .before .spare .ensures,
+  c .before .before .notification3 .ensures,
+  c .before .before .before .notification2 .ensures,
+  c .before .before .before .before .notification .ensures,
+  c .before .before .before .before .before .spare .ensures,
   then-assoc,
   then-fine,
   allowed-one,
@@ -24,4 +21,4 @@ returns c = simp (
 
 pub front-spec : {M : Type 1} → statement M
 front-spec =
-    tie.close (tie.spec (λ c κs. search needs) (λ c. search needs) (λ c κs. search needs) (λ c κs. search needs) (λ c. search needs) (λ c κs. search needs) (λ c κs. search needs) (λ c. search needs) (λ c κs. search needs) (λ c κs. search needs) (λ c. search needs) (λ c κs. search needs) returns)
+    tie.close (tie.spec (λ c κs. search needs) (λ c κs. search needs) (λ c κs. search needs) (λ c κs. search needs) (λ c. search needs) (λ c κs. search needs) returns)
