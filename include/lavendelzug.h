@@ -1,8 +1,8 @@
 /*
  * Lavendelzug for C and C++: reading and writing DC Report frames of message
  * type 43 in categories 2 (hypocenter), 3 (seismic intensity), 4 (Nankai
- * Trough), 5 (tsunami) and 9 (ash fall), and gathering the pages of a Nankai
- * bulletin.
+ * Trough), 5 (tsunami), 8 (volcano), 9 (ash fall) and 11 (flood), and gathering
+ * the pages of a Nankai bulletin.
  *
  * Link target/staticlib/libinserter.a, which `rt staticlib inserter` writes for
  * x86-64; it needs memcpy and memset. The functions work on buffers lent as a
@@ -70,7 +70,7 @@ extern "C" {
 #define LZ_REFUSED_PARITY 4           /* the parity in the frame is not that of its bits */
 #define LZ_REFUSED_MESSAGE 5          /* the message type is not 43 */
 #define LZ_REFUSED_VERSION 6          /* the version is not 1 */
-#define LZ_REFUSED_CATEGORY 7         /* the category is not 2, 3, 4, 5 or 9 */
+#define LZ_REFUSED_CATEGORY 7         /* the category is not 2, 3, 4, 5, 8, 9 or 11 */
 #define LZ_REFUSED_RANGE 8            /* a field is out of its range, or a spare too wide; place: its first bit; a value */
 /* 9 was given for a spare that is not zero. It does not occur any more, and is not used again. */
 #define LZ_REFUSED_GAP 10             /* a slot is used behind an empty one; place: its first bit */
@@ -94,12 +94,12 @@ extern "C" {
  * another length are taken for a record of zeros.
  *
  *   at   what                      range
- *    0   category                  2, 3, 4, 5, 9
+ *    0   category                  2, 3, 4, 5, 8, 9, 11
  *    1   preamble                  53, 9A, C6 hexadecimal
  *    2   Reserved                  0-63
- *    3   Rc                        1, 3, 7 in category 5, else 2, 7
+ *    3   Rc                        1, 3, 7 in category 5; 2, 3, 7 in 8 and 11; else 2, 7
  *    4   month, day, hour, minute  1-12, 1-31, 0-23, 0-59: when it was issued
- *    8   It                        0, 2; in category 9 also 1
+ *    8   It                        0, 2; in categories 8, 9 and 11 also 1
  *    9   32 bytes by category, zero where the category uses fewer
  *   41   16 slots of 12 bytes
  *  233   18 bytes of text: any in category 4, else zero
@@ -187,6 +187,28 @@ extern "C" {
 #define LZ_TSUNAMI_WARNING 17
 
 /*
+ * Category 8. Day 0, hour 31 and minute 63 stand together where nobody knows when
+ * the volcanic activity was. One or two of them without the others are 8, at the
+ * first of the three that is out of its range here. The ambiguity says how much of
+ * day, hour and minute is valid (lz_validity), and is not tied to them.
+ *
+ *    9   first spare, at bit 43    0-127
+ *   10   ambiguity                 0-7
+ *   11   day, hour, minute         1-31, 0-23, 0-59, or 0, 31, 63
+ *   14   warning code              1-127
+ *   15   volcano                   2 bytes: 101-4000
+ *   17   second spare, at bit 203  2 bytes: 0-2047
+ */
+#define LZ_VOLCANO_SPARE1 9
+#define LZ_VOLCANO_AMBIGUITY 10
+#define LZ_VOLCANO_DAY 11
+#define LZ_VOLCANO_HOUR 12
+#define LZ_VOLCANO_MINUTE 13
+#define LZ_VOLCANO_WARNING 14
+#define LZ_VOLCANO_VOLCANO 15
+#define LZ_VOLCANO_SPARE2 17
+
+/*
  * Category 9.
  *
  *    9   first spare, at bit 43    2 bytes: 0-1023
@@ -204,6 +226,15 @@ extern "C" {
 #define LZ_ASH_SPARE2 17
 
 /*
+ * Category 11. All that it says stands in its slots.
+ *
+ *    9   first spare, at bit 43    2 bytes: 0-1023
+ *   11   second spare, at bit 185  4 bytes: 29 bits
+ */
+#define LZ_FLOOD_SPARE1 9
+#define LZ_FLOOD_SPARE2 11
+
+/*
  * Slot number i, counted from 0, starts at LZ_RECORD_SLOT(i). Of the slots that a
  * category has, the first is used; a later one is empty where all of it is zero,
  * and then so are those behind it. An empty slot has no name in any table.
@@ -215,7 +246,9 @@ extern "C" {
  *   category  slots  day  hour  minute  strength       place (8 bytes)
  *      3         16    0     0       0  intensity 1-7  prefecture 1-47
  *      5          5  0-1  0-23    0-59  height 1-15    region 100-1000
+ *      8          5    0     0       0  0              place 110000-4799999
  *      9          4    0   1-6       0  1-7            place 110000-4799999
+ *     11          3    0     0       0  level 1-15     region 10175000100-899999999999
  *
  * In category 5 a slot is an area, and day, hour and minute say when the wave is
  * expected there, in UTC, day 0 being that of the issue and day 1 the next. Where
@@ -324,14 +357,15 @@ uint32_t lz_write_line(const uint8_t *frame, size_t frame_length,
 /*
  * ---- What numbers say ----
  *
- * These refuse nothing. A depth, a magnitude, an arrival and a height are told as
- * a kind and a value, the latter 0 unless the kind is LZ_KNOWN.
+ * These refuse nothing. A depth, a magnitude, an arrival, a height, an activity
+ * time and what is valid of it are told as a kind and a value, the latter 0 unless
+ * the kind is LZ_KNOWN.
  */
 #define LZ_KIND(answer) ((uint8_t)((uint32_t)(answer) >> 16))
 #define LZ_VALUE(answer) ((uint16_t)(uint32_t)(answer))
 
-#define LZ_NO_CODE 0  /* no depth, magnitude, arrival or height has this code */
-#define LZ_KNOWN 1    /* value: kilometres, tenths, hour and minute, or the code of a height */
+#define LZ_NO_CODE 0  /* no depth, magnitude, arrival, height, time or ambiguity has this code */
+#define LZ_KNOWN 1    /* value: kilometres, tenths, a time, the code of a height, or what is valid */
 #define LZ_BEYOND 2   /* deeper than 500 km, or above 8.0 where no moment magnitude is known */
 #define LZ_UNKNOWN 3
 #define LZ_ARRIVED 4  /* the wave has arrived, and no time is given */
@@ -360,8 +394,30 @@ uint32_t lz_arrival(uint8_t hour, uint8_t minute);
 uint32_t lz_height(uint8_t code);
 
 /*
- * Answers the prefecture, 1 to 47, that a place of category 9 lies in, or 0 where
- * it lies in none: below 100000 and above 4799999.
+ * What day, hour and minute of category 8 say: LZ_KNOWN for a day of 1 to 31 with
+ * an hour of 0 to 23 and a minute of 0 to 59, LZ_UNKNOWN for 0 with 31 and 63,
+ * LZ_NO_CODE for all else. The value of a time is 2048 * day + 64 * hour + minute.
+ * How much of it is valid is for the ambiguity to say: ask lz_validity too.
+ */
+#define LZ_ACTIVITY_DAY(answer) ((uint8_t)(LZ_VALUE(answer) >> 11))
+#define LZ_ACTIVITY_HOUR(answer) ((uint8_t)((LZ_VALUE(answer) >> 6) & 31))
+#define LZ_ACTIVITY_MINUTE(answer) ((uint8_t)(LZ_VALUE(answer) & 63))
+uint32_t lz_activity(uint8_t day, uint8_t hour, uint8_t minute);
+
+/*
+ * How much of an activity time is valid by its ambiguity: LZ_KNOWN with one of the
+ * four values below for 0 to 7, LZ_NO_CODE for all else. The higher the value, the
+ * more of day, hour and minute, in this order, is valid.
+ */
+#define LZ_VALID_NOTHING 0          /* 6, 7: the time is about a month or a year */
+#define LZ_VALID_DAY 1              /* 5: hour and minute are not valid */
+#define LZ_VALID_DAY_HOUR 2         /* 4: the minute is not valid */
+#define LZ_VALID_DAY_HOUR_MINUTE 3  /* 0 to 3 */
+uint32_t lz_validity(uint8_t ambiguity);
+
+/*
+ * Answers the prefecture, 1 to 47, that a place of category 8 or 9 lies in, or 0
+ * where it lies in none: below 100000 and above 4799999.
  */
 uint32_t lz_prefecture(uint64_t place);
 

@@ -86,6 +86,8 @@ mod raw {
         pub fn lz_magnitude(code: u8) -> u32;
         pub fn lz_arrival(hour: u8, minute: u8) -> u32;
         pub fn lz_height(code: u8) -> u32;
+        pub fn lz_activity(day: u8, hour: u8, minute: u8) -> u32;
+        pub fn lz_validity(ambiguity: u8) -> u32;
         pub fn lz_prefecture(place: u64) -> u32;
         pub fn lz_slots_used(record_bytes: *const u8, record_length: usize) -> u32;
         pub fn one_field(frame: *const u8, frame_length: usize, first: usize, width: usize) -> u64;
@@ -209,6 +211,20 @@ pub fn arrival(hour: u8, minute: u8) -> u32 {
 pub fn height(code: u8) -> u32 {
     // As with a depth.
     unsafe { raw::lz_height(code) }
+}
+
+/// What day, hour and minute of volcanic activity say: 65536 times their kind, and
+/// where they are a time, 2048 times the day, 64 times the hour and the minute.
+pub fn activity(day: u8, hour: u8, minute: u8) -> u32 {
+    // Three numbers are handed over and nothing else.
+    unsafe { raw::lz_activity(day, hour, minute) }
+}
+
+/// How much of an activity time is valid: 65536 times the kind of the ambiguity,
+/// and a number that is the higher the more is valid.
+pub fn validity(ambiguity: u8) -> u32 {
+    // As with a depth.
+    unsafe { raw::lz_validity(ambiguity) }
 }
 
 /// The prefecture of a place, or 0.

@@ -172,7 +172,7 @@ fn stray_record(random: &mut Random, bulletin: &Bulletin) -> Bytes {
     let record = if random.one_in(2) { any_taking(random, bulletin) } else { any_record(random) };
     let mut bytes = packed(&record);
     if random.one_in(2) {
-        bytes[0] = random.pick(&[0, 1, 6, 8, 10, 255]);
+        bytes[0] = random.pick(&[0, 1, 6, 7, 10, 12, 15, 255]);
         bytes
     } else {
         with_stray(random, &record)

@@ -5,10 +5,11 @@ use crate::packed::{packed, LENGTH};
 use crate::{door, Count};
 use reference::generate::valid_record;
 use reference::meaning::{
-    arrival, depth, height, magnitude, prefecture, slots_used, Arrival, Depth, Height, Magnitude,
+    activity, arrival, depth, height, magnitude, prefecture, slots_used, validity, Activity,
+    Arrival, Depth, Height, Magnitude, Validity,
 };
 use reference::random::Random;
-use reference::record::{Category, Record};
+use reference::record::{Category, Record, Time};
 
 /// How many bits a place has in a frame.
 const PLACE_BITS: u32 = 23;
@@ -62,6 +63,42 @@ pub fn heights(count: &mut Count) {
             Some(Height::Unknown) => word(3, 0),
         };
         count.same(&[code], &door::height(code), &expected);
+    }
+}
+
+/// Every three codes that 8 bits hold.
+pub fn activities(count: &mut Count) {
+    for day in 0..=u8::MAX {
+        for hour in 0..=u8::MAX {
+            for minute in 0..=u8::MAX {
+                let expected = match activity(Time { day, hour, minute }) {
+                    None => 0,
+                    Some(Activity::At(time)) => word(1, packed_time(time)),
+                    Some(Activity::Unknown) => word(3, 0),
+                };
+                count.same(&[day, hour, minute], &door::activity(day, hour, minute), &expected);
+            }
+        }
+    }
+}
+
+/// Five bits for the day, five for the hour, six for the minute.
+fn packed_time(time: Time) -> u16 {
+    let [day, hour, minute] = [time.day, time.hour, time.minute].map(u16::from);
+    day << 11 | hour << 6 | minute
+}
+
+/// Every code that 8 bits hold.
+pub fn validities(count: &mut Count) {
+    for ambiguity in 0..=u8::MAX {
+        let expected = match validity(ambiguity) {
+            None => 0,
+            Some(Validity::Nothing) => word(1, 0),
+            Some(Validity::Day) => word(1, 1),
+            Some(Validity::DayAndHour) => word(1, 2),
+            Some(Validity::DayHourAndMinute) => word(1, 3),
+        };
+        count.same(&[ambiguity], &door::validity(ambiguity), &expected);
     }
 }
 

@@ -2,7 +2,7 @@
 //! places, and what its category has by the rows of the category's table.
 
 use reference::fields::{fields, slot_layout, spares, Field};
-use reference::record::{Category, Record, Slot};
+use reference::record::{Category, Part, Record, Slot};
 use reference::write::placed;
 use std::ops::Range;
 
@@ -59,15 +59,23 @@ pub fn packed(record: &Record) -> Bytes {
 }
 
 /// The bytes in which a category has nothing: those behind its last row, those of
-/// the slots it does not have, and the text unless it has one. Without a category
-/// it is all that categories have.
+/// the slots and parts of slots it does not have, and the text unless it has one.
+/// Without a category it is all that categories have.
 pub fn unused(category: Option<Category>) -> Vec<usize> {
     let Some(category) = category else {
         return (OWN..LENGTH).collect();
     };
-    let other_slots = SLOTS + SLOT_LENGTH * slot_layout(category).count..TEXT;
+    let slots = (SLOTS..TEXT).step_by(SLOT_LENGTH).enumerate();
+    let in_slots = slots.flat_map(|(number, place)| unused_in_slot(category, number, place));
     let text_end = if category == Category::Nankai { TEXT } else { LENGTH };
-    (end_of_rows(category)..SLOTS).chain(other_slots).chain(TEXT..text_end).collect()
+    (end_of_rows(category)..SLOTS).chain(in_slots).chain(TEXT..text_end).collect()
+}
+
+/// The same in the slot of a number, which stands at a place of the bytes.
+fn unused_in_slot(category: Category, number: usize, place: usize) -> Vec<usize> {
+    let layout = slot_layout(category);
+    let lacking = Part::ALL.into_iter().filter(|&part| number >= layout.count || !layout.has(part));
+    lacking.flat_map(part_bytes).map(|byte| place + byte).collect()
 }
 
 /// What a category has beside slots and text, from Spare1 on in the order of
@@ -121,6 +129,19 @@ fn put(bytes: &mut Bytes, place: usize, part: &[u8]) {
 }
 
 fn put_slot(bytes: &mut Bytes, place: usize, slot: &Slot) {
-    put(bytes, place, &[slot.day, slot.hour, slot.minute, slot.strength]);
-    put(bytes, place + 4, &slot.place.to_be_bytes());
+    for part in Part::ALL {
+        let own = part_bytes(part);
+        put(bytes, place + own.start, &slot.part(part).to_be_bytes()[8 - own.len()..]);
+    }
+}
+
+/// The bytes of a slot in which a part stands.
+fn part_bytes(part: Part) -> Range<usize> {
+    match part {
+        Part::Day => 0..1,
+        Part::Hour => 1..2,
+        Part::Minute => 2..3,
+        Part::Strength => 3..4,
+        Part::Place => 4..SLOT_LENGTH,
+    }
 }

@@ -12,7 +12,8 @@ use reference::answer::Answer;
 use reference::bits::Frame;
 use reference::fields::{self, slot_layout, Field};
 use reference::generate::{
-    any_frame, boundary_frames, frame_with_slots, raw_frame, slices, valid_frame, RawValue,
+    any_frame, boundary_frames, frame_with_slots, many_faults_frame, raw_frame, slices,
+    valid_frame, RawValue,
 };
 use reference::random::Random;
 use reference::read::read;
@@ -21,14 +22,23 @@ use reference::samples;
 use reference::write::write;
 
 const ANY_FRAMES: usize = 1_000_000;
+const FAULTY_FRAMES: usize = 25_000;
+const RENUMBERED_FRAMES: usize = 200;
 
-/// The first rows of tables 4.1.2-16 and 4.1.2-24, a prefecture and a forecast
-/// region that the samples never name.
+/// The first rows of tables 4.1.2-16, 4.1.2-24, 4.1.2-33 and 4.1.2-45: a prefecture,
+/// a forecast region, a place and a river that the samples never name.
 const FIRST_PREFECTURE: u64 = 1;
 const FIRST_REGION: u64 = 100;
+const FIRST_PLACE: u64 = 110_000;
+const FIRST_RIVER: u64 = 10_175_000_100;
 
 /// Day, hour and minute of an area together.
 const ARRIVAL_BITS: usize = 12;
+
+/// Ambiguity, day, hour and minute of volcanic activity: where they begin, and all
+/// their bits.
+const ACTIVITY_FIRST: usize = 50;
+const ACTIVITY_BITS: usize = 19;
 
 /// The byte of the page number in category 4.
 const PAGE_NUMBER: usize = 12;
@@ -61,6 +71,41 @@ pub fn arrivals(count: &mut Count) {
             let first = layout.slot_first(area);
             let arrival = RawValue { first, width: ARRIVAL_BITS, value };
             agree(count, &raw_frame(&base, &[arrival]));
+        }
+    }
+}
+
+/// Every day, hour and minute that their bits can hold for volcanic activity,
+/// beside every ambiguity, which has no part in it.
+pub fn activities(count: &mut Count) {
+    let mut random = Random::new(49);
+    for value in 0..1 << ACTIVITY_BITS {
+        let base = valid_frame(&mut random, Category::Volcano);
+        let time = RawValue { first: ACTIVITY_FIRST, width: ACTIVITY_BITS, value };
+        agree(count, &raw_frame(&base, &[time]));
+    }
+}
+
+/// Several faults at once in frames of each category.
+pub fn several_faults(count: &mut Count) {
+    let mut random = Random::new(50);
+    for category in Category::ALL {
+        for _ in 0..FAULTY_FRAMES {
+            agree(count, &many_faults_frame(&mut random, category));
+        }
+    }
+}
+
+/// Right frames of each category under every number for a category, so that each is
+/// judged by the table of another, or by none.
+pub fn other_categories(count: &mut Count) {
+    let mut random = Random::new(51);
+    for category in Category::ALL {
+        for value in 0..16 {
+            for _ in 0..RENUMBERED_FRAMES {
+                let base = valid_frame(&mut random, category);
+                agree(count, &raw_frame(&base, &[RawValue { first: 17, width: 4, value }]));
+            }
         }
     }
 }
@@ -113,6 +158,9 @@ pub fn document_004(count: &mut Count) {
     silent_slots(count, &samples::tsunami_warning(), 3, FIRST_REGION);
     silent_slots(count, &samples::tsunami_update(), 4, FIRST_REGION);
     silent_slots(count, &samples::tsunami_lifted(), 4, FIRST_REGION);
+    silent_slots(count, &samples::volcano(), 3, FIRST_PLACE);
+    silent_slots(count, &samples::flood_warning(), 1, FIRST_RIVER);
+    silent_slots(count, &samples::flood_lifted(), 1, FIRST_RIVER);
     let pages = samples::nankai();
     for delivery in pages.chunks(pages.len() / 2) {
         let text = joined(delivery);

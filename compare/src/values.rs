@@ -1,6 +1,10 @@
 //! The value that is told beside 8, in every call that has one to tell: what
 //! stands in the field at the place, in the frame, the record or the name.
 
+mod mixtures;
+
+pub use mixtures::*;
+
 use crate::packed::kept;
 use crate::spares::with_few_bits;
 use crate::writing::FRAME_LENGTH;
@@ -185,13 +189,19 @@ fn alone(choices: &[Choice]) -> Vec<Puts> {
     choices.iter().flat_map(each).collect()
 }
 
-/// Two fields at a time, each with a number that is not allowed for itself. There
-/// is none for a field whose bits hold nothing else than what is allowed.
-fn pairs(random: &mut Random, mut choices: Vec<Choice>) -> Vec<Puts> {
+/// The numbers that are not allowed for themselves. There is none for a field whose
+/// bits hold nothing else than what is allowed.
+fn not_allowed(mut choices: Vec<Choice>) -> Vec<Choice> {
     for Choice { field, numbers } in &mut choices {
         numbers.retain(|&number| !field.allows(number));
     }
     choices.retain(|choice| !choice.numbers.is_empty());
+    choices
+}
+
+/// Two fields at a time, each with a number that is not allowed for itself.
+fn pairs(random: &mut Random, choices: Vec<Choice>) -> Vec<Puts> {
+    let choices = not_allowed(choices);
     let mut pairs = Vec::new();
     for (number, one) in choices.iter().enumerate() {
         for other in &choices[number + 1..] {

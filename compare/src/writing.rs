@@ -8,9 +8,10 @@ use crate::packed::{kept, packed, size, unused, Bytes, LENGTH};
 use crate::spares::{note, numbers};
 use crate::{lent, pattern, values, Count};
 use reference::answer::Answer;
-use reference::fields;
+use reference::fields::{self, Field};
 use reference::generate::{
-    any_record, boundary_records, slot_count, too_wide, valid_record, valid_slot,
+    any_record, boundary_records, many_faults_record, set_number, slot_count, too_wide,
+    valid_record, valid_slot,
 };
 use reference::random::Random;
 use reference::record::{Category, Record};
@@ -20,6 +21,7 @@ use reference::write::write;
 const ANY_RECORDS: usize = 1_000_000;
 const STRAY_RECORDS: usize = 200_000;
 const WIDE_RECORDS: usize = 200_000;
+const FAULTY_RECORDS: usize = 25_000;
 pub const FRAME_LENGTH: usize = 32;
 
 /// Records of every kind that the reference builds, right ones and wrong ones.
@@ -47,6 +49,49 @@ pub fn arrivals(count: &mut Count) {
             record.slots[..=area].fill(valid_slot(&mut random, Category::Tsunami));
             (record.slots[area].hour, record.slots[area].minute) = (hour, minute);
             agree(count, &record, FRAME_LENGTH);
+        }
+    }
+}
+
+/// Day, hour and minute of volcanic activity: every two numbers that a record can
+/// have for two of them, with a normal number and the code for the third.
+pub fn activities(count: &mut Count) {
+    let mut random = Random::new(63);
+    for group in fields::groups(Category::Volcano) {
+        for (number, third) in group.iter().enumerate() {
+            let mut others = group.clone();
+            others.remove(number);
+            let normal = third.allowed.first().map(|&(lowest, _)| lowest);
+            for value in normal.into_iter().chain(third.group_code) {
+                every_two_numbers(count, &mut random, &others, (*third, value));
+            }
+        }
+    }
+}
+
+/// Every two numbers of a byte for two fields of category 8, beside a third.
+fn every_two_numbers(
+    count: &mut Count,
+    random: &mut Random,
+    fields: &[Field],
+    (third, value): (Field, u64),
+) {
+    for numbers in (0..=u16::MAX).map(u16::to_be_bytes) {
+        let mut record = valid_record(random, Category::Volcano);
+        set_number(&mut record, third.first, value);
+        for (field, number) in fields.iter().zip(numbers) {
+            set_number(&mut record, field.first, number.into());
+        }
+        agree(count, &record, FRAME_LENGTH);
+    }
+}
+
+/// Several faults at once in records of each category.
+pub fn several_faults(count: &mut Count) {
+    let mut random = Random::new(64);
+    for category in Category::ALL {
+        for _ in 0..FAULTY_RECORDS {
+            agree(count, &many_faults_record(&mut random, category), FRAME_LENGTH);
         }
     }
 }

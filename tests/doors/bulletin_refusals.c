@@ -7,6 +7,7 @@
 #include "lavendelzug.h"
 #include "samples.h"
 #include "spare_samples.h"
+#include "wide_records.h"
 
 #include <string.h>
 
@@ -22,6 +23,18 @@ static void check_no_page_with_spares(const uint8_t *store, const struct spared 
         TAKING_IS(out_of_range(spare->first, highest_of(spare) + 1), store, report.record);
     }
 }
+
+/* An Rc or It that another report may have and no bulletin has. */
+struct foreign {
+    unsigned category, at;
+    uint8_t value;
+};
+
+static const struct foreign foreign[] = {
+    {TSUNAMI, LZ_RECORD_RC, 1}, {TSUNAMI, LZ_RECORD_RC, 3},  {VOLCANO, LZ_RECORD_RC, 3},
+    {VOLCANO, LZ_RECORD_IT, 1}, {ASH_FALL, LZ_RECORD_IT, 1}, {FLOOD, LZ_RECORD_RC, 3},
+    {FLOOD, LZ_RECORD_IT, 1},
+};
 
 /* Every category but 4 is 12, behind what writing refuses of its record. */
 static void check_no_page_taken(const uint8_t *store)
@@ -39,20 +52,14 @@ static void check_no_page_taken(const uint8_t *store)
         record[LZ_RECORD_TEXT] = 1;
         TAKING_IS(refused(LZ_REFUSED_UNUSED), store, record);
     }
-    /* an Rc that a tsunami report may have and no bulletin has */
-    tsunami_record(record);
-    record[LZ_RECORD_RC] = 1;
-    TAKING_IS(refused(LZ_REFUSED_NO_PAGE), store, record);
+    for (size_t i = 0; i < COUNT(foreign); i++) {
+        spared[foreign[i].category].record(record);
+        record[foreign[i].at] = foreign[i].value;
+        TAKING_IS(refused(LZ_REFUSED_NO_PAGE), store, record);
+    }
 }
 
-/* A byte of a page whose spare then is too wide, and what the spare is. */
-struct wide {
-    unsigned at;
-    uint8_t byte;
-    unsigned place;
-    uint64_t value;
-};
-
+/* Of a page, whose spare then is too wide. */
 static const struct wide wide[] = {
     {LZ_NANKAI_SPARE1, 4, 43, 0x400},
     {LZ_NANKAI_SPARE1, 0xFF, 43, 0xFF00},

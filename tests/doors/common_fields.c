@@ -15,7 +15,9 @@ static int is_category(unsigned code)
     case 3:
     case 4:
     case 5:
+    case 8:
     case 9:
+    case 11:
         return 1;
     default:
         return 0;
@@ -53,7 +55,9 @@ static const struct sample samples[] = {
     {intensity_line, intensity_record, "27", "02"},
     {nankai_line, nankai_record, "27", "02"},
     {tsunami_line, tsunami_record, "137", "02"},
+    {volcano_line, volcano_record, "237", "012"},
     {ash_fall_line, ash_fall_record, "27", "012"},
+    {flood_line, flood_record, "237", "012"},
 };
 
 /* Every value that the field has bits for. `at` is its byte in a record. */

@@ -6,9 +6,11 @@
 /* The page number of a good trial, which the total must reach. */
 #define PAGE 30
 
-/* Fields that several categories have, where each has them. */
+/* Fields that several categories have, where each has them. Rc 3 is regular, It 1 a correction. */
 #define RC(category) {(category), 14, 3, LZ_RECORD_RC, 1, 0, 2, {{2, 2}, {7, 7}}}
+#define RC_OR_REGULAR(category) {(category), 14, 3, LZ_RECORD_RC, 1, 0, 2, {{2, 3}, {7, 7}}}
 #define IT(category) {(category), 41, 2, LZ_RECORD_IT, 1, 0, 2, {{0, 0}, {2, 2}}}
+#define IT_OR_CORRECTION(category) {(category), 41, 2, LZ_RECORD_IT, 1, 0, 1, {{0, 2}}}
 #define NOTIFICATION(category, first, at) \
     {(category), (first), 9, (at), 2, 0, 2, {{0, 0}, {101, 500}}}
 #define NOTIFICATIONS(category, at) \
@@ -30,11 +32,11 @@
 const struct field fields[] = {
     {EVERY, 21, 4, LZ_RECORD_MONTH, 1, 0, 1, {{1, 12}}},
     TIME(EVERY, 25, LZ_RECORD_DAY),
-    SPARE(EVERY, 43, 10, LZ_QUAKE_SPARE1, 2),
     {EVERY, 220, 6, LZ_RECORD_RESERVED, 1, 0, 1, {{0, 63}}},
 
     RC(HYPOCENTER),
     IT(HYPOCENTER),
+    SPARE(HYPOCENTER, 43, 10, LZ_QUAKE_SPARE1, 2),
     NOTIFICATIONS(HYPOCENTER, LZ_QUAKE_NOTIFICATIONS),
     TIME(HYPOCENTER, 80, LZ_QUAKE_DAY),
     {HYPOCENTER, 96, 9, LZ_QUAKE_DEPTH, 2, 0, 2, {{0, 501}, {511, 511}}},
@@ -46,6 +48,7 @@ const struct field fields[] = {
 
     RC(INTENSITY),
     IT(INTENSITY),
+    SPARE(INTENSITY, 43, 10, LZ_INTENSITY_SPARE1, 2),
     TIME(INTENSITY, 53, LZ_INTENSITY_DAY),
     {INTENSITY, 69, 3, IN_SLOT(LZ_SLOT_STRENGTH), 1, 9, 1, {{1, 7}}},
     {INTENSITY, 72, 6, IN_SLOT(LZ_SLOT_PLACE), 8, 9, 1, {{1, 47}}},
@@ -53,6 +56,7 @@ const struct field fields[] = {
 
     RC(NANKAI),
     IT(NANKAI),
+    SPARE(NANKAI, 43, 10, LZ_NANKAI_SPARE1, 2),
     {NANKAI, 53, 4, LZ_NANKAI_IS, 1, 0, 1, {{1, 15}}},
     {NANKAI, 201, 6, LZ_NANKAI_PAGE, 1, 0, 1, {{1, 63}}},
     {NANKAI, 207, 6, LZ_NANKAI_TOTAL, 1, 0, 1, {{PAGE, 63}}},
@@ -60,6 +64,7 @@ const struct field fields[] = {
 
     {TSUNAMI, 14, 3, LZ_RECORD_RC, 1, 0, 3, {{1, 1}, {3, 3}, {7, 7}}},
     IT(TSUNAMI),
+    SPARE(TSUNAMI, 43, 10, LZ_TSUNAMI_SPARE1, 2),
     NOTIFICATIONS(TSUNAMI, LZ_TSUNAMI_NOTIFICATIONS),
     {TSUNAMI, 80, 4, LZ_TSUNAMI_WARNING, 1, 0, 1, {{1, 15}}},
     {TSUNAMI, 84, 1, IN_SLOT(LZ_SLOT_DAY), 1, 26, 1, {{0, 1}}},
@@ -68,8 +73,19 @@ const struct field fields[] = {
     {TSUNAMI, 96, 4, IN_SLOT(LZ_SLOT_STRENGTH), 1, 26, 1, {{1, 15}}},
     {TSUNAMI, 100, 10, IN_SLOT(LZ_SLOT_PLACE), 8, 26, 1, {{100, 1000}}},
 
+    RC_OR_REGULAR(VOLCANO),
+    IT_OR_CORRECTION(VOLCANO),
+    SPARE(VOLCANO, 43, 7, LZ_VOLCANO_SPARE1, 1),
+    {VOLCANO, 50, 3, LZ_VOLCANO_AMBIGUITY, 1, 0, 1, {{0, 7}}},
+    TIME(VOLCANO, 53, LZ_VOLCANO_DAY),
+    {VOLCANO, 69, 7, LZ_VOLCANO_WARNING, 1, 0, 1, {{1, 127}}},
+    {VOLCANO, 76, 12, LZ_VOLCANO_VOLCANO, 2, 0, 1, {{101, 4000}}},
+    {VOLCANO, 88, 23, IN_SLOT(LZ_SLOT_PLACE), 8, 23, 1, {{110000, 4799999}}},
+    SPARE(VOLCANO, 203, 11, LZ_VOLCANO_SPARE2, 2),
+
     RC(ASH_FALL),
-    {ASH_FALL, 41, 2, LZ_RECORD_IT, 1, 0, 1, {{0, 2}}},
+    IT_OR_CORRECTION(ASH_FALL),
+    SPARE(ASH_FALL, 43, 10, LZ_ASH_SPARE1, 2),
     TIME(ASH_FALL, 53, LZ_ASH_DAY),
     {ASH_FALL, 69, 2, LZ_ASH_WARNING, 1, 0, 1, {{1, 2}}},
     {ASH_FALL, 71, 12, LZ_ASH_VOLCANO, 2, 0, 1, {{101, 4000}}},
@@ -77,18 +93,30 @@ const struct field fields[] = {
     {ASH_FALL, 86, 3, IN_SLOT(LZ_SLOT_STRENGTH), 1, 29, 1, {{1, 7}}},
     {ASH_FALL, 89, 23, IN_SLOT(LZ_SLOT_PLACE), 8, 29, 1, {{110000, 4799999}}},
     SPARE(ASH_FALL, 199, 15, LZ_ASH_SPARE2, 2),
+
+    RC_OR_REGULAR(FLOOD),
+    IT_OR_CORRECTION(FLOOD),
+    SPARE(FLOOD, 43, 10, LZ_FLOOD_SPARE1, 2),
+    {FLOOD, 53, 4, IN_SLOT(LZ_SLOT_STRENGTH), 1, 44, 1, {{1, 15}}},
+    {FLOOD, 57, 40, IN_SLOT(LZ_SLOT_PLACE), 8, 44, 1, {{10175000100, 899999999999}}},
+    SPARE(FLOOD, 185, 29, LZ_FLOOD_SPARE2, 4),
 };
 
 const size_t field_count = COUNT(fields);
 
-static const unsigned slots[CATEGORIES] = {[INTENSITY] = LZ_SLOTS, [TSUNAMI] = 5, [ASH_FALL] = 4};
+unsigned slots_of(unsigned category)
+{
+    static const unsigned slots[CATEGORIES] = {
+        [INTENSITY] = LZ_SLOTS, [TSUNAMI] = 5, [VOLCANO] = 5, [ASH_FALL] = 4, [FLOOD] = 3};
+    return slots[category];
+}
 
 unsigned times_of(unsigned category, const struct field *field)
 {
     if (field->category != category && field->category != EVERY) {
         return 0;
     }
-    return field->slot_bits == 0 ? 1 : slots[category];
+    return field->slot_bits == 0 ? 1 : slots_of(category);
 }
 
 const struct field *field_at(unsigned category, unsigned first)
@@ -142,7 +170,7 @@ void good_trial(struct trial *trial, unsigned category)
     trial->expected = answered(LZ_FINE);
     trial->in_frame = 1;
     spared[category].record(record);
-    for (unsigned i = 1; i < slots[category]; i++) {
+    for (unsigned i = 1; i < slots_of(category); i++) {
         memcpy(record + LZ_RECORD_SLOT(i), record + LZ_RECORD_SLOT(0), LZ_SLOT_BYTES);
     }
     if (category == NANKAI) {

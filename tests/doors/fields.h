@@ -27,6 +27,9 @@ extern const size_t field_count;
 /* The field that starts there. The category has one. */
 const struct field *field_at(unsigned category, unsigned first);
 
+/* How many slots a category has. */
+unsigned slots_of(unsigned category);
+
 /* How often a category has a field: once, not at all, or in each of its slots. */
 unsigned times_of(unsigned category, const struct field *field);
 

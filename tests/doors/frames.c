@@ -5,12 +5,13 @@
 #include "frame_calls.h"
 #include "lavendelzug.h"
 #include "samples.h"
+#include "spare_samples.h"
 
 #include <ctype.h>
 #include <stdio.h>
 
-/* A word taken apart, and the tables of the header: each ends where it should. */
-void check_header(void)
+/* A word taken apart. */
+static void check_answers(void)
 {
     SAME_WORD(0xFE, LZ_NUMBER(0xFEDCBA98u));
     SAME_WORD(0xDC, LZ_PLACE(0xFEDCBA98u));
@@ -23,6 +24,14 @@ void check_header(void)
     SAME_WORD(0xBA98, LZ_VALUE(0xFEDCBA98u));
     SAME_WORD(0xBA, LZ_ARRIVAL_HOUR(0xFEDCBA98u));
     SAME_WORD(0x98, LZ_ARRIVAL_MINUTE(0xFEDCBA98u));
+    SAME_WORD(23, LZ_ACTIVITY_DAY(0xFEDCBA98u));
+    SAME_WORD(10, LZ_ACTIVITY_HOUR(0xFEDCBA98u));
+    SAME_WORD(24, LZ_ACTIVITY_MINUTE(0xFEDCBA98u));
+}
+
+/* The tables of the header: each ends where it should. */
+static void check_tables(void)
+{
     SAME_WORD(LZ_SLOT_BYTES, LZ_SLOT_PLACE + 8);
     SAME_WORD(LZ_QUAKE_NOTIFICATIONS, LZ_QUAKE_SPARE1 + 2);
     SAME_WORD(LZ_QUAKE_SPARE2, LZ_QUAKE_LONGITUDE + 4);
@@ -33,11 +42,21 @@ void check_header(void)
     SAME_WORD(LZ_NANKAI_SPARE2, LZ_NANKAI_TOTAL + 1);
     SAME_WORD(LZ_TSUNAMI_NOTIFICATIONS, LZ_TSUNAMI_SPARE1 + 2);
     SAME_WORD(LZ_TSUNAMI_WARNING, LZ_TSUNAMI_NOTIFICATIONS + 3 * 2);
+    SAME_WORD(LZ_VOLCANO_AMBIGUITY, LZ_VOLCANO_SPARE1 + 1);
+    SAME_WORD(LZ_VOLCANO_WARNING, LZ_VOLCANO_AMBIGUITY + 4);
+    SAME_WORD(LZ_VOLCANO_SPARE2, LZ_VOLCANO_VOLCANO + 2);
     SAME_WORD(LZ_ASH_DAY, LZ_ASH_SPARE1 + 2);
     SAME_WORD(LZ_ASH_SPARE2, LZ_ASH_VOLCANO + 2);
+    SAME_WORD(LZ_FLOOD_SPARE2, LZ_FLOOD_SPARE1 + 2);
     SAME_WORD(LZ_RECORD_TEXT, LZ_RECORD_SLOT(LZ_SLOTS));
     SAME_WORD(LZ_RECORD_BYTES, LZ_RECORD_TEXT + LZ_PAGE_TEXT_BYTES);
     SAME_WORD(LZ_STORE_BYTES, LZ_STORE_PAGE(64));
+}
+
+void check_header(void)
+{
+    check_answers();
+    check_tables();
 }
 
 /* Values known from elsewhere: CRC-24Q's own check value, and document 004's frames. */
@@ -83,17 +102,11 @@ static void check_sample(const char *digits, const uint8_t *record)
 
 void check_samples(void)
 {
-    uint8_t record[LZ_RECORD_BYTES];
-    hypocenter_record(record);
-    check_sample(hypocenter_line, record);
-    intensity_record(record);
-    check_sample(intensity_line, record);
-    nankai_record(record);
-    check_sample(nankai_line, record);
-    tsunami_record(record);
-    check_sample(tsunami_line, record);
-    ash_fall_record(record);
-    check_sample(ash_fall_line, record);
+    for (unsigned i = 0; i < CATEGORIES; i++) {
+        uint8_t record[LZ_RECORD_BYTES];
+        spared[i].record(record);
+        check_sample(spared[i].line, record);
+    }
 }
 
 /* Lines of standard input, read in small letters and written back. */
@@ -115,5 +128,5 @@ void check_all_samples(void)
         SAME_BYTES((const uint8_t *)line, back, LZ_LINE_DIGITS);
         count++;
     }
-    SAME_WORD(76, count);
+    SAME_WORD(82, count);
 }

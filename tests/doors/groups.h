@@ -18,6 +18,17 @@ void check_areas(void);
 void check_warnings(void);
 void check_wide_tsunami_records(void);
 
+/* volcano.c */
+void check_activity_times(void);
+void check_places(void);
+void check_volcano_codes(void);
+void check_wide_volcano_records(void);
+
+/* flood.c */
+void check_flood_areas(void);
+void check_flood_regions(void);
+void check_wide_flood_records(void);
+
 /* spares.c */
 void check_spares_kept(void);
 void check_beside_spares(void);
@@ -31,6 +42,9 @@ void check_records_lent_for_reading(void);
 /* writing_refusals.c */
 void check_writing_refused(void);
 void check_records_lent_for_writing(void);
+
+/* unused.c */
+void check_unused_refused(void);
 
 /* values.c */
 void check_values_of_fields(void);
@@ -48,6 +62,8 @@ void check_depths(void);
 void check_magnitudes(void);
 void check_arrivals(void);
 void check_heights(void);
+void check_activities(void);
+void check_validities(void);
 void check_prefectures(void);
 void check_slots_used(void);
 

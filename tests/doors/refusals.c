@@ -12,9 +12,9 @@
 /* A field of a sample's frame: a value that is refused, and its own; and what is told of it. */
 struct fault {
     unsigned first, width;
-    uint32_t wrong, right;
+    uint64_t wrong, right;
     unsigned number, place;
-    uint32_t value;
+    uint64_t value;
 };
 
 /* What comes before the fields of a category, and an Rc that it may not have. */
@@ -67,6 +67,24 @@ static const struct fault tsunami_faults[] = {
     {188, 1, 1, 0, LZ_REFUSED_GAP, 188, 0},
 };
 
+/*
+ * Minute 60 stands with day 0 and hour 31, since 63 would pass there. An empty
+ * second place makes a gap, behind which the third is out of range.
+ */
+static const struct fault volcano_faults[] = {
+    FIRST_FAULTS(8, 1),
+    {41, 2, 3, 0, LZ_REFUSED_RANGE, 41, 3},
+    {53, 5, 0, 11, LZ_REFUSED_RANGE, 53, 0},
+    {58, 5, 31, 5, LZ_REFUSED_RANGE, 58, 31},
+    {63, 6, 60, 10, LZ_REFUSED_RANGE, 63, 60},
+    {69, 7, 0, 52, LZ_REFUSED_RANGE, 69, 0},
+    {76, 12, 100, 503, LZ_REFUSED_RANGE, 76, 100},
+    {88, 23, 0, 4321400, LZ_REFUSED_RANGE, 88, 0},
+    {111, 23, 0, 4342800, LZ_REFUSED_GAP, 134, 0},
+    {134, 23, 4800000, 4343300, LZ_REFUSED_RANGE, 134, 4800000},
+    {180, 23, 110000, 0, LZ_REFUSED_GAP, 180, 0},
+};
+
 /* An empty third place makes a gap, behind which the fourth is half filled. */
 static const struct fault ash_fall_faults[] = {
     FIRST_FAULTS(9, 1),
@@ -76,6 +94,16 @@ static const struct fault ash_fall_faults[] = {
     {83, 3, 0, 1, LZ_REFUSED_RANGE, 83, 0},
     {141, 29, 0, 0x4C24604, LZ_REFUSED_GAP, 170, 0},
     {173, 3, 1, 0, LZ_REFUSED_RANGE, 170, 0},
+};
+
+/* The second area, which is empty, is half filled. Where it is mended, the third makes a gap. */
+static const struct fault flood_faults[] = {
+    FIRST_FAULTS(11, 1),
+    {41, 2, 3, 0, LZ_REFUSED_RANGE, 41, 3},
+    {53, 4, 0, 2, LZ_REFUSED_RANGE, 53, 0},
+    {57, 40, 900000000000, 830303020300, LZ_REFUSED_RANGE, 57, 900000000000},
+    {101, 40, 10175000099, 0, LZ_REFUSED_RANGE, 97, 0},
+    {145, 40, 10175000100, 0, LZ_REFUSED_GAP, 141, 0},
 };
 
 struct order {
@@ -90,7 +118,9 @@ static const struct order orders[CATEGORIES] = {
     [INTENSITY] = ORDER(intensity_faults),
     [NANKAI] = ORDER(nankai_faults),
     [TSUNAMI] = ORDER(tsunami_faults),
+    [VOLCANO] = ORDER(volcano_faults),
     [ASH_FALL] = ORDER(ash_fall_faults),
+    [FLOOD] = ORDER(flood_faults),
 };
 
 /* A frame with every fault, of which the first is mended after it was refused. */

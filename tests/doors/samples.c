@@ -12,8 +12,12 @@ const char nankai_line[] =
     "53AFA1AC918002F2C6CBF35ADBF1C1C471C1D4F1C1CAF3595F82D81019545BC";
 const char tsunami_line[] =
     "53AFA9AC828001E8F67C31053960414E621053BE00000000000000100D3FFCC";
+const char volcano_line[] =
+    "53AFC1ACA50002CA5341F783E0F109104212302000000000000000103520468";
 const char ash_fall_line[] =
     "53AFC9ACA50002CA523EE4C1F078261220813091810000000000001024FECDC";
+const char flood_line[] =
+    "53AFD9ACB1800160A8F5528600000000000000000000000000000010146C46C";
 
 const size_t other_record_lengths[3] = {0, LZ_RECORD_BYTES - 1, LZ_RECORD_BYTES + 1};
 
@@ -31,13 +35,14 @@ static void issued(uint8_t *record, uint8_t category, uint8_t hour,
     record[LZ_RECORD_MINUTE] = minute;
 }
 
-static void slot(uint8_t *record, unsigned i, uint8_t hour, uint8_t strength,
-                 uint64_t place)
+void put_slot(uint8_t *record, unsigned i, struct slot slot)
 {
     uint8_t *bytes = record + LZ_RECORD_SLOT(i);
-    bytes[LZ_SLOT_HOUR] = hour;
-    bytes[LZ_SLOT_STRENGTH] = strength;
-    put_bytes(bytes + LZ_SLOT_PLACE, 8, place);
+    bytes[LZ_SLOT_DAY] = slot.day;
+    bytes[LZ_SLOT_HOUR] = slot.hour;
+    bytes[LZ_SLOT_MINUTE] = slot.minute;
+    bytes[LZ_SLOT_STRENGTH] = slot.strength;
+    put_bytes(bytes + LZ_SLOT_PLACE, 8, slot.place);
 }
 
 /* Off Hyuganada, 40 km deep, 6.4, at 32 degrees 42 north and 132 degrees 6 east. */
@@ -66,7 +71,7 @@ void intensity_record(uint8_t *record)
     record[LZ_INTENSITY_HOUR] = 4;
     record[LZ_INTENSITY_MINUTE] = 5;
     for (unsigned i = 0; i < 9; i++) {
-        slot(record, i, 0, strengths[i], prefectures[i]);
+        put_slot(record, i, (struct slot){.strength = strengths[i], .place = prefectures[i]});
     }
 }
 
@@ -82,13 +87,6 @@ void nankai_record(uint8_t *record)
            LZ_PAGE_TEXT_BYTES);
 }
 
-void put_area(uint8_t *record, unsigned i, struct area area)
-{
-    slot(record, i, area.hour, area.height, area.region);
-    record[LZ_RECORD_SLOT(i) + LZ_SLOT_DAY] = area.day;
-    record[LZ_RECORD_SLOT(i) + LZ_SLOT_MINUTE] = area.minute;
-}
-
 /* Three metres at the time of issue: Ehime on the Uwa Sea, Kochi, Miyazaki. */
 void tsunami_record(uint8_t *record)
 {
@@ -98,11 +96,29 @@ void tsunami_record(uint8_t *record)
     record[LZ_TSUNAMI_WARNING] = 3;
     for (unsigned i = 0; i < 3; i++) {
         put_bytes(record + LZ_TSUNAMI_NOTIFICATIONS + 2 * i, 2, notifications[i]);
-        put_area(record, i, (struct area){0, 4, 5, 3, regions[i]});
+        put_slot(record, i, (struct slot){0, 4, 5, 3, regions[i]});
     }
 }
 
-/* Mount Aso: ash on Aso city, Takamori town and Minamiaso village. */
+/* Aso city, Takamori town and Minamiaso village, around Mount Aso. */
+static const uint32_t aso_places[3] = {4321400, 4342800, 4343300};
+#define MOUNT_ASO 503
+
+/* An eruption at the time of issue, without ambiguity. */
+void volcano_record(uint8_t *record)
+{
+    issued(record, 8, 5, 10);
+    record[LZ_VOLCANO_DAY] = 11;
+    record[LZ_VOLCANO_HOUR] = 5;
+    record[LZ_VOLCANO_MINUTE] = 10;
+    record[LZ_VOLCANO_WARNING] = 52;
+    put_bytes(record + LZ_VOLCANO_VOLCANO, 2, MOUNT_ASO);
+    for (unsigned i = 0; i < 3; i++) {
+        put_slot(record, i, (struct slot){.place = aso_places[i]});
+    }
+}
+
+/* A little ash within the hour. */
 void ash_fall_record(uint8_t *record)
 {
     issued(record, 9, 5, 10);
@@ -110,10 +126,17 @@ void ash_fall_record(uint8_t *record)
     record[LZ_ASH_HOUR] = 5;
     record[LZ_ASH_MINUTE] = 10;
     record[LZ_ASH_WARNING] = 1;
-    put_bytes(record + LZ_ASH_VOLCANO, 2, 503);
-    slot(record, 0, 1, 1, 4321400);
-    slot(record, 1, 1, 1, 4342800);
-    slot(record, 2, 1, 1, 4343300);
+    put_bytes(record + LZ_ASH_VOLCANO, 2, MOUNT_ASO);
+    for (unsigned i = 0; i < 3; i++) {
+        put_slot(record, i, (struct slot){.hour = 1, .strength = 1, .place = aso_places[i]});
+    }
+}
+
+/* A flood warning for the Kinu. */
+void flood_record(uint8_t *record)
+{
+    issued(record, 11, 5, 35);
+    put_slot(record, 0, (struct slot){.strength = 2, .place = 830303020300});
 }
 
 void frame_of(const char *line, uint8_t *frame)

@@ -12,7 +12,9 @@ extern const char hypocenter_line[];
 extern const char intensity_line[];
 extern const char nankai_line[];
 extern const char tsunami_line[];
+extern const char volcano_line[];
 extern const char ash_fall_line[];
+extern const char flood_line[];
 
 /* Fills the bytes of a record. */
 typedef void (*sample_record)(uint8_t *record);
@@ -21,16 +23,18 @@ void hypocenter_record(uint8_t *record);
 void intensity_record(uint8_t *record);
 void nankai_record(uint8_t *record);
 void tsunami_record(uint8_t *record);
+void volcano_record(uint8_t *record);
 void ash_fall_record(uint8_t *record);
+void flood_record(uint8_t *record);
 
-/* What a slot of a tsunami report says. */
-struct area {
-    uint8_t day, hour, minute, height;
-    uint16_t region;
+/* What a slot says, in the order of a frame. Not every category has all of it. */
+struct slot {
+    uint8_t day, hour, minute, strength;
+    uint64_t place;
 };
 
-/* Puts an area into a record, in the place of what stood there. */
-void put_area(uint8_t *record, unsigned i, struct area area);
+/* Puts a slot into a record, in the place of what stood there. */
+void put_slot(uint8_t *record, unsigned i, struct slot slot);
 
 /* Lengths that no record has, up to one byte more than it. */
 extern const size_t other_record_lengths[3];

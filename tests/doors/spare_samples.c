@@ -8,8 +8,12 @@ const struct spared spared[CATEGORIES] = {
     [NANKAI] = {nankai_line, nankai_record, 2,
                 {{43, 10, LZ_NANKAI_SPARE1, 2}, {213, 1, LZ_NANKAI_SPARE2, 1}}},
     [TSUNAMI] = {tsunami_line, tsunami_record, 1, {{43, 10, LZ_TSUNAMI_SPARE1, 2}}},
+    [VOLCANO] = {volcano_line, volcano_record, 2,
+                 {{43, 7, LZ_VOLCANO_SPARE1, 1}, {203, 11, LZ_VOLCANO_SPARE2, 2}}},
     [ASH_FALL] = {ash_fall_line, ash_fall_record, 2,
                   {{43, 10, LZ_ASH_SPARE1, 2}, {199, 15, LZ_ASH_SPARE2, 2}}},
+    [FLOOD] = {flood_line, flood_record, 2,
+               {{43, 10, LZ_FLOOD_SPARE1, 2}, {185, 29, LZ_FLOOD_SPARE2, 4}}},
 };
 
 uint64_t highest_of(const struct spare *spare)

@@ -18,7 +18,7 @@ struct spared {
     struct spare spares[2];
 };
 
-enum { HYPOCENTER, INTENSITY, NANKAI, TSUNAMI, ASH_FALL, CATEGORIES };
+enum { HYPOCENTER, INTENSITY, NANKAI, TSUNAMI, VOLCANO, ASH_FALL, FLOOD, CATEGORIES };
 
 extern const struct spared spared[CATEGORIES];
 

@@ -68,7 +68,7 @@ void check_spares_kept(void)
 /* Fields beside a spare, with the bit set that touches it where some value in range has it set. */
 struct beside {
     unsigned category, first, width, times;
-    uint32_t value;
+    uint64_t value;
 };
 
 /* A slot touches the spare behind it only where all are used. */
@@ -81,9 +81,14 @@ static const struct beside beside[] = {
     {NANKAI, 207, 6, 1, 63},
     {TSUNAMI, 53, 9, 1, 500},
     {TSUNAMI, 84, 26, 5, (31 << 20) + (63 << 14) + (15 << 10) + 999},
+    {VOLCANO, 41, 2, 1, 1},
+    {VOLCANO, 50, 3, 1, 4},
+    {VOLCANO, 88, 23, 5, 4799999},
     {ASH_FALL, 41, 2, 1, 1},
     {ASH_FALL, 53, 5, 1, 31},
     {ASH_FALL, 83, 29, 4, (6 << 26) + (7 << 23) + 4799999},
+    {FLOOD, 41, 2, 1, 1},
+    {FLOOD, 53, 44, 3, (UINT64_C(15) << 40) + 899999999999},
 };
 
 static void put_beside(uint8_t *frame, unsigned category)

@@ -5,25 +5,11 @@
 #include "frame_calls.h"
 #include "lavendelzug.h"
 #include "samples.h"
+#include "slots.h"
+#include "wide_records.h"
 
-#define AREAS 5
-
-/* The first bit of an area, counted from 0. */
-static unsigned area_bit(unsigned i)
-{
-    return 84 + 26 * i;
-}
-
-static void set_area(struct report *report, unsigned i, struct area area)
-{
-    unsigned first = area_bit(i);
-    put(report->frame, first, 1, area.day);
-    put(report->frame, first + 1, 5, area.hour);
-    put(report->frame, first + 6, 6, area.minute);
-    put(report->frame, first + 12, 4, area.height);
-    put(report->frame, first + 16, 10, area.region);
-    put_area(report->record, i, area);
-}
+/* Areas with day, hour, minute, height and region, of which the sample uses three. */
+static const struct slotted areas = {tsunami_line, tsunami_record, 5, 84, {1, 5, 6, 4, 10}};
 
 /* Which field of an area is refused: its bit, counted from the area's first. */
 enum { NONE = 0, HOUR = 1, MINUTE = 6 };
@@ -41,17 +27,17 @@ static const struct arrival arrivals[] = {
 };
 
 /* All five areas are used; what the other four say plays no part. */
-static void check_arrival(struct arrival arrival, unsigned i, uint8_t day, struct area others)
+static void check_arrival(struct arrival arrival, unsigned i, uint8_t day, struct slot others)
 {
     struct report report;
     struct answer expected = answered(LZ_FINE);
     report_of(&report, tsunami_line, tsunami_record);
-    for (unsigned other = 0; other < AREAS; other++) {
-        set_area(&report, other, others);
+    for (unsigned other = 0; other < areas.count; other++) {
+        set_slot(&report, &areas, other, others);
     }
-    set_area(&report, i, (struct area){day, arrival.hour, arrival.minute, 3, 600});
+    set_slot(&report, &areas, i, (struct slot){day, arrival.hour, arrival.minute, 3, 600});
     if (arrival.refused != NONE) {
-        expected = out_of_range(area_bit(i) + arrival.refused,
+        expected = out_of_range(slot_bit(&areas, i) + arrival.refused,
                                 arrival.refused == HOUR ? arrival.hour : arrival.minute);
     }
     REPORT_IS(expected, &report);
@@ -59,9 +45,9 @@ static void check_arrival(struct arrival arrival, unsigned i, uint8_t day, struc
 
 void check_arrivals_in_areas(void)
 {
-    static const struct area at_a_time = {1, 4, 5, 6, 100}, arrived = {0, 31, 63, 14, 1000};
-    for (size_t k = 0; k < sizeof arrivals / sizeof arrivals[0]; k++) {
-        for (unsigned i = 0; i < AREAS; i++) {
+    static const struct slot at_a_time = {1, 4, 5, 6, 100}, arrived = {0, 31, 63, 14, 1000};
+    for (size_t k = 0; k < COUNT(arrivals); k++) {
+        for (unsigned i = 0; i < areas.count; i++) {
             for (uint8_t day = 0; day <= 1; day++) {
                 check_arrival(arrivals[k], i, day, at_a_time);
                 check_arrival(arrivals[k], i, day, arrived);
@@ -70,15 +56,7 @@ void check_arrivals_in_areas(void)
     }
 }
 
-/* One area of the sample, which has three and then two empty ones, is another. */
-struct area_case {
-    unsigned i;
-    struct area area;
-    unsigned number, place;
-    uint64_t value;
-};
-
-static const struct area_case area_cases[] = {
+static const struct slot_case area_cases[] = {
     {0, {1, 23, 59, 1, 100}, LZ_FINE, 0, 0},
     {0, {0, 31, 63, 15, 1000}, LZ_FINE, 0, 0},
     {0, {0, 4, 5, 14, 600}, LZ_FINE, 0, 0},
@@ -103,27 +81,10 @@ static const struct area_case area_cases[] = {
 };
 
 /* The last bit in front of the version is one of the fifth area's, and no spare. */
-static void check_each_bit_uses_an_area(void)
-{
-    for (unsigned bit = area_bit(4); bit < 214; bit++) {
-        uint8_t frame[LZ_FRAME_BYTES];
-        frame_of(tsunami_line, frame);
-        put(frame, bit, 1, 1);
-        put_parity(frame);
-        READING_IS(refused_at(LZ_REFUSED_GAP, 188), frame, LZ_FRAME_BYTES);
-    }
-}
-
 void check_areas(void)
 {
-    for (size_t k = 0; k < sizeof area_cases / sizeof area_cases[0]; k++) {
-        const struct area_case *one = &area_cases[k];
-        struct report report;
-        report_of(&report, tsunami_line, tsunami_record);
-        set_area(&report, one->i, one->area);
-        REPORT_IS(refused_with(one->number, one->place, one->value), &report);
-    }
-    check_each_bit_uses_an_area();
+    check_slot_cases(&areas, area_cases, COUNT(area_cases));
+    check_each_bit_makes_a_gap(&areas, 4);
 }
 
 /* None, or 101 to 500, in each of the three. */
@@ -158,17 +119,7 @@ void check_warnings(void)
     check_notifications();
 }
 
-/*
- * A byte of the sample's record with more bits than its field has, the lower ones
- * as they were; and the value of all the bytes which the field has.
- */
-struct wide {
-    unsigned at;
-    uint8_t byte;
-    unsigned place;
-    uint64_t value;
-};
-
+/* The lower bits are as they were. */
 static const struct wide wide[] = {
     {LZ_RECORD_RC, 8 + 7, 14, 8 + 7},
     {LZ_RECORD_IT, 4 + 0, 41, 4 + 0},
@@ -184,29 +135,12 @@ static const struct wide wide[] = {
     {LZ_RECORD_SLOT(0) + LZ_SLOT_PLACE, 1, 100, (UINT64_C(1) << 56) + 600},
 };
 
-static void wide_area_is(int line, struct answer expected, unsigned i, struct area area)
-{
-    uint8_t record[LZ_RECORD_BYTES];
-    tsunami_record(record);
-    put_area(record, i, area);
-    writing_is(__FILE__, line, expected, record, LZ_FRAME_BYTES);
-}
-
-#define WIDE_AREA_IS(expected, i, ...) \
-    wide_area_is(__LINE__, (expected), (i), (struct area){__VA_ARGS__})
-
-/* A record has room for more than a frame, and is never cut to what the frame has bits for. */
 void check_wide_tsunami_records(void)
 {
-    for (size_t k = 0; k < sizeof wide / sizeof wide[0]; k++) {
-        uint8_t record[LZ_RECORD_BYTES];
-        tsunami_record(record);
-        record[wide[k].at] = wide[k].byte;
-        WRITING_IS(out_of_range(wide[k].place, wide[k].value), record, LZ_FRAME_BYTES);
-    }
+    check_wide_bytes(tsunami_record, wide, COUNT(wide));
     /* the bits of an arrival, and those of an empty area */
-    WIDE_AREA_IS(out_of_range(137, 32 + 31), 2, 0, 32 + 31, 63, 3, 760);
-    WIDE_AREA_IS(out_of_range(137, 31), 2, 0, 31, 64 + 63, 3, 760);
-    WIDE_AREA_IS(out_of_range(162, 2), 3, 2, 32, 64, 16, 1024);
-    WIDE_AREA_IS(refused_at(LZ_REFUSED_GAP, 188), 4, 2, 32, 64, 16, 1024);
+    SLOT_WRITING_IS(out_of_range(137, 32 + 31), &areas, 2, 0, 32 + 31, 63, 3, 760);
+    SLOT_WRITING_IS(out_of_range(137, 31), &areas, 2, 0, 31, 64 + 63, 3, 760);
+    SLOT_WRITING_IS(out_of_range(162, 2), &areas, 3, 2, 32, 64, 16, 1024);
+    SLOT_WRITING_IS(refused_at(LZ_REFUSED_GAP, 188), &areas, 4, 2, 32, 64, 16, 1024);
 }

@@ -36,6 +36,24 @@ static void check_taken(struct trial *trial)
     TAKING_IS(refused(LZ_REFUSED_UNSOUND), store, trial->report.record);
 }
 
+/*
+ * What is answered where a good trial has this value in a field. A later slot whose
+ * only field is zero is an empty one, and a next one then stands behind a gap.
+ */
+static struct answer answer_with(const struct field *field, unsigned slot, uint64_t value)
+{
+    unsigned first = field->first + field->slot_bits * slot;
+    if (in_range(field, value)) {
+        return answered(LZ_FINE);
+    }
+    if (value != 0 || slot == 0 || field->slot_bits != field->width) {
+        return out_of_range(first, value);
+    }
+    return slot + 1 == slots_of(field->category)
+               ? answered(LZ_FINE)
+               : refused_at(LZ_REFUSED_GAP, first + field->slot_bits);
+}
+
 static void try_values(const struct trial *good, const struct field *field, unsigned slot,
                        trial_check check)
 {
@@ -44,9 +62,7 @@ static void try_values(const struct trial *good, const struct field *field, unsi
     for (unsigned i = 0; i < count; i++) {
         struct trial trial = *good;
         put_value(&trial, field, slot, values[i]);
-        if (!in_range(field, values[i])) {
-            trial.expected = out_of_range(field->first + field->slot_bits * slot, values[i]);
-        }
+        trial.expected = answer_with(field, slot, values[i]);
         check(&trial);
     }
 }
@@ -74,11 +90,11 @@ void check_values_of_takings(void)
     for_each_field(check_taken);
 }
 
-/* Two fields of which one passes or not by the other: what stands in them, and which is refused. */
+/* Fields that pass or not by one another: what stands in them, and which of them is refused. */
 struct together {
     unsigned category;
-    unsigned places[2];
-    uint64_t values[2];
+    unsigned places[3]; /* the last is 0 where they are two */
+    uint64_t values[3];
     unsigned refused;
 };
 
@@ -94,6 +110,24 @@ static const struct together together[] = {
     {TSUNAMI, {85, 90}, {32 + 31, 63}, 0},
     {TSUNAMI, {85, 90}, {5, 64 + 63}, 1},
     {TSUNAMI, {85, 90}, {255, 254}, 0},
+    /* day, hour and minute of an activity: all three codes pass together, and no fewer of them */
+    {VOLCANO, {53, 58, 63}, {0, 31, 10}, 0},
+    {VOLCANO, {53, 58, 63}, {0, 31, 62}, 0},
+    {VOLCANO, {53, 58, 63}, {0, 30, 63}, 0},
+    {VOLCANO, {53, 58, 63}, {0, 5, 63}, 0},
+    {VOLCANO, {53, 58, 63}, {0, 5, 10}, 0},
+    {VOLCANO, {53, 58, 63}, {0, 0, 0}, 0},
+    {VOLCANO, {53, 58, 63}, {11, 31, 63}, 1},
+    {VOLCANO, {53, 58, 63}, {11, 31, 10}, 1},
+    {VOLCANO, {53, 58, 63}, {11, 30, 63}, 1},
+    {VOLCANO, {53, 58, 63}, {11, 5, 63}, 2},
+    {VOLCANO, {53, 58, 63}, {11, 0, 62}, 2},
+    {VOLCANO, {53, 58, 63}, {32 + 0, 31, 63}, 0},
+    {VOLCANO, {53, 58, 63}, {0, 32 + 31, 63}, 0},
+    {VOLCANO, {53, 58, 63}, {0, 31, 64 + 63}, 0},
+    {VOLCANO, {53, 58, 63}, {11, 31, 64 + 63}, 1},
+    {VOLCANO, {53, 58, 63}, {11, 5, 64 + 63}, 2},
+    {VOLCANO, {53, 58, 63}, {255, 254, 253}, 0},
     /* page number and total: it is the total that does not reach the number */
     {NANKAI, {201, 207}, {1, 0}, 1},
     {NANKAI, {201, 207}, {5, 4}, 1},
@@ -109,13 +143,14 @@ static const struct together together[] = {
 void check_values_together(void)
 {
     for (size_t i = 0; i < COUNT(together); i++) {
-        const struct together *two = &together[i];
+        const struct together *group = &together[i];
         struct trial trial;
-        good_trial(&trial, two->category);
-        for (unsigned k = 0; k < 2; k++) {
-            put_value(&trial, field_at(two->category, two->places[k]), 0, two->values[k]);
+        good_trial(&trial, group->category);
+        for (unsigned k = 0; k < 3 && group->places[k] != 0; k++) {
+            put_value(&trial, field_at(group->category, group->places[k]), 0, group->values[k]);
         }
-        trial.expected = out_of_range(two->places[two->refused], two->values[two->refused]);
+        trial.expected =
+            out_of_range(group->places[group->refused], group->values[group->refused]);
         check_read_and_written(&trial);
         check_taken(&trial);
     }

@@ -95,6 +95,47 @@ static const struct fault tsunami_faults[] = {
     LAST_FAULT,
 };
 
+static const struct fault volcano_faults[] = {
+    FIRST_FAULTS(8),
+    {LZ_RECORD_TEXT + 17, 1, 0, LZ_REFUSED_UNUSED, 0, 0},
+    {LZ_RECORD_SLOT(5) + LZ_SLOT_PLACE + 7, 1, 0, LZ_REFUSED_UNUSED, 0, 0},
+    {LZ_RECORD_SLOT(4) + LZ_SLOT_STRENGTH, 1, 0, LZ_REFUSED_UNUSED, 0, 0},
+    {LZ_RECORD_SLOT(0) - 1, 1, 0, LZ_REFUSED_UNUSED, 0, 0},
+    {LZ_VOLCANO_SPARE2 + 2, 1, 0, LZ_REFUSED_UNUSED, 0, 0},
+    {LZ_RECORD_RC, 1, 7, LZ_REFUSED_RANGE, 14, 1},
+    {LZ_RECORD_IT, 3, 0, LZ_REFUSED_RANGE, 41, 3},
+    {LZ_VOLCANO_SPARE1, 128, 0, LZ_REFUSED_RANGE, 43, 128},
+    {LZ_VOLCANO_AMBIGUITY, 8, 0, LZ_REFUSED_RANGE, 50, 8},
+    {LZ_VOLCANO_DAY, 0, 11, LZ_REFUSED_RANGE, 53, 0},
+    {LZ_VOLCANO_HOUR, 30, 5, LZ_REFUSED_RANGE, 58, 30},
+    {LZ_VOLCANO_MINUTE, 63, 10, LZ_REFUSED_RANGE, 63, 63},
+    {LZ_VOLCANO_WARNING, 128, 52, LZ_REFUSED_RANGE, 69, 128},
+    {LZ_VOLCANO_VOLCANO, 16, 1, LZ_REFUSED_RANGE, 76, 4096 + 247},
+    {LZ_RECORD_SLOT(0) + LZ_SLOT_PLACE, 1, 0, LZ_REFUSED_RANGE, 88, (UINT64_C(1) << 56) + 4321400},
+    {LZ_RECORD_SLOT(4) + LZ_SLOT_PLACE + 7, 1, 0, LZ_REFUSED_GAP, 180, 0},
+    {LZ_VOLCANO_SPARE2, 8, 0, LZ_REFUSED_RANGE, 203, 2048},
+    LAST_FAULT,
+};
+
+static const struct fault flood_faults[] = {
+    FIRST_FAULTS(11),
+    {LZ_RECORD_TEXT, 1, 0, LZ_REFUSED_UNUSED, 0, 0},
+    {LZ_RECORD_SLOT(3) + LZ_SLOT_PLACE, 1, 0, LZ_REFUSED_UNUSED, 0, 0},
+    {LZ_RECORD_SLOT(2) + LZ_SLOT_HOUR, 1, 0, LZ_REFUSED_UNUSED, 0, 0},
+    {LZ_RECORD_SLOT(0) - 1, 1, 0, LZ_REFUSED_UNUSED, 0, 0},
+    {LZ_FLOOD_SPARE2 + 4, 1, 0, LZ_REFUSED_UNUSED, 0, 0},
+    {LZ_RECORD_RC, 1, 7, LZ_REFUSED_RANGE, 14, 1},
+    {LZ_RECORD_IT, 3, 0, LZ_REFUSED_RANGE, 41, 3},
+    {LZ_FLOOD_SPARE1, 4, 0, LZ_REFUSED_RANGE, 43, 1024},
+    {LZ_RECORD_SLOT(0) + LZ_SLOT_STRENGTH, 16, 2, LZ_REFUSED_RANGE, 53, 16},
+    {LZ_RECORD_SLOT(0) + LZ_SLOT_PLACE + 2, 1, 0, LZ_REFUSED_RANGE, 57,
+     (UINT64_C(1) << 40) + 830303020300},
+    {LZ_RECORD_SLOT(1) + LZ_SLOT_STRENGTH, 1, 0, LZ_REFUSED_RANGE, 101, 0},
+    {LZ_RECORD_SLOT(2) + LZ_SLOT_PLACE + 3, 1, 0, LZ_REFUSED_GAP, 141, 0},
+    {LZ_FLOOD_SPARE2, 32, 0, LZ_REFUSED_RANGE, 185, UINT64_C(1) << 29},
+    LAST_FAULT,
+};
+
 /* The sample with its first place alone, so that a later one can stand behind a gap. */
 static void one_place_record(uint8_t *record)
 {
@@ -131,7 +172,9 @@ static const struct order orders[] = {
     {intensity_record, intensity_faults, COUNT(intensity_faults)},
     {nankai_record, nankai_faults, COUNT(nankai_faults)},
     {tsunami_record, tsunami_faults, COUNT(tsunami_faults)},
+    {volcano_record, volcano_faults, COUNT(volcano_faults)},
     {one_place_record, one_place_faults, COUNT(one_place_faults)},
+    {flood_record, flood_faults, COUNT(flood_faults)},
 };
 
 /* A record with every fault, of which the first is mended after it was refused. */
@@ -155,62 +198,12 @@ static void check_order_of_writing(const struct order *order)
     CALL_IS(answered(LZ_FINE), writing, record, sizeof record, frame, sizeof frame);
 }
 
-/* Bytes in which nothing of a category stands. */
-struct unused {
-    unsigned category, from, to;
-};
-
-/* What lies behind the last field, the slots that a category has not, and the text. */
-static const struct unused unused[] = {
-    {HYPOCENTER, LZ_RECORD_SLOT(0), LZ_RECORD_BYTES},
-    {INTENSITY, LZ_INTENSITY_SPARE2 + 1, LZ_RECORD_SLOT(0)},
-    {INTENSITY, LZ_RECORD_TEXT, LZ_RECORD_BYTES},
-    {NANKAI, LZ_NANKAI_SPARE2 + 1, LZ_RECORD_TEXT},
-    {TSUNAMI, LZ_TSUNAMI_WARNING + 1, LZ_RECORD_SLOT(0)},
-    {TSUNAMI, LZ_RECORD_SLOT(5), LZ_RECORD_BYTES},
-    {ASH_FALL, LZ_ASH_SPARE2 + 2, LZ_RECORD_SLOT(0)},
-    {ASH_FALL, LZ_RECORD_SLOT(4), LZ_RECORD_BYTES},
-};
-
-/* Each of them alone is 11, and beside spares too. */
-static void check_unused_refused(void)
-{
-    struct report report;
-    for (size_t i = 0; i < COUNT(unused); i++) {
-        for (unsigned at = unused[i].from; at < unused[i].to; at++) {
-            const struct spared *sample = &spared[unused[i].category];
-            report_of(&report, sample->line, sample->record);
-            report.record[at] = 1;
-            WRITING_IS(refused(LZ_REFUSED_UNUSED), report.record, LZ_FRAME_BYTES);
-            report_with_spares(&report, sample);
-            report.record[at] = 1;
-            WRITING_IS(refused(LZ_REFUSED_UNUSED), report.record, LZ_FRAME_BYTES);
-        }
-    }
-}
-
-/* What a used slot has beyond its category is 11, and all of a place counts. */
-static void check_slot_refused(void)
-{
-    uint8_t record[LZ_RECORD_BYTES];
-    ash_fall_record(record);
-    record[LZ_RECORD_SLOT(0) + LZ_SLOT_PLACE] = 1;
-    WRITING_IS(out_of_range(89, (UINT64_C(1) << 56) + 4321400), record, LZ_FRAME_BYTES);
-    record[LZ_RECORD_SLOT(2) + LZ_SLOT_MINUTE] = 1;
-    WRITING_IS(refused(LZ_REFUSED_UNUSED), record, LZ_FRAME_BYTES);
-    intensity_record(record);
-    record[LZ_RECORD_SLOT(8) + LZ_SLOT_HOUR] = 1;
-    WRITING_IS(refused(LZ_REFUSED_UNUSED), record, LZ_FRAME_BYTES);
-}
-
 void check_writing_refused(void)
 {
     uint8_t record[LZ_RECORD_BYTES];
     for (size_t i = 0; i < COUNT(orders); i++) {
         check_order_of_writing(&orders[i]);
     }
-    check_unused_refused();
-    check_slot_refused();
     intensity_record(record);
     memcpy(record + LZ_RECORD_SLOT(10), record + LZ_RECORD_SLOT(0), LZ_SLOT_BYTES);
     WRITING_IS(refused_at(LZ_REFUSED_GAP, 159), record, LZ_FRAME_BYTES);

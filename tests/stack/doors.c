@@ -49,6 +49,8 @@ static void call_depth(void) { answer = lz_depth(500); }
 static void call_magnitude(void) { answer = lz_magnitude(101); }
 static void call_arrival(void) { answer = lz_arrival(23, 59); }
 static void call_height(void) { answer = lz_height(4); }
+static void call_activity(void) { answer = lz_activity(31, 23, 59); }
+static void call_validity(void) { answer = lz_validity(5); }
 static void call_prefecture(void) { answer = lz_prefecture(4600000); }
 
 /*
@@ -90,6 +92,8 @@ static struct door doors[] = {
     {"lz_magnitude", call_magnitude, 8, 0},
     {"lz_arrival", call_arrival, 8, 0},
     {"lz_height", call_height, 8, 0},
+    {"lz_activity", call_activity, 8, 0},
+    {"lz_validity", call_validity, 8, 0},
     {"lz_prefecture", call_prefecture, 8, 0},
 };
 

@@ -21,7 +21,7 @@ pub use records::*;
 pub use stores::*;
 
 use crate::bits::{set, Frame};
-use crate::fields::{fields_and_parts, slot_layout, Field};
+use crate::fields::{fields_and_parts, groups, slot_layout, Field};
 use crate::parity::parity;
 use crate::random::Random;
 use crate::record::{Category, Record};
@@ -58,6 +58,13 @@ impl Bounds {
         RawValue { first: self.first, width: self.width, value: random.pick(&self.edges()) }
     }
 
+    /// The edges, and a value that no frame can have there: it looks allowed if only
+    /// its low bits are seen.
+    pub fn edges_and_too_wide(&self) -> Vec<u64> {
+        let [low_bits_alone, ..] = self.far_outside();
+        [self.edges(), vec![low_bits_alone]].concat()
+    }
+
     /// Values that no field of this width holds: a record may have them all
     /// the same. The first one looks allowed if only its low bits are seen.
     pub fn far_outside(&self) -> [u64; 3] {
@@ -83,6 +90,34 @@ fn part_of_zero(random: &mut Random, category: Category, slot: usize) -> RawValu
     parts.retain(|part| !part.allows(0));
     let Field { first, width, .. } = random.pick(&parts);
     RawValue { first, width, value: 0 }
+}
+
+/// The fields of one group of a category that has any.
+fn any_group(random: &mut Random, category: Category) -> Vec<Field> {
+    let mut all = groups(category);
+    all.swap_remove(random.below(all.len()))
+}
+
+/// What can be done to a frame or a record at one place.
+#[derive(Clone, Copy, Debug)]
+enum Disturbance {
+    FieldAtEdge,
+    SpareUsed,
+    SlotEmptied,
+    PartOfZero,
+    CodesMixed,
+}
+
+/// One of the disturbances that a category knows.
+fn any_disturbance(random: &mut Random, category: Category) -> Disturbance {
+    let mut known = vec![Disturbance::FieldAtEdge, Disturbance::SpareUsed];
+    if WITH_SLOTS.contains(&category) {
+        known.extend([Disturbance::SlotEmptied, Disturbance::PartOfZero]);
+    }
+    if WITH_GROUPS.contains(&category) {
+        known.push(Disturbance::CodesMixed);
+    }
+    random.pick(&known)
 }
 
 /// Gives a frame the parity of its first 226 bits.
@@ -131,7 +166,7 @@ pub fn any_frame(random: &mut Random) -> Vec<u8> {
         9 => envelope_fault_frame(random, category),
         10 => flipped_frame(random, category),
         11 => page_frame(random),
-        12 => arrival_frame(random),
+        12 => group_frame(random),
         13 => return random_bytes(random, 32),
         _ => {
             let length = random.below(41);
@@ -154,7 +189,7 @@ pub fn any_record(random: &mut Random) -> Record {
         6 => no_category_record(random),
         7 => many_faults_record(random, category),
         8 => page_record(random),
-        9 => arrival_record(random),
+        9 => group_record(random),
         10 => spare_record(random, category),
         _ => random_record(random, category),
     }

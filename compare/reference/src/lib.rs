@@ -1,5 +1,5 @@
 //! A reference reader and writer for DC Report frames of message type 43 in
-//! categories 2, 3, 4, 5 and 9. It is written from the papers alone, with
+//! categories 2, 3, 4, 5, 8, 9 and 11. It is written from the papers alone, with
 //! plainness before speed, so that another implementation can be compared
 //! with it on as many inputs as one likes.
 //!

@@ -1,5 +1,6 @@
 //! The listing of a file of frames: a heading and one row a line.
 
+use crate::fields::slot_layout;
 use crate::line::read_line;
 use crate::meaning::slots_used;
 use crate::record::{Category, Record, Refusal, OUT_OF_RANGE, SLOT_AFTER_EMPTY};
@@ -36,11 +37,10 @@ fn write_row(
         Ok(record) => {
             let category = record.body.category();
             let dc = category.map_or(0, Category::code);
-            match category {
-                Some(Category::Intensity | Category::Tsunami | Category::AshFall) => {
-                    writeln!(output, "{line} 0 - {dc} {} -", slots_used(&record))
-                }
-                _ => writeln!(output, "{line} 0 - {dc} - -"),
+            if category.is_some_and(|category| slot_layout(category).count > 0) {
+                writeln!(output, "{line} 0 - {dc} {} -", slots_used(&record))
+            } else {
+                writeln!(output, "{line} 0 - {dc} - -")
             }
         }
         Err(Refusal { number: number @ OUT_OF_RANGE, place, value, .. }) => {

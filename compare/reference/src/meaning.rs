@@ -1,6 +1,6 @@
 //! What numbers of a record say: a code that says nothing gives nothing.
 
-use crate::record::{Record, Slot};
+use crate::record::{Record, Slot, Time};
 
 #[derive(Clone, Copy, PartialEq, Eq, Debug)]
 pub enum Depth {
@@ -67,6 +67,45 @@ pub fn height(code: u8) -> Option<Height> {
     match code {
         14 => Some(Height::Unknown),
         1..=15 => Some(Height::Coded(code)),
+        _ => None,
+    }
+}
+
+#[derive(Clone, Copy, PartialEq, Eq, Debug)]
+pub enum Activity {
+    At(Time),
+    Unknown,
+}
+
+/// Table 4.1.2-30: day, hour and minute (UTC) when the activity was observed, or
+/// their codes, which say together that this is unknown. How much of a time is
+/// valid is for the ambiguity to say.
+pub fn activity(time: Time) -> Option<Activity> {
+    match (time.day, time.hour, time.minute) {
+        (1..=31, 0..=23, 0..=59) => Some(Activity::At(time)),
+        (0, 31, 63) => Some(Activity::Unknown),
+        _ => None,
+    }
+}
+
+/// How much of an activity time is valid.
+#[derive(Clone, Copy, PartialEq, Eq, Debug)]
+pub enum Validity {
+    /// The time is about a month or a year.
+    Nothing,
+    Day,
+    DayAndHour,
+    DayHourAndMinute,
+}
+
+/// Table 4.1.2-30, row Du. That day, hour and minute are valid is printed behind 3;
+/// it goes for 0 to 2 as well, since they are no less exact than minutes.
+pub fn validity(ambiguity: u8) -> Option<Validity> {
+    match ambiguity {
+        0..=3 => Some(Validity::DayHourAndMinute),
+        4 => Some(Validity::DayAndHour),
+        5 => Some(Validity::Day),
+        6 | 7 => Some(Validity::Nothing),
         _ => None,
     }
 }

@@ -73,11 +73,18 @@ fn body(frame: &Frame, category: Category) -> Body {
         Category::Tsunami => {
             Body::Tsunami { notifications: notifications(frame), warning: byte(frame, 80, 4) }
         }
+        Category::Volcano => Body::Volcano {
+            ambiguity: byte(frame, 50, 3),
+            time: time(frame, 53),
+            warning: byte(frame, 69, 7),
+            volcano: short(frame, 76, 12),
+        },
         Category::AshFall => Body::AshFall {
             time: time(frame, 53),
             warning: byte(frame, 69, 2),
             volcano: short(frame, 71, 12),
         },
+        Category::Flood => Body::Flood,
     }
 }
 
@@ -120,32 +127,11 @@ fn slots(frame: &Frame, category: Category) -> [Slot; 16] {
     let mut slots = [Slot::default(); 16];
     let layout = slot_layout(category);
     for (number, slot) in slots.iter_mut().enumerate().take(layout.count) {
-        *slot = slot_at(frame, category, layout.slot_first(number));
+        for (part, field) in layout.named_parts(number) {
+            slot.set_part(part, get(frame, field.first, field.width));
+        }
     }
     slots
-}
-
-fn slot_at(frame: &Frame, category: Category, first: usize) -> Slot {
-    match category {
-        Category::Tsunami => Slot {
-            day: byte(frame, first, 1),
-            hour: byte(frame, first + 1, 5),
-            minute: byte(frame, first + 6, 6),
-            strength: byte(frame, first + 12, 4),
-            place: get(frame, first + 16, 10),
-        },
-        Category::AshFall => Slot {
-            hour: byte(frame, first, 3),
-            strength: byte(frame, first + 3, 3),
-            place: get(frame, first + 6, 23),
-            ..Slot::default()
-        },
-        _ => Slot {
-            strength: byte(frame, first, 3),
-            place: get(frame, first + 3, 6),
-            ..Slot::default()
-        },
-    }
 }
 
 fn text(frame: &Frame, category: Category) -> [u8; 18] {

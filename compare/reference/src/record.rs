@@ -11,16 +11,20 @@ pub enum Category {
     Intensity,
     Nankai,
     Tsunami,
+    Volcano,
     AshFall,
+    Flood,
 }
 
 impl Category {
-    pub const ALL: [Category; 5] = [
+    pub const ALL: [Category; 7] = [
         Category::Hypocenter,
         Category::Intensity,
         Category::Nankai,
         Category::Tsunami,
+        Category::Volcano,
         Category::AshFall,
+        Category::Flood,
     ];
 
     /// The number that stands in Dc.
@@ -30,7 +34,9 @@ impl Category {
             Category::Intensity => 3,
             Category::Nankai => 4,
             Category::Tsunami => 5,
+            Category::Volcano => 8,
             Category::AshFall => 9,
+            Category::Flood => 11,
         }
     }
 
@@ -40,7 +46,8 @@ impl Category {
     }
 }
 
-/// Day, hour and minute of an earthquake or of volcanic activity.
+/// Day, hour and minute of an earthquake or of volcanic activity. In category 8
+/// they may be the codes that say together that the time is unknown.
 #[derive(Clone, Copy, PartialEq, Eq, Debug, Default)]
 pub struct Time {
     pub day: u8,
@@ -85,11 +92,19 @@ pub enum Body {
         notifications: [u16; 3],
         warning: u8,
     },
+    Volcano {
+        ambiguity: u8,
+        time: Time,
+        warning: u8,
+        volcano: u16,
+    },
     AshFall {
         time: Time,
         warning: u8,
         volcano: u16,
     },
+    /// All that category 11 says stands in its slots.
+    Flood,
 }
 
 impl Body {
@@ -100,16 +115,17 @@ impl Body {
             Body::Intensity(_) => Some(Category::Intensity),
             Body::Nankai { .. } => Some(Category::Nankai),
             Body::Tsunami { .. } => Some(Category::Tsunami),
+            Body::Volcano { .. } => Some(Category::Volcano),
             Body::AshFall { .. } => Some(Category::AshFall),
+            Body::Flood => Some(Category::Flood),
         }
     }
 }
 
 /// One place with its strength and when. In category 3 the strength is the
-/// intensity and the place is the prefecture; in category 5, where a slot is an
-/// area, they are the height code and the forecast region. What a category does
-/// not have stays zero: in category 9 day and minute, in category 3 the hour as
-/// well.
+/// intensity and the place is the prefecture; in categories 5 and 11, where a slot
+/// is an area, they are the height code or the warning level, and the forecast
+/// region. A part that a category does not have stays zero.
 #[derive(Clone, Copy, PartialEq, Eq, Debug, Default)]
 pub struct Slot {
     pub day: u8,
@@ -117,6 +133,44 @@ pub struct Slot {
     pub minute: u8,
     pub strength: u8,
     pub place: u64,
+}
+
+/// The parts of a slot by name. Only category 5 has all of them.
+#[derive(Clone, Copy, PartialEq, Eq, Debug)]
+pub enum Part {
+    Day,
+    Hour,
+    Minute,
+    Strength,
+    Place,
+}
+
+impl Part {
+    pub const ALL: [Part; 5] = [Part::Day, Part::Hour, Part::Minute, Part::Strength, Part::Place];
+}
+
+impl Slot {
+    pub fn part(&self, part: Part) -> u64 {
+        match part {
+            Part::Day => self.day.into(),
+            Part::Hour => self.hour.into(),
+            Part::Minute => self.minute.into(),
+            Part::Strength => self.strength.into(),
+            Part::Place => self.place,
+        }
+    }
+
+    /// A value above what the part can hold becomes the most that it can hold.
+    pub fn set_part(&mut self, part: Part, value: u64) {
+        let byte = value.min(u8::MAX.into()) as u8;
+        match part {
+            Part::Day => self.day = byte,
+            Part::Hour => self.hour = byte,
+            Part::Minute => self.minute = byte,
+            Part::Strength => self.strength = byte,
+            Part::Place => self.place = value,
+        }
+    }
 }
 
 #[derive(Clone, Copy, PartialEq, Eq, Debug, Default)]

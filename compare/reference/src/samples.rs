@@ -12,7 +12,7 @@ const PREAMBLE: u8 = 0x53;
 const RESERVED: u8 = 0;
 const SPARES: [u64; 2] = [0; 2];
 
-/// Rc "training/test" and It "issue", the same in tables 2-1-2 to 2-5-1.
+/// Rc "training/test" and It "issue", the same in tables 2-1-2 to 2-7-1.
 const RC: u8 = 7;
 const IT: u8 = 0;
 
@@ -26,14 +26,17 @@ const DELIVERIES: [(u8, u8); 2] = [(11, 4), (27, 1)];
 /// Table 2-3-1, row Te: the whole text of the Nankai bulletin.
 pub const NANKAI_TEXT: &str = "南海トラフ沿いのプレート境界で通常とは異なるゆっくりすべりが発生していることが推定されます。この通常とは異なるゆっくりすべりの発生により、南海トラフ地震の想定震源域では、大規模地震の発生可能性が平常時に比べて相対的に高まっていると考えられます。今後の政府や自治体などからの呼びかけ等に応じた防災対応をとってください。";
 
-/// Tables 2-4-2 and 2-5-1, rows Pl: Aso city, Takamori town and Minamiaso
+/// Tables 2-4-1, 2-4-2 and 2-5-1, rows Pl: Aso city, Takamori town and Minamiaso
 /// village in Kumamoto.
 const ASO: u64 = 4_321_400;
 const TAKAMORI: u64 = 4_342_800;
 const MINAMIASO: u64 = 4_343_300;
 
-/// Tables 2-4-2 and 2-5-1, row Vo: Mount Aso.
+/// Tables 2-4-1, 2-4-2 and 2-5-1, row Vo: Mount Aso.
 const MOUNT_ASO: u16 = 503;
+
+/// Tables 2-6-2 and 2-7-1, row Pl_1: the river Kinu in Tochigi and Ibaraki.
+const KINU: u64 = 830_303_020_300;
 
 /// Tables 2-1-4, 2-2-1 and 2-3-2, rows Pl: the forecast regions, which are the
 /// coast of Ehime on the Uwa Sea, Kochi, that of Oita on the Bungo Channel, and
@@ -56,8 +59,11 @@ pub fn all() -> Vec<Record> {
         tsunami_update(),
         nankai(),
         tsunami_lifted(),
+        volcano(),
         ash_fall_preliminary(),
         ash_fall_detailed(),
+        flood_warning(),
+        flood_lifted(),
     ];
     tables.concat()
 }
@@ -119,6 +125,21 @@ pub fn nankai() -> Vec<Record> {
     records
 }
 
+/// Section 2.4.1, table 2-4-1: three places, for each delivery. The time of the
+/// eruption has no ambiguity, and the warning code is that of an eruption.
+pub fn volcano() -> Vec<Record> {
+    let mut slots = [Slot::default(); 16];
+    for (slot, place) in slots.iter_mut().zip([ASO, TAKAMORI, MINAMIASO]) {
+        *slot = Slot { place, ..Slot::default() };
+    }
+    let filled = |issue| {
+        let time = same_time(&issue);
+        let body = Body::Volcano { ambiguity: 0, time, warning: 52, volcano: MOUNT_ASO };
+        Record { body, slots, ..issue }
+    };
+    [issue(0, 1, 10), issue(1, 1, 10)].map(filled).to_vec()
+}
+
 /// Section 2.4.2, table 2-4-2: three places, for each delivery.
 pub fn ash_fall_preliminary() -> Vec<Record> {
     let places = [(1, 1, ASO), (1, 1, TAKAMORI), (1, 1, MINAMIASO)];
@@ -154,6 +175,16 @@ pub fn ash_fall_detailed() -> Vec<Record> {
         records.extend(PLACES.chunks(4).map(|places| ash_fall(&issue, 2, places)));
     }
     records
+}
+
+/// Section 2.6.2, table 2-6-2: one area, for each delivery.
+pub fn flood_warning() -> Vec<Record> {
+    [issue(0, 1, 35), issue(1, 1, 35)].map(|issue| flood(&issue, 2)).to_vec()
+}
+
+/// Section 2.7.1, table 2-7-1: the same area, for each delivery.
+pub fn flood_lifted() -> Vec<Record> {
+    [issue(0, 1, 50), issue(1, 1, 50)].map(|issue| flood(&issue, 1)).to_vec()
 }
 
 /// A text cut into pages of 18 bytes, the last one filled up with zeros.
@@ -221,4 +252,11 @@ fn ash_fall(issue: &Record, warning: u8, places: &[(u8, u8, u64)]) -> Record {
     }
     let body = Body::AshFall { time: same_time(issue), warning, volcano: MOUNT_ASO };
     Record { body, slots, ..*issue }
+}
+
+/// A flood message with the river Kinu for its area.
+fn flood(issue: &Record, level: u8) -> Record {
+    let mut slots = [Slot::default(); 16];
+    slots[0] = Slot { strength: level, place: KINU, ..Slot::default() };
+    Record { body: Body::Flood, slots, ..*issue }
 }

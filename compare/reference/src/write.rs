@@ -2,9 +2,11 @@
 
 use crate::bits::{set, Frame};
 use crate::check::{faults, reported};
-use crate::fields::{slot_layout, spares, Field, RESERVED};
+use crate::fields::{slot_layout, spares, Field, SlotLayout, RESERVED};
 use crate::parity::parity;
-use crate::record::{Angle, Body, Category, Hypocenter, Record, Refusal, Slot, Time, PREAMBLES};
+use crate::record::{
+    Angle, Body, Category, Hypocenter, Part, Record, Refusal, Slot, Time, PREAMBLES,
+};
 
 /// A number of the record and where it goes in the frame. The number may be
 /// too wide for its place; then it is also out of range.
@@ -43,10 +45,10 @@ pub fn write(record: &Record, frame: &mut [u8]) -> Result<(), Refusal> {
 
 /// Whether something stands where the category has nothing.
 fn has_something_unused(record: &Record, category: Category) -> bool {
-    let own_slots = slot_layout(category).count;
-    let slot_too_many = record.slots[own_slots..].iter().any(|slot| *slot != Slot::default());
-    let part_too_many =
-        record.slots[..own_slots].iter().any(|slot| has_unused_part(slot, category));
+    let layout = slot_layout(category);
+    let (own_slots, other_slots) = record.slots.split_at(layout.count);
+    let slot_too_many = other_slots.iter().any(|slot| *slot != Slot::default());
+    let part_too_many = own_slots.iter().any(|slot| has_unused_part(slot, &layout));
     let text_elsewhere =
         category != Category::Nankai && record.text.iter().any(|&character| character != 0);
     let spare_too_many = record.spares[spares(category).len()..].iter().any(|&spare| spare != 0);
@@ -54,12 +56,8 @@ fn has_something_unused(record: &Record, category: Category) -> bool {
 }
 
 /// Whether something stands in a part that the category's slots do not have.
-fn has_unused_part(slot: &Slot, category: Category) -> bool {
-    match category {
-        Category::Tsunami => false,
-        Category::AshFall => slot.day != 0 || slot.minute != 0,
-        _ => slot.day != 0 || slot.hour != 0 || slot.minute != 0,
-    }
+fn has_unused_part(slot: &Slot, layout: &SlotLayout) -> bool {
+    Part::ALL.into_iter().any(|part| !layout.has(part) && slot.part(part) != 0)
 }
 
 /// The value that the record gives a field. Every field of the tables is
@@ -95,8 +93,16 @@ pub fn placed(record: &Record, category: Category) -> Vec<Placed> {
         place(35, 6, record.minute),
         place(41, 2, record.it),
     ];
+    all.extend(place_body(record));
+    all.extend(place_spares(&record.spares, category));
+    all.extend(place_slots(&record.slots, category));
+    all
+}
+
+fn place_body(record: &Record) -> Vec<Placed> {
+    let mut all = Vec::new();
     match &record.body {
-        Body::Nothing => {}
+        Body::Nothing | Body::Flood => {}
         Body::Hypocenter(hypocenter) => all.extend(place_hypocenter(hypocenter)),
         Body::Intensity(time) => all.extend(place_time(53, time)),
         Body::Nankai { serial, page, total } => {
@@ -109,14 +115,18 @@ pub fn placed(record: &Record, category: Category) -> Vec<Placed> {
             all.extend(place_notifications(notifications));
             all.push(place(80, 4, *warning));
         }
+        Body::Volcano { ambiguity, time, warning, volcano } => {
+            all.push(place(50, 3, *ambiguity));
+            all.extend(place_time(53, time));
+            all.push(place(69, 7, *warning));
+            all.push(place(76, 12, *volcano));
+        }
         Body::AshFall { time, warning, volcano } => {
             all.extend(place_time(53, time));
             all.push(place(69, 2, *warning));
             all.push(place(71, 12, *volcano));
         }
     }
-    all.extend(place_spares(&record.spares, category));
-    all.extend(place_slots(&record.slots, category));
     all
 }
 
@@ -168,24 +178,10 @@ fn place_text(text: &[u8; 18]) -> Vec<Placed> {
 
 fn place_slots(slots: &[Slot; 16], category: Category) -> Vec<Placed> {
     let layout = slot_layout(category);
-    let own = slots.iter().enumerate().take(layout.count);
-    own.flat_map(|(number, slot)| place_slot(slot, category, layout.slot_first(number))).collect()
-}
-
-fn place_slot(slot: &Slot, category: Category, first: usize) -> Vec<Placed> {
-    match category {
-        Category::Tsunami => vec![
-            place(first, 1, slot.day),
-            place(first + 1, 5, slot.hour),
-            place(first + 6, 6, slot.minute),
-            place(first + 12, 4, slot.strength),
-            place(first + 16, 10, slot.place),
-        ],
-        Category::AshFall => vec![
-            place(first, 3, slot.hour),
-            place(first + 3, 3, slot.strength),
-            place(first + 6, 23, slot.place),
-        ],
-        _ => vec![place(first, 3, slot.strength), place(first + 3, 6, slot.place)],
+    let mut all = Vec::new();
+    for (number, slot) in slots.iter().enumerate().take(layout.count) {
+        let parts = layout.named_parts(number).into_iter();
+        all.extend(parts.map(|(part, field)| place(field.first, field.width, slot.part(part))));
     }
+    all
 }

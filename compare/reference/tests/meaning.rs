@@ -1,13 +1,14 @@
 //! What numbers of a record say.
 
 use reference::fields::fields;
-use reference::generate::any_record;
+use reference::generate::{any_record, set_number};
 use reference::meaning::{
-    arrival, depth, height, magnitude, prefecture, slots_used, Arrival, Depth, Height, Magnitude,
+    activity, arrival, depth, height, magnitude, prefecture, slots_used, validity, Activity,
+    Arrival, Depth, Height, Magnitude, Validity,
 };
 use reference::random::Random;
 use reference::read::read;
-use reference::record::{Category, Record, Slot};
+use reference::record::{Category, Record, Slot, Time};
 use reference::samples;
 use reference::write::write;
 
@@ -76,6 +77,52 @@ fn what_an_area_says_is_what_it_may_have() {
         for other in 0..=u8::MAX {
             let valid = written(&|slot| (slot.hour, slot.minute) = (one, other));
             assert_eq!(arrival(one, other).is_some(), valid, "{one} {other}");
+        }
+    }
+}
+
+#[test]
+fn day_0_hour_31_and_minute_63_are_unknown_together() {
+    let told = |(day, hour, minute)| activity(Time { day, hour, minute });
+    for (day, hour, minute) in [(1, 0, 0), (31, 23, 59), (11, 5, 10)] {
+        let time = Time { day, hour, minute };
+        assert_eq!(activity(time), Some(Activity::At(time)));
+    }
+    assert_eq!(told((0, 31, 63)), Some(Activity::Unknown));
+    let one_code = [(0, 5, 10), (11, 31, 10), (11, 5, 63)];
+    let two_codes = [(0, 31, 10), (0, 5, 63), (11, 31, 63)];
+    let no_time = [(0, 0, 0), (32, 0, 0), (1, 24, 0), (1, 0, 60), (63, 31, 0), (255, 255, 255)];
+    assert_eq!([&one_code[..], &two_codes, &no_time].concat().into_iter().find_map(told), None);
+}
+
+#[test]
+fn how_much_of_a_time_is_valid() {
+    assert_eq!([0, 1, 2, 3].map(validity), [Some(Validity::DayHourAndMinute); 4]);
+    assert_eq!(validity(4), Some(Validity::DayAndHour));
+    assert_eq!(validity(5), Some(Validity::Day));
+    assert_eq!([6, 7].map(validity), [Some(Validity::Nothing); 2]);
+    assert_eq!((8..=255).find_map(validity), None);
+}
+
+/// A valid record has day, hour and minute, or an ambiguity, exactly where they say
+/// something.
+#[test]
+fn what_a_volcano_says_is_what_it_may_have() {
+    let written = |values: &[(usize, u8)]| {
+        let mut record = samples::volcano()[0];
+        values.iter().for_each(|&(first, value)| set_number(&mut record, first, value.into()));
+        write(&record, &mut [0; 32]).is_ok()
+    };
+    for ambiguity in 0..=u8::MAX {
+        assert_eq!(validity(ambiguity).is_some(), written(&[(50, ambiguity)]), "{ambiguity}");
+    }
+    for day in 0..40 {
+        for hour in (0..40).chain([95, 255]) {
+            for minute in (0..70).chain([127, 255]) {
+                let time = Time { day, hour, minute };
+                let valid = written(&[(53, day), (58, hour), (63, minute)]);
+                assert_eq!(activity(time).is_some(), valid, "{time:?}");
+            }
         }
     }
 }

@@ -4,9 +4,11 @@ use reference::bits::Frame;
 use reference::line::read_line;
 use reference::meaning::{prefecture, slots_used};
 use reference::read::read;
-use reference::record::{Body, Category, Record, Slot};
+use reference::record::{Body, Category, Record, Slot, Time};
 use reference::samples;
 use reference::write::write;
+
+const KINU: u64 = 830_303_020_300;
 
 fn digits(record: &Record) -> String {
     let mut frame: Frame = [0; 32];
@@ -37,6 +39,51 @@ fn five_areas() -> Record {
         slots,
         text: [0; 18],
     }
+}
+
+/// A correction with five places, and an activity time that is unknown. It is in
+/// no table of document 004, as the next is in none.
+fn unknown_time() -> Record {
+    const PLACES: [u64; 5] = [110_000, 4_799_999, 2_322_100, 1_310_100, 4_799_999];
+    let time = Time { day: 0, hour: 31, minute: 63 };
+    let mut record = Record {
+        preamble: 0xC6,
+        reserved: 63,
+        rc: 3,
+        month: 12,
+        day: 31,
+        hour: 23,
+        minute: 59,
+        it: 1,
+        body: Body::Volcano { ambiguity: 7, time, warning: 127, volcano: 4000 },
+        ..Record::default()
+    };
+    for (slot, place) in record.slots.iter_mut().zip(PLACES) {
+        slot.place = place;
+    }
+    record
+}
+
+/// A correction with three areas, the regions of two being the ends of their
+/// range.
+fn three_areas() -> Record {
+    const AREAS: [(u8, u64); 3] = [(15, 899_999_999_999), (1, 10_175_000_100), (4, KINU)];
+    let mut record = Record {
+        preamble: 0x9A,
+        reserved: 42,
+        rc: 2,
+        month: 2,
+        day: 31,
+        hour: 0,
+        minute: 0,
+        it: 1,
+        body: Body::Flood,
+        ..Record::default()
+    };
+    for (slot, (strength, place)) in record.slots.iter_mut().zip(AREAS) {
+        *slot = Slot { strength, place, ..Slot::default() };
+    }
+    record
 }
 
 /// These were laid out apart from this package, as strings of binary digits
@@ -80,6 +127,29 @@ fn frames_laid_out_another_way() {
     }
 }
 
+/// So were these.
+#[test]
+fn frames_of_volcano_and_flood_laid_out_another_way() {
+    let cases = [
+        (samples::volcano()[0], "53afc1aca50002ca5341f783e0f1091042123020000000000000001035204680"),
+        (samples::volcano()[1], "53afc1ec450006c45341f783e0f109104212302000000000000000102b54a280"),
+        (unknown_time(), "c6adc67efda0383fffffa0035b6124f7fd1b75a13fd94927bfe0001fc467cac0"),
+        (
+            samples::flood_warning()[0],
+            "53afd9acb1800160a8f5528600000000000000000000000000000010146c46c0",
+        ),
+        (
+            samples::flood_lifted()[1],
+            "53afd9ec590000e0a8f55286000000000000000000000000000000100e604680",
+        ),
+        (three_areas(), "9aad597c002007e8c61713ff8812f3d1712260a8f55286000000001ab7f4a500"),
+    ];
+    for (record, expected) in cases {
+        assert_eq!(digits(&record), expected);
+        assert_eq!(read_line(&expected.as_bytes()[..63]), Ok(record));
+    }
+}
+
 /// A sample with something in its spares, which no table of document 004 has.
 fn with_spares(sample: Record, spares: [u64; 2]) -> Record {
     Record { spares, ..sample }
@@ -109,6 +179,14 @@ fn spares_laid_out_another_way() {
             with_spares(samples::ash_fall_detailed()[0], [0x155, 0x4ABC]),
             "53afc9acaa0aaacaa43ee541f0782a1220813091811183e0f12af0103bce5c80",
         ),
+        (
+            with_spares(samples::volcano()[0], [0x55, 0x4BC]),
+            "53afc1aca51542ca5341f783e0f1091042123020000000000012f0101560a300",
+        ),
+        (
+            with_spares(samples::flood_lifted()[1], [0x2AA, 0x1ABC_DEF5]),
+            "53afd9ec591550e0a8f5528600000000000000000000006af37bd41031c0be40",
+        ),
     ];
     for (record, expected) in cases {
         assert_eq!(digits(&record), expected);
@@ -124,7 +202,7 @@ fn no_sample_has_anything_in_its_spares() {
 #[test]
 fn every_sample_is_written_and_read_back() {
     let all = samples::all();
-    assert_eq!(all.len(), 2 + 2 + 2 + 2 + 54 + 2 + 2 + 10);
+    assert_eq!(all.len(), 2 + 2 + 2 + 2 + 54 + 2 + 2 + 2 + 10 + 2 + 2);
     for record in all {
         let mut frame = [0; 32];
         assert_eq!(write(&record, &mut frame), Ok(()));
@@ -154,8 +232,11 @@ fn the_order_of_document_004() {
     let mut order: Vec<_> =
         samples::all().iter().map(|record| (category(record), record.minute)).collect();
     order.dedup();
-    let expected = [(2, 5), (3, 5), (5, 5), (5, 25), (4, 35), (5, 35), (9, 10), (9, 20)];
-    assert_eq!(order, expected.map(|(code, minute)| (Some(code), minute)));
+    let quake = [(2, 5), (3, 5), (5, 5), (5, 25), (4, 35), (5, 35)];
+    let volcano_and_flood = [(8, 10), (9, 10), (9, 20), (11, 35), (11, 50)];
+    let expected = [&quake[..], &volcano_and_flood].concat();
+    let expected: Vec<_> = expected.iter().map(|&(code, minute)| (Some(code), minute)).collect();
+    assert_eq!(order, expected);
 }
 
 #[test]
@@ -173,6 +254,35 @@ fn three_and_four_areas_of_three_metres_on_the_same_day() {
                 assert_eq!((area.day, area.strength), (0, 3));
                 assert_eq!((area.hour, area.minute), (record.hour, record.minute));
             }
+        }
+    }
+}
+
+#[test]
+fn three_places_and_the_time_of_the_eruption() {
+    for record in samples::volcano() {
+        let Record { day, hour, minute, .. } = record;
+        let time = Time { day, hour, minute };
+        let body = Body::Volcano { ambiguity: 0, time, warning: 52, volcano: 503 };
+        assert_eq!(record.body, body);
+        let used = &record.slots[..slots_used(&record)];
+        let places: Vec<u64> = used.iter().map(|slot| slot.place).collect();
+        assert_eq!(places, [4_321_400, 4_342_800, 4_343_300]);
+    }
+    let issued = |record: &Record| (record.day, record.hour, record.minute);
+    let volcano: Vec<_> = samples::volcano().iter().map(issued).collect();
+    assert_eq!(volcano, [(11, 5, 10), (27, 2, 10)]);
+    let floods = [samples::flood_warning(), samples::flood_lifted()].concat();
+    let floods: Vec<_> = floods.iter().map(issued).collect();
+    assert_eq!(floods, [(11, 5, 35), (27, 2, 35), (11, 5, 50), (27, 2, 50)]);
+}
+
+#[test]
+fn one_area_first_warned_of_and_then_not() {
+    for (records, strength) in [(samples::flood_warning(), 2), (samples::flood_lifted(), 1)] {
+        for record in records {
+            assert_eq!(slots_used(&record), 1);
+            assert_eq!(record.slots[0], Slot { strength, place: KINU, ..Slot::default() });
         }
     }
 }

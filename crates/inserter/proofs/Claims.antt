@@ -26,7 +26,7 @@ use Rattle.bulletin.specs.Text.{textAnswer}
 use Rattle.store_bytes.specs.Stores.{nameFrom, storeOrZeros}
 use Rattle.parity.specs.Parity.{parityOf}
 use Rattle.inserter.specs.Answers.{answerWord, countAnswer, InBytes, IsRefusal, mergeInto, openInto, openValue, parityAnswer, readInto, readLineInto, readLineValue, readValue, takeInto, takeValue, takenWord, textInto, wordBytes, writeInto, writeLineInto, writeValue}
-use Rattle.inserter.specs.Meanings.{arrivalAnswer, depthAnswer, heightAnswer, magnitudeAnswer, prefectureAnswer, slotsAnswer}
+use Rattle.inserter.specs.Meanings.{activityAnswer, arrivalAnswer, depthAnswer, heightAnswer, magnitudeAnswer, prefectureAnswer, slotsAnswer, validityAnswer}
 use Rattle.inserter.proofs.Meant as Meant
 use Rattle.inserter.proofs.Said as Said
 use Rattle.inserter.proofs.ValuesSaid as ValuesSaid
@@ -259,6 +259,36 @@ height-14-is-told-as-unknown = Meant.height-unknown
 
 pub no-other-height-is-told : (code : ℕ) → ((1 ≤ code) × (code ≤ 15) → ⊥) → heightAnswer code ≡ 0
 no-other-height-is-told = Meant.no-height
+
+-- "An activity time may be unknown": 1 with day, hour and minute in the bits that a frame has for them, 3 where it is unknown, and 0 for a
+-- mixture and whatever else says nothing
+pub an-activity-is-told-by-day-hour-and-minute : (day hour minute : ℕ) → 1 ≤ day → day ≤ 31 → hour ≤ 23 → minute ≤ 59
+    → activityAnswer day hour minute ≡ 2 ^ 16 + (day * 2 ^ 11 + hour * 2 ^ 6 + minute)
+an-activity-is-told-by-day-hour-and-minute = Meant.active-at
+
+pub day-0-with-hour-31-and-minute-63-is-told-as-unknown : activityAnswer 0 31 63 ≡ 3 * 2 ^ 16
+day-0-with-hour-31-and-minute-63-is-told-as-unknown = Meant.time-unknown
+
+pub no-other-activity-time-is-told : (day hour minute : ℕ) → ((day ≡ 0) × ((hour ≡ 31) × (minute ≡ 63)) → ⊥) → (((1 ≤ day) × (day ≤ 31)) × ((hour ≤ 23) × (minute ≤ 59)) → ⊥)
+    → activityAnswer day hour minute ≡ 0
+no-other-activity-time-is-told = Meant.no-time
+
+-- how much of it is valid by the ambiguity: 3 for day, hour and minute, 2 for day and hour, 1 for the day, 0 for nothing, each behind a 1 that
+-- says that the code is one
+pub up-to-ambiguity-3-all-is-told-as-valid : (code : ℕ) → code ≤ 3 → validityAnswer code ≡ 2 ^ 16 + 3
+up-to-ambiguity-3-all-is-told-as-valid = Meant.all-valid
+
+pub with-ambiguity-4-day-and-hour-are-told-as-valid : validityAnswer 4 ≡ 2 ^ 16 + 2
+with-ambiguity-4-day-and-hour-are-told-as-valid = Meant.two-valid
+
+pub with-ambiguity-5-the-day-is-told-as-valid : validityAnswer 5 ≡ 2 ^ 16 + 1
+with-ambiguity-5-the-day-is-told-as-valid = Meant.day-valid
+
+pub with-ambiguity-6-and-7-nothing-is-told-as-valid : (validityAnswer 6 ≡ 2 ^ 16) × (validityAnswer 7 ≡ 2 ^ 16)
+with-ambiguity-6-and-7-nothing-is-told-as-valid = Meant.none-valid
+
+pub no-other-ambiguity-is-told : (code : ℕ) → 7 < code → validityAnswer code ≡ 0
+no-other-ambiguity-is-told = Meant.no-ambiguity
 
 pub sixteen-slots-are-told-at-most : (bytes : List ℕ) → slotsAnswer bytes ≤ 16
 sixteen-slots-are-told-at-most = Meant.sixteen-at-most

@@ -5,10 +5,11 @@ use mathlib.Core.List.{List}
 use Rattle.hypocenter.proofs.Claims.{depth-501-is-deeper, depth-511-is-unknown, each-depth-is-told-in-kilometres, each-magnitude-is-told-in-tenths, magnitude-126-is-above-8, magnitude-127-is-unknown, no-other-code-is-a-depth, no-other-code-is-a-magnitude}
 use Rattle.ash_fall.proofs.Claims.{each-place-has-a-prefecture, no-other-place-has-a-prefecture}
 use Rattle.tsunami.proofs.Claims.{each-height-is-told-by-its-code, each-time-is-told, height-14-is-unknown, hour-31-with-minute-63-has-arrived, no-other-code-is-a-height, nothing-else-is-an-arrival}
+use Rattle.volcano.proofs.Claims.{day-0-with-hour-31-and-minute-63-is-unknown, each-activity-time-is-told, no-code-past-7-is-an-ambiguity, nothing-else-is-an-activity-time, up-to-3-all-is-valid, with-4-the-minute-is-not-valid, with-5-the-day-alone-is-valid, with-6-and-7-nothing-is-valid}
 use Rattle.report.proofs.Reading.Used.{few}
 use Rattle.record_bytes.specs.Unpacked.{recordFrom}
 use Rattle.record_bytes.proofs.Accepted.{record-shaped}
-use Rattle.inserter.specs.Meanings.{arrivalAnswer, arrivalWord, depthAnswer, depthWord, heightAnswer, heightWord, magnitudeAnswer, magnitudeWord, prefectureAnswer, prefectureWord, slotsAnswer}
+use Rattle.inserter.specs.Meanings.{activityAnswer, activityWord, arrivalAnswer, arrivalWord, depthAnswer, depthWord, heightAnswer, heightWord, magnitudeAnswer, magnitudeWord, prefectureAnswer, prefectureWord, slotsAnswer, validityAnswer, validityWord}
 
 -- ---- a depth
 
@@ -57,6 +58,32 @@ height-unknown = ap heightWord height-14-is-unknown
 
 pub no-height : (code : ℕ) → ((1 ≤ code) × (code ≤ 15) → ⊥) → heightAnswer code ≡ 0
 no-height code out = ap heightWord (no-other-code-is-a-height code out)
+
+-- ---- an activity
+
+pub active-at : (day hour minute : ℕ) → 1 ≤ day → day ≤ 31 → hour ≤ 23 → minute ≤ 59 → activityAnswer day hour minute ≡ 2 ^ 16 + (day * 2 ^ 11 + hour * 2 ^ 6 + minute)
+active-at day hour minute low high h m = ap activityWord (each-activity-time-is-told day hour minute ((low, high), (h, m)))
+
+pub time-unknown : activityAnswer 0 31 63 ≡ 3 * 2 ^ 16
+time-unknown = ap activityWord day-0-with-hour-31-and-minute-63-is-unknown
+
+pub no-time : (day hour minute : ℕ) → ((day ≡ 0) × ((hour ≡ 31) × (minute ≡ 63)) → ⊥) → (((1 ≤ day) × (day ≤ 31)) × ((hour ≤ 23) × (minute ≤ 59)) → ⊥) → activityAnswer day hour minute ≡ 0
+no-time day hour minute n t = ap activityWord (nothing-else-is-an-activity-time day hour minute n t)
+
+pub all-valid : (code : ℕ) → code ≤ 3 → validityAnswer code ≡ 2 ^ 16 + 3
+all-valid code h = ap validityWord (up-to-3-all-is-valid code h)
+
+pub two-valid : validityAnswer 4 ≡ 2 ^ 16 + 2
+two-valid = ap validityWord with-4-the-minute-is-not-valid
+
+pub day-valid : validityAnswer 5 ≡ 2 ^ 16 + 1
+day-valid = ap validityWord with-5-the-day-alone-is-valid
+
+pub none-valid : (validityAnswer 6 ≡ 2 ^ 16) × (validityAnswer 7 ≡ 2 ^ 16)
+none-valid = (ap validityWord (with-6-and-7-nothing-is-valid .0), ap validityWord (with-6-and-7-nothing-is-valid .1))
+
+pub no-ambiguity : (code : ℕ) → 7 < code → validityAnswer code ≡ 0
+no-ambiguity code h = ap validityWord (no-code-past-7-is-an-ambiguity code h)
 
 -- ---- a prefecture, and slots
 

@@ -59,6 +59,12 @@ lz-arrival-is-settled κs a x y = answer
 pub lz-height-is-settled : Settled inserter.meanings.lz_height.ended inserter.meanings.lz_height.Reads.Post
 lz-height-is-settled κs a x y = answer
 
+pub lz-activity-is-settled : Settled inserter.meanings.lz_activity.ended inserter.meanings.lz_activity.Reads.Post
+lz-activity-is-settled κs a x y = answer
+
+pub lz-validity-is-settled : Settled inserter.meanings.lz_validity.ended inserter.meanings.lz_validity.Reads.Post
+lz-validity-is-settled κs a x y = answer
+
 pub lz-read-value-is-settled : Settled inserter.values.lz_read_value.ended inserter.values.lz_read_value.Reads.Post
 lz-read-value-is-settled κs a x y = answer
 

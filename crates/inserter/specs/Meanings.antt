@@ -15,6 +15,11 @@ use Rattle.tsunami.specs.declared.meaning.Arrival.the-variants.{At, Arrived, Ou
 use Rattle.tsunami.specs.declared.meaning.Height.{Height}
 use Rattle.tsunami.specs.declared.meaning.Height.the-variants.{Code, Unknown as NoHeightKnown, OutOfRange as NotAHeight}
 use Rattle.tsunami.specs.Meaning.{arrivalOf, heightOf}
+use Rattle.volcano.specs.declared.meaning.ActivityTime.{ActivityTime}
+use Rattle.volcano.specs.declared.meaning.ActivityTime.the-variants.{At as AtTime, Unknown as NoTimeKnown, OutOfRange as NotATime}
+use Rattle.volcano.specs.declared.meaning.Validity.{Validity}
+use Rattle.volcano.specs.declared.meaning.Validity.the-variants.{DayHourMinute, DayHour, Day, Nothing, OutOfRange as NotAnAmbiguity}
+use Rattle.volcano.specs.Meaning.{activityTimeOf, validityOf}
 use Rattle.report.specs.Meaning.{usedOf}
 use Rattle.record_bytes.specs.Unpacked.{recordFrom}
 
@@ -70,6 +75,26 @@ heightWord NotAHeight = 0
 
 abbrev pub heightAnswer : ℕ → ℕ
 heightAnswer code = heightWord (heightOf code)
+
+-- a time of an activity has its day in front, and each of the three the bits that it has in a frame: 5, 5 and 6
+abbrev pub activityWord : ActivityTime → ℕ
+activityWord (AtTime day hour minute) = known (day * 2 ^ 11 + hour * 2 ^ 6 + minute)
+activityWord NoTimeKnown = unknown
+activityWord NotATime = 0
+
+abbrev pub activityAnswer : ℕ → ℕ → ℕ → ℕ
+activityAnswer day hour minute = activityWord (activityTimeOf day hour minute)
+
+-- how many of day, hour and minute are valid
+abbrev pub validityWord : Validity → ℕ
+validityWord DayHourMinute = known 3
+validityWord DayHour = known 2
+validityWord Day = known 1
+validityWord Nothing = known 0
+validityWord NotAnAmbiguity = 0
+
+abbrev pub validityAnswer : ℕ → ℕ
+validityAnswer code = validityWord (validityOf code)
 
 abbrev pub slotsAnswer : List ℕ → ℕ
 slotsAnswer bytes = usedOf (recordFrom bytes)

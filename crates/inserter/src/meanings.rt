@@ -1,12 +1,15 @@
 // What a number of a record says. No table has a first row for a number that it does not know: such a
-// number is told as 0, which is neither a depth, a magnitude, a prefecture, an arrival nor a height.
+// number is told as 0, which is neither a depth, a magnitude, a prefecture, an arrival, a height, a time nor what is
+// valid of one.
 ghost use mathlib.Core.Path.{_≡_};
-ghost use Rattle.inserter.specs.Meanings.{depthAnswer, magnitudeAnswer, prefectureAnswer, arrivalAnswer, heightAnswer, slotsAnswer};
+ghost use Rattle.inserter.specs.Meanings.{depthAnswer, magnitudeAnswer, prefectureAnswer, arrivalAnswer, heightAnswer, activityAnswer, validityAnswer, slotsAnswer};
 use ash_fall::meaning::Prefecture;
 use hypocenter::meaning::Depth;
 use hypocenter::meaning::Magnitude;
 use tsunami::meaning::Arrival;
 use tsunami::meaning::Height;
+use volcano::meaning::ActivityTime;
+use volcano::meaning::Validity;
 
 // 1 in the second byte and the kilometres, 0 to 500, in the last two; 2 there for deeper than 500 km, 3 for
 // unknown; 0 for a code that no depth has.
@@ -36,7 +39,7 @@ pub extern "C" fn lz_magnitude(code: u8) -> u32
     }
 }
 
-// The prefecture, 1 to 47, that a place of an ash fall report lies in; 0 where it lies in none.
+// The prefecture, 1 to 47, that a place of a volcano or an ash fall report lies in; 0 where it lies in none.
 #[no_mangle]
 pub extern "C" fn lz_prefecture(place: u64) -> u32
     ensures { λ r. ⌜ r ≡ prefectureAnswer place ⌝ }
@@ -69,6 +72,36 @@ pub extern "C" fn lz_height(code: u8) -> u32
         Height::Code(code) => 0x1_0000 + code as u32,
         Height::Unknown => 0x3_0000,
         Height::OutOfRange => 0,
+    }
+}
+
+// 1 in the second byte and behind it, in as many bits as they have in a frame, day, hour and minute; 3 there where nobody
+// knows when the activity was; 0 for one or two of the codes without the others, and for numbers that are neither.
+#[no_mangle]
+pub extern "C" fn lz_activity(day: u8, hour: u8, minute: u8) -> u32
+    ensures { λ r. ⌜ r ≡ activityAnswer day hour minute ⌝ }
+{
+    match ActivityTime::of(day, hour, minute) {
+        ActivityTime::At { day, hour, minute } => {
+            0x1_0000 + (day as u32) * 0x800 + (hour as u32) * 0x40 + minute as u32
+        }
+        ActivityTime::Unknown => 0x3_0000,
+        ActivityTime::OutOfRange => 0,
+    }
+}
+
+// 1 in the second byte, and in the last how many of day, hour and minute are valid, from the front; 0 for a code that no
+// ambiguity has.
+#[no_mangle]
+pub extern "C" fn lz_validity(ambiguity: u8) -> u32
+    ensures { λ r. ⌜ r ≡ validityAnswer ambiguity ⌝ }
+{
+    match Validity::of(ambiguity) {
+        Validity::DayHourMinute => 0x1_0003,
+        Validity::DayHour => 0x1_0002,
+        Validity::Day => 0x1_0001,
+        Validity::Nothing => 0x1_0000,
+        Validity::OutOfRange => 0,
     }
 }
 

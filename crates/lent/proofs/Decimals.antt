@@ -47,6 +47,18 @@ decimal-length : (k n : ℕ) → n < 10 ^ suc k → length (decimal n) ≤ suc k
 decimal-length zero n h = simp (decimal-one n h) (omega arith)
 decimal-length (suc k) n h = longer k n (ltb n 10) refl λ b. decimal-length k (n / 10) (div-lt-iff-lt-mul {k = 10} {x = n} {y = 10 ^ suc k} (omega arith) .1 (omega (arith, h)))
 
+-- and room for that many is enough
+enough : (k f n : ℕ) → n < 10 ^ suc k → n ≤ f → figures f n ≡ figures k n
+unfolding figures
+enough zero zero n h b = refl
+enough zero (suc f) n h b = simp (lt-ltb n 10 h)
+enough (suc k) zero n h b = simp (lt-ltb n 10 (omega arith))
+enough (suc k) (suc f) n h b = by-size f k n (ltb n 10) refl λ t. enough k f (n / 10) (div-lt-iff-lt-mul {k = 10} {x = n} {y = 10 ^ suc k} (omega arith) .1 (omega (arith, h))) (omega (arith, smaller n t))
+
+pub decimal-by : (k n : ℕ) → n < 10 ^ suc k → decimal n ≡ figures k n
+unfolding decimal
+decimal-by k n h = enough k n n h (omega arith)
+
 -- numbers of one byte, of four and of eight
 pub three-digits : (n : ℕ) → n < 256 → length (decimal n) ≤ 3
 three-digits n h = decimal-length 2 n (omega arith)

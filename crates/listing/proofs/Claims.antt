@@ -1,10 +1,11 @@
 -- What is claimed of the listing (document 01, "The listing").
 use Rattle.report.specs.declared.record.Record.{Record}
 use Rattle.report.specs.declared.body.Body.{Body}
-use Rattle.report.specs.declared.body.Body.the-variants.{AshFall, Hypocenter, Intensity, Nankai, Tsunami}
+use Rattle.report.specs.declared.body.Body.the-variants.{AshFall, Flood, Hypocenter, Intensity, Nankai, Tsunami, Volcano}
 use Rattle.intensity.specs.declared.Shaking.{Shaking}
 use Rattle.ash_fall.specs.declared.Eruption.{Eruption}
 use Rattle.tsunami.specs.declared.Warning.{Warning}
+use Rattle.volcano.specs.declared.Activity.{Activity}
 use Rattle.hypocenter.specs.declared.Quake.{Quake}
 use Rattle.nankai.specs.declared.PageNumbers.{PageNumbers}
 use Rattle.report.specs.Meaning.{usedOf}
@@ -149,16 +150,22 @@ carriage-return-makes-17 n a b = other-byte-makes-17 n a b 13 refl
 pub empty-line-makes-17 : (n : ℕ) → lineRow n [] ≡ row17 n
 empty-line-makes-17 n = other-length-makes-17 n [] (λ e. omega arith)
 
--- "slots used in categories 3 and 9", and of category 5 "the listing counts them as slots": the number of used slots there, and nothing
--- in the others
+-- "slots used in categories 3 and 9", of category 5 "the listing counts them as slots", and of 8 and 11 "the listing counts places and areas as
+-- slots": the number of used slots there, and nothing in the others
 pub slots-are-shown-in-category-3 : (r : Record) (t : Shaking) → r .body ≡ Intensity t → rowFor Fine r .slots ≡ Number (usedOf r)
 slots-are-shown-in-category-3 r t e = ap (λ (b : Body). slotsEntry (layout b .slots .count) (usedOf r)) e
 
 pub slots-are-shown-in-category-5 : (r : Record) (w : Warning) → r .body ≡ Tsunami w → rowFor Fine r .slots ≡ Number (usedOf r)
 slots-are-shown-in-category-5 r w e = ap (λ (b : Body). slotsEntry (layout b .slots .count) (usedOf r)) e
 
+pub slots-are-shown-in-category-8 : (r : Record) (a : Activity) → r .body ≡ Volcano a → rowFor Fine r .slots ≡ Number (usedOf r)
+slots-are-shown-in-category-8 r a e = ap (λ (b : Body). slotsEntry (layout b .slots .count) (usedOf r)) e
+
 pub slots-are-shown-in-category-9 : (r : Record) (u : Eruption) → r .body ≡ AshFall u → rowFor Fine r .slots ≡ Number (usedOf r)
 slots-are-shown-in-category-9 r u e = ap (λ (b : Body). slotsEntry (layout b .slots .count) (usedOf r)) e
+
+pub slots-are-shown-in-category-11 : (r : Record) → r .body ≡ Flood → rowFor Fine r .slots ≡ Number (usedOf r)
+slots-are-shown-in-category-11 r e = ap (λ (b : Body). slotsEntry (layout b .slots .count) (usedOf r)) e
 
 pub no-slots-are-shown-in-category-2 : (r : Record) (q : Quake) → r .body ≡ Hypocenter q → rowFor Fine r .slots ≡ Dash
 no-slots-are-shown-in-category-2 r q e = ap (λ (b : Body). slotsEntry (layout b .slots .count) (usedOf r)) e

@@ -1,5 +1,5 @@
 -- The lines of text of a listing (document 01, "The listing"): "line number from 1, answer (0 when read), first bit for 8, 9, 10, category, slots used in
--- categories 3 and 9", and in category 5; and document 02: "a sixth column `value`".
+-- categories 3 and 9", and in categories 5, 8 and 11; and document 02: "a sixth column `value`".
 use Prim.Native.Nat.{ℕ}
 use mathlib.Core.Bool.{_||_, cond}
 use mathlib.Core.List.{List, [], _∷_, _++_}
@@ -26,7 +26,7 @@ use Rattle.report.specs.Categories.{layout}
 abbrev pub placeEntry : Said → Entry
 placeEntry a = cond (eqb (a .number) 8 || eqb (a .number) 10) (Number (a .place)) Dash
 
--- "slots used in categories 3 and 9", and in 5: in those that have slots
+-- "slots used in categories 3 and 9", and in 5, 8 and 11: in those that have slots
 abbrev pub slotsEntry : ℕ → ℕ → Entry
 slotsEntry count n = cond (eqb count 0) Dash (Number n)
 

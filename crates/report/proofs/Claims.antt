@@ -32,7 +32,7 @@ use Rattle.report.specs.Rules.{KeepsRules}
 use Rattle.report.proofs.Reading.Frames.{layoutOf, frameValues, conforming-fine, fine-conforming, reason, faulty, faultless, no-gap}
 use Rattle.rows.proofs.Layouts.Lengths.{Filled, frame-filled}
 use Rattle.slots.proofs.Used.{counted-used}
-use Rattle.report.proofs.Reading.Used.{others-empty, used-area, used-place, used-prefecture, used-slot-kept}
+use Rattle.report.proofs.Reading.Used.{InPrefecture, others-empty, told-activity, used-area, used-flood-area, used-place, used-prefecture, used-slot-kept, used-volcano-place}
 use Rattle.rows.proofs.Rules.Numbers.{answered-value, answers-not-nine, not-nine, says-apart, says-numbered, zero-fine}
 use Rattle.report.proofs.Reading.ReadNumbers.{read-ten, refused-zeros}
 use Rattle.report.proofs.PaperValues.{found, expected, paperValues, every-row}
@@ -42,8 +42,8 @@ use Rattle.report.proofs.RoundTrips.WrittenThenRead.{returns, read-agai
 use Rattle.report.proofs.RoundTrips.OneToOne.{WrittenBy, frame-of-record, same-frame, same-record, conforming-written, written-bytes}
 use Rattle.report.specs.declared.body.Body.{Body}
 use Rattle.report.proofs.Shaped.{Shaped, frame-shaped, record-filled}
-use Rattle.report.proofs.Categories.{all, layouts, samples, secondSpare, spares-told}
-use Rattle.report.proofs.RoundTrips.Witnesses.{Each, WrittenAndRead, full, full-written-and-read, samples-written-and-read}
+use Rattle.report.proofs.Categories.{Each, all, firstSpare, layouts, samples, secondSpare, spares-told}
+use Rattle.report.proofs.RoundTrips.Witnesses.{WrittenAndRead, full, full-written-and-read, samples-written-and-read}
 use Rattle.report.proofs.Spares.{first-too-wide, no-second, on-the-wire, second-too-wide, sparing}
 use Rattle.rows.proofs.Rules.Spares.{spareBit, spareRows, spareWidth}
 use Rattle.report.proofs.SpareValues.{spareValues, every-row as every-spare-row}
@@ -52,8 +52,6 @@ use Rattle.report.specs.Categories.{categories, layout, preambles}
 use Rattle.slots.specs.Slots.{noSlot, slotParts, slotsValues, slotValues}
 use Rattle.slots.specs.declared.slot.Slot.{Slot}
 use Rattle.ash_fall.specs.AshFall.{ashFall}
-use Rattle.ash_fall.specs.Meaning.{prefectureOf}
-use Rattle.ash_fall.specs.declared.meaning.Prefecture.the-variants.{Number}
 use Rattle.rows.specs.Kept.{AllNormal, In, Keeps, Kept, latest}
 use Rattle.rows.proofs.Rules.Groups.{group-kept, group-of-codes, mixed-group, passed}
 use Rattle.tsunami.specs.Tsunami.{tsunami}
@@ -61,6 +59,13 @@ use Rattle.tsunami.specs.Meaning.{arrivalOf, heightOf}
 use Rattle.tsunami.specs.declared.meaning.Arrival.the-variants.{At, Arrived}
 use Rattle.tsunami.specs.declared.meaning.Height.the-variants.{Code, Unknown}
 use Rattle.report.proofs.TsunamiValues.{tsunamiValues, every-row as every-tsunami-row}
+use Rattle.volcano.specs.Volcano.{volcano}
+use Rattle.volcano.specs.Meaning.{activityTimeOf, validityOf}
+use Rattle.volcano.specs.declared.meaning.ActivityTime.the-variants.{At as AtTime, Unknown as UnknownTime}
+use Rattle.volcano.specs.declared.meaning.Validity.the-variants.{OutOfRange as NoAmbiguity}
+use Rattle.report.proofs.VolcanoValues.{volcanoValues, every-row as every-volcano-row}
+use Rattle.flood.specs.Flood.{flood}
+use Rattle.report.proofs.FloodValues.{floodValues, every-row as every-flood-row}
 use Rattle.intensity.specs.Intensity.{intensity}
 use Rattle.report.proofs.Tables.{all-rows-rise, passing, tables-tile as tiled, rules-fit as fit}
 use Rattle.report.proofs.Writing.Validity.{recordLayout, recordValues, valid-keeps, keeps-valid, reason as write-reason, faulty as write-faulty, faultless as write-faultless, fault-free}
@@ -96,21 +101,33 @@ slots-of-category-9-are-hour-strength-and-place s = refl
 pub slots-of-category-5-are-day-hour-minute-height-and-region : (s : Slot) → slotValues (tsunami .slots) s ≡ s .day ∷ s .hour ∷ s .minute ∷ s .strength ∷ s .place ∷ []
 slots-of-category-5-are-day-hour-minute-height-and-region s = refl
 
+pub slots-of-category-8-are-places : (s : Slot) → slotValues (volcano .slots) s ≡ s .place ∷ []
+slots-of-category-8-are-places s = refl
+
+pub slots-of-category-11-are-level-and-region : (s : Slot) → slotValues (flood .slots) s ≡ s .strength ∷ s .place ∷ []
+slots-of-category-11-are-level-and-region s = refl
+
 -- "Rc and It take the values which that table gives for this category": of the eight that Rc can hold and the four of It, each category
 -- lets these through.
 pub each-category-has-its-own-rc : map {B = ℕ × List ℕ} (λ l. (l .code, passing (allowed (l .rcs)) 0 8)) (drop 1 layouts)
-    ≡ (2, 2 ∷ 7 ∷ []) ∷ (3, 2 ∷ 7 ∷ []) ∷ (4, 2 ∷ 7 ∷ []) ∷ (5, 1 ∷ 3 ∷ 7 ∷ []) ∷ (9, 2 ∷ 7 ∷ []) ∷ []
+    ≡ (2, 2 ∷ 7 ∷ []) ∷ (3, 2 ∷ 7 ∷ []) ∷ (4, 2 ∷ 7 ∷ []) ∷ (5, 1 ∷ 3 ∷ 7 ∷ []) ∷ (8, 2 ∷ 3 ∷ 7 ∷ []) ∷ (9, 2 ∷ 7 ∷ []) ∷ (11, 2 ∷ 3 ∷ 7 ∷ []) ∷ []
 unfolding allowed
 each-category-has-its-own-rc = refl
 
 pub each-category-has-its-own-it : map {B = ℕ × List ℕ} (λ l. (l .code, passing (allowed (l .types)) 0 4)) (drop 1 layouts)
-    ≡ (2, 0 ∷ 2 ∷ []) ∷ (3, 0 ∷ 2 ∷ []) ∷ (4, 0 ∷ 2 ∷ []) ∷ (5, 0 ∷ 2 ∷ []) ∷ (9, 0 ∷ 1 ∷ 2 ∷ []) ∷ []
+    ≡ (2, 0 ∷ 2 ∷ []) ∷ (3, 0 ∷ 2 ∷ []) ∷ (4, 0 ∷ 2 ∷ []) ∷ (5, 0 ∷ 2 ∷ []) ∷ (8, 0 ∷ 1 ∷ 2 ∷ []) ∷ (9, 0 ∷ 1 ∷ 2 ∷ []) ∷ (11, 0 ∷ 1 ∷ 2 ∷ []) ∷ []
 unfolding allowed
 each-category-has-its-own-it = refl
 
 -- "Keep every spare's bits": which bits of each category are spare, the first one and how many.
 pub each-category-has-its-own-spares : map {B = ℕ × List (ℕ × ℕ)} (λ l. (l .code, spareRows (allRows l))) (drop 1 layouts)
-    ≡ (2, (43, 10) ∷ (163, 51) ∷ []) ∷ (3, (43, 10) ∷ (213, 1) ∷ []) ∷ (4, (43, 10) ∷ (213, 1) ∷ []) ∷ (5, (43, 10) ∷ []) ∷ (9, (43, 10) ∷ (199, 15) ∷ []) ∷ []
+    ≡ (2, (43, 10) ∷ (163, 51) ∷ [])
+    ∷ (3, (43, 10) ∷ (213, 1) ∷ [])
+    ∷ (4, (43, 10) ∷ (213, 1) ∷ [])
+    ∷ (5, (43, 10) ∷ [])
+    ∷ (8, (43, 7) ∷ (203, 11) ∷ [])
+    ∷ (9, (43, 10) ∷ (199, 15) ∷ [])
+    ∷ (11, (43, 10) ∷ (185, 29) ∷ []) ∷ []
 each-category-has-its-own-spares = refl
 
 -- ---- groups: "An arrival code that speaks for hour and minute together must have both; a mixture is refused"
@@ -209,8 +226,13 @@ used-prefectures-are-1-to-47 s c e i u = used-prefecture s c e i u
 -- .. and each used slot of an ash fall report a place that lies in one: "A place divided by 100000, remainder dropped, is its
 -- prefecture, 1 to 47".
 pub used-places-lie-in-a-prefecture : (s : List ℕ) → Conforms s → fieldOf s 17 4 ≡ 9 → (i : ℕ) → i < usedOf (recordOf s)
-    → (p : ℕ) × ((prefectureOf (getD (recordOf s .slots) i noSlot .place) ≡ Number p) × ((1 ≤ p) × (p ≤ 47)))
+    → InPrefecture (getD (recordOf s .slots) i noSlot .place)
 used-places-lie-in-a-prefecture s c e i u = used-place s c e i u
+
+-- .. as does each of a volcano report ..
+pub used-places-of-a-volcano-report-lie-in-a-prefecture : (s : List ℕ) → Conforms s → fieldOf s 17 4 ≡ 8 → (i : ℕ) → i < usedOf (recordOf s)
+    → InPrefecture (getD (recordOf s .slots) i noSlot .place)
+used-places-of-a-volcano-report-lie-in-a-prefecture s c e i u = used-volcano-place s c e i u
 
 -- .. and each used area of a tsunami report an arrival that is told, a height that is told or known to be unknown, and a region: "five
 -- areas, each with arrival time, height code and forecast region".
@@ -219,6 +241,18 @@ pub used-areas-are-told : (s : List ℕ) → Conforms s → fieldOf s 17 4 ≡ 5
     ((arrivalOf (a .hour) (a .minute) ≡ Arrived) ⊎ (arrivalOf (a .hour) (a .minute) ≡ At (a .hour) (a .minute)))
     × (((heightOf (a .strength) ≡ Unknown) ⊎ (heightOf (a .strength) ≡ Code (a .strength))) × ((100 ≤ a .place) × (a .place ≤ 1000)))
 used-areas-are-told s c e i u = used-area s c e i u
+
+-- .. and each used area of a flood report a level and a region: "up to three areas with level and region".
+pub used-areas-of-a-flood-report-have-level-and-region : (s : List ℕ) → Conforms s → fieldOf s 17 4 ≡ 11 → (i : ℕ) → i < usedOf (recordOf s)
+    → let a = getD (recordOf s .slots) i noSlot in ((1 ≤ a .strength) × (a .strength ≤ 15)) × ((10175000100 ≤ a .place) × (a .place ≤ 899999999999))
+used-areas-of-a-flood-report-have-level-and-region s c e i u = used-flood-area s c e i u
+
+-- "An activity time may be unknown .. A mixture is refused": in a volcano report that is read the three fields say a time or that it is
+-- unknown, and the ambiguity says how much of it is valid.
+pub activity-times-are-told : (s : List ℕ) → Conforms s → fieldOf s 17 4 ≡ 8
+    → let time = activityTimeOf (fieldOf s 53 5) (fieldOf s 58 5) (fieldOf s 63 6) in
+    ((time ≡ UnknownTime) ⊎ (time ≡ AtTime (fieldOf s 53 5) (fieldOf s 58 5) (fieldOf s 63 6))) × (validityOf (fieldOf s 50 3) ≡ NoAmbiguity → ⊥)
+activity-times-are-told s c e = told-activity s c e
 
 -- "After an empty slot every slot is empty": in a frame that is read, none behind the counted ones has.
 pub other-slots-are-empty : (s : List ℕ) → Conforms s → (i : ℕ) → usedOf (recordOf s) ≤ i → i < layoutOf s .slots .count
@@ -266,6 +300,14 @@ paper-values-hold = every-row
 pub tsunami-values-hold : map found tsunamiValues ≡ map expected tsunamiValues
 tsunami-values-hold = every-tsunami-row
 
+-- Of category 8: every mixture of a time and its codes, and every bound of its table ..
+pub volcano-values-hold : map found volcanoValues ≡ map expected volcanoValues
+volcano-values-hold = every-volcano-row
+
+-- .. and of category 11: regions of forty bits, half-filled areas, and every bound of its table.
+pub flood-values-hold : map found floodValues ≡ map expected floodValues
+flood-values-hold = every-flood-row
+
 -- Spares at their bounds, and together with other faults.
 pub spare-values-hold : map found spareValues ≡ map expected spareValues
 spare-values-hold = every-spare-row
@@ -277,7 +319,7 @@ pub any-spare-of-a-frame-passes : (s : List ℕ) (a w : ℕ) (past next : List �
 any-spare-of-a-frame-passes s a w past next = field-lt s a w
 
 -- .. it is kept in the record ..
-pub the-record-has-the-spares-of-its-frame : (s : List ℕ) → Conforms s → recordOf s .spares ≡ record { first = fieldOf s 43 10; second = secondSpare s (fieldOf s 17 4) }
+pub the-record-has-the-spares-of-its-frame : (s : List ℕ) → Conforms s → recordOf s .spares ≡ record { first = firstSpare s (fieldOf s 17 4); second = secondSpare s (fieldOf s 17 4) }
 unfolding recordAs
 the-record-has-the-spares-of-its-frame s c = spares-told s (fieldOf s 17 4) (c .category)
 
@@ -419,5 +461,7 @@ pub those-samples-have-every-spare-bit-set : map (λ r. r .spares) (map full sam
     ∷ record { first = 1023; second = 1 }
     ∷ record { first = 1023; second = 1 }
     ∷ record { first = 1023; second = 0 }
-    ∷ record { first = 1023; second = 32767 } ∷ []
+    ∷ record { first = 127; second = 2047 }
+    ∷ record { first = 1023; second = 32767 }
+    ∷ record { first = 1023; second = 2 ^ 29 - 1 } ∷ []
 those-samples-have-every-spare-bit-set = refl

@@ -10,6 +10,8 @@ pub mod Writing
 pub mod RoundTrips
 pub mod PaperValues
 pub mod TsunamiValues
+pub mod VolcanoValues
+pub mod FloodValues
 pub mod SpareValues
 pub mod Claims
 pub mod Settled

@@ -31,8 +31,14 @@ nankai = 2
 abbrev tsunami : ℕ
 tsunami = 3
 
+abbrev volcano : ℕ
+volcano = 4
+
 abbrev ashFall : ℕ
-ashFall = 4
+ashFall = 5
+
+abbrev flood : ℕ
+flood = 6
 
 -- the sample of a category with these spares
 abbrev spared : ℕ → ℕ → ℕ → Record
@@ -85,9 +91,15 @@ spareValues =
     ∷ spares tsunami 1024 0 gives eightAt 43 1024
     ∷ spares tsunami 0 1 gives elevenIs
     ∷ spares tsunami 1024 1 gives elevenIs
+    ∷ spares volcano 127 2047 gives passes
+    ∷ spares volcano 128 0 gives eightAt 43 128  -- seven bits
+    ∷ spares volcano 0 2048 gives eightAt 203 2048
     ∷ spares ashFall 1023 32767 gives passes
     ∷ spares ashFall 1024 0 gives eightAt 43 1024
     ∷ spares ashFall 0 32768 gives eightAt 199 32768
+    ∷ spares flood 1023 (2 ^ 29 - 1) gives passes
+    ∷ spares flood 1024 0 gives eightAt 43 1024
+    ∷ spares flood 0 (2 ^ 29) gives eightAt 185 (2 ^ 29)
     -- by lowest bit: It at 41, strength in the first place at 86, Reserved at 220
     ∷ written (withIt 3 (spared ashFall 1024 32768)) gives eightAt 41 3
     ∷ written (withStrength 0 (spared ashFall 1024 0)) gives eightAt 43 1024

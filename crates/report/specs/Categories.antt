@@ -1,6 +1,6 @@
 -- Which preambles and categories there are, and what each category has: its table, what its values say, and the values of what
 -- they say.
-use Rattle.report.specs.declared.body.Body.the-variants.{AshFall, Hypocenter, Intensity, Nankai, NoCategory, Tsunami}
+use Rattle.report.specs.declared.body.Body.the-variants.{AshFall, Flood, Hypocenter, Intensity, Nankai, NoCategory, Tsunami, Volcano}
 use Rattle.report.specs.declared.body.Body.{Body}
 use Rattle.rows.specs.Layout.{Layout, Span, _to_, noCategory}
 use mathlib.Core.List.{List, [], _∷_}
@@ -13,6 +13,8 @@ use Rattle.hypocenter.specs.Hypocenter.{hypocenter, quakeFrom, quakeValues}
 use Rattle.intensity.specs.Intensity.{intensity, shakingFrom, shakingValues}
 use Rattle.nankai.specs.Nankai.{nankai, numberValues, numbersFrom}
 use Rattle.tsunami.specs.Tsunami.{tsunami, warningFrom, warningValues}
+use Rattle.volcano.specs.Volcano.{volcano, activityFrom, activityValues}
+use Rattle.flood.specs.Flood.{flood, floodValues}
 use Prim.Native.Nat.{ℕ}
 use Rattle.report.specs.declared.body.Paged.the-variants.{NoPages, Numbers}
 use Rattle.report.specs.declared.body.Paged.{Paged}
@@ -21,9 +23,9 @@ use Rattle.report.specs.declared.body.Paged.{Paged}
 abbrev pub preambles : List Span
 preambles = 0x53 to 0x53 ∷ 0x9A to 0x9A ∷ 0xC6 to 0xC6 ∷ []
 
--- "category not 2, 3, 4, 9", and "7 no longer covers category 5"
+-- "category not 2, 3, 4, 9", "7 no longer covers category 5", and "7 covers two categories fewer": 8 and 11
 abbrev pub categories : List Span
-categories = 2 to 2 ∷ 3 to 3 ∷ 4 to 4 ∷ 5 to 5 ∷ 9 to 9 ∷ []
+categories = 2 to 2 ∷ 3 to 3 ∷ 4 to 4 ∷ 5 to 5 ∷ 8 to 8 ∷ 9 to 9 ∷ 11 to 11 ∷ []
 
 abbrev pub layout : Body → Layout
 layout NoCategory = noCategory
@@ -31,7 +33,9 @@ layout (Hypocenter q) = hypocenter
 layout (Intensity t) = intensity
 layout (Nankai p) = nankai
 layout (Tsunami w) = tsunami
+layout (Volcano a) = volcano
 layout (AshFall e) = ashFall
+layout Flood = flood
 
 -- by the category's code, from the values of its rows in front of the slots and behind them
 unfoldable pub bodyFrom : (Layout → Sides) → ℕ → Body
@@ -39,7 +43,9 @@ bodyFrom v dc =
     cond (eqb dc 2) (Hypocenter (quakeFrom (v hypocenter)))
     (cond (eqb dc 3) (Intensity (shakingFrom (v intensity)))
     (cond (eqb dc 4) (Nankai (numbersFrom (v nankai)))
-    (cond (eqb dc 5) (Tsunami (warningFrom (v tsunami))) (cond (eqb dc 9) (AshFall (eruptionFrom (v ashFall))) NoCategory))))
+    (cond (eqb dc 5) (Tsunami (warningFrom (v tsunami)))
+    (cond (eqb dc 8) (Volcano (activityFrom (v volcano)))
+    (cond (eqb dc 9) (AshFall (eruptionFrom (v ashFall))) (cond (eqb dc 11) Flood NoCategory))))))
 
 -- those values, with the ones of the spares, which a record has beside its body
 abbrev pub sidesOf : Body → Spares → Sides
@@ -48,7 +54,9 @@ sidesOf (Hypocenter q) z = quakeValues q z
 sidesOf (Intensity t) z = shakingValues t z
 sidesOf (Nankai p) z = numberValues p z
 sidesOf (Tsunami w) z = warningValues w z
+sidesOf (Volcano a) z = activityValues a z
 sidesOf (AshFall e) z = eruptionValues e z
+sidesOf Flood z = floodValues z
 
 -- the page that a body brings: category 4 alone has pages
 abbrev pub pagedOf : Body → Paged
@@ -57,4 +65,6 @@ pagedOf (Hypocenter q) = NoPages
 pagedOf (Intensity t) = NoPages
 pagedOf (Nankai p) = Numbers p
 pagedOf (Tsunami w) = NoPages
+pagedOf (Volcano a) = NoPages
 pagedOf (AshFall e) = NoPages
+pagedOf Flood = NoPages

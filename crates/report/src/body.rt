@@ -13,10 +13,8 @@ ghost use Rattle.report.specs.Categories.{layout, bodyFrom, sidesOf, pag
 ghost use Rattle.report.specs.Runs.Told.{toldOf, withSpares};
 ghost use Rattle.rows.specs.Layout.{noCategory};
 use ash_fall::Eruption;
-use ash_fall::places::places_of;
 use hypocenter::Quake;
 use intensity::Shaking;
-use intensity::prefectures::prefectures_of;
 use nankai::PageNumbers;
 use rows::codes::is_two_or_seven;
 use rows::codes::is_uncorrected;
@@ -27,7 +25,7 @@ use rows::fields::Table;
 use rows::refusal::Verdict;
 use slots::slot::Slot;
 use tsunami::Warning;
-use tsunami::areas::areas_of;
+use volcano::Activity;
 
 // What the category of a record has beside slots and text. `NoCategory` is none: the record of
 // zeros has it.
@@ -37,7 +35,10 @@ pub enum Body {
     Intensity(Shaking),
     Nankai(PageNumbers),
     Tsunami(Warning),
+    Volcano(Activity),
     AshFall(Eruption),
+    // It has nothing beside its slots.
+    Flood,
 }
 
 // Which page of a bulletin a body brings, where its category has pages.
@@ -79,7 +80,7 @@ impl Content {
             },
             3 => Content {
                 body: Body::Intensity(Shaking::of(f)),
-                slots: prefectures_of(f),
+                slots: intensity::prefectures::prefectures_of(f),
                 text: [0u8; 18],
                 spares: intensity::spares(f),
             },
@@ -91,15 +92,27 @@ impl Content {
             },
             5 => Content {
                 body: Body::Tsunami(Warning::of(f)),
-                slots: areas_of(f),
+                slots: tsunami::areas::areas_of(f),
                 text: [0u8; 18],
                 spares: tsunami::spares(f),
             },
+            8 => Content {
+                body: Body::Volcano(Activity::of(f)),
+                slots: volcano::places::places_of(f),
+                text: [0u8; 18],
+                spares: volcano::spares(f),
+            },
             9 => Content {
                 body: Body::AshFall(Eruption::of(f)),
-                slots: places_of(f),
+                slots: ash_fall::places::places_of(f),
                 text: [0u8; 18],
                 spares: ash_fall::spares(f),
+            },
+            11 => Content {
+                body: Body::Flood,
+                slots: flood::areas::areas_of(f),
+                text: [0u8; 18],
+                spares: flood::spares(f),
             },
             _ => Content {
                 body: Body::NoCategory,
@@ -191,7 +204,9 @@ impl Body {
                 behind[2],
             ),
             5 => Body::Tsunami(Warning::of_values(front)).with_spares(front[0], 0),
+            8 => Body::Volcano(Activity::of_values(front)).with_spares(front[0], behind[0]),
             9 => Body::AshFall(Eruption::of_values(front)).with_spares(front[0], behind[0]),
+            11 => Body::Flood.with_spares(front[0], behind[0]),
             _ => Body::NoCategory.with_spares(front[0], 0),
         }
     }
@@ -206,7 +221,9 @@ impl Body {
             Body::Intensity(_) => 3,
             Body::Nankai(_) => 4,
             Body::Tsunami(_) => 5,
+            Body::Volcano(_) => 8,
             Body::AshFall(_) => 9,
+            Body::Flood => 11,
         }
     }
 
@@ -220,7 +237,9 @@ impl Body {
             Body::Intensity(_) => 16,
             Body::Nankai(_) => 0,
             Body::Tsunami(_) => 5,
+            Body::Volcano(_) => 5,
             Body::AshFall(_) => 4,
+            Body::Flood => 3,
         }
     }
 
@@ -240,7 +259,9 @@ impl Body {
             Body::Intensity(s) => s.check(found, c, slots, spares),
             Body::Nankai(p) => p.check(found, c, spares),
             Body::Tsunami(w) => w.check(found, c, slots, spares),
+            Body::Volcano(a) => a.check(found, c, slots, spares),
             Body::AshFall(e) => e.check(found, c, slots, spares),
+            Body::Flood => flood::check(found, c, slots, spares),
         }
     }
 
@@ -255,7 +276,9 @@ impl Body {
             Body::Intensity(s) => s.fields(spares),
             Body::Nankai(p) => p.fields(spares),
             Body::Tsunami(w) => w.fields(spares),
+            Body::Volcano(a) => a.fields(spares),
             Body::AshFall(e) => e.fields(spares),
+            Body::Flood => flood::fields(spares),
         }
     }
 

@@ -30,6 +30,9 @@ Verdict-ranged-is-settled κs a x y = answer
 pub is-two-or-seven-is-settled : Settled rows.codes.is_two_or_seven.ended rows.codes.is_two_or_seven.Reads.Post
 is-two-or-seven-is-settled κs a x y = answer
 
+pub is-two-three-or-seven-is-settled : Settled rows.codes.is_two_three_or_seven.ended rows.codes.is_two_three_or_seven.Reads.Post
+is-two-three-or-seven-is-settled κs a x y = answer
+
 pub is-uncorrected-is-settled : Settled rows.codes.is_uncorrected.ended rows.codes.is_uncorrected.Reads.Post
 is-uncorrected-is-settled κs a x y = answer
 

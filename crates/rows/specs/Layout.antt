@@ -127,6 +127,10 @@ ending =
 abbrev pub twoOrSeven : List Span
 twoOrSeven = 2 to 2 ∷ 7 to 7 ∷ []
 
+-- "Rc: 2, 3, 7" of volcano and flood
+abbrev pub twoThreeOrSeven : List Span
+twoThreeOrSeven = 2 to 2 ∷ 3 to 3 ∷ 7 to 7 ∷ []
+
 -- "Three notifications at 53, 62, 71, 9 bits each: 0 or 101-500"
 abbrev pub notified : List Span
 notified = 0 to 0 ∷ 101 to 500 ∷ []

@@ -1,6 +1,6 @@
 // Which values several categories have in Rc, in It and in a notification, one value at a time.
 ghost use mathlib.Core.Path.{_≡_};
-ghost use Rattle.rows.specs.Layout.{twoOrSeven, uncorrected, corrected, notified};
+ghost use Rattle.rows.specs.Layout.{twoOrSeven, twoThreeOrSeven, uncorrected, corrected, notified};
 ghost use Rattle.rows.specs.Runs.Questions.{_then_};
 ghost use Rattle.rows.specs.Runs.Verdict.{allowed, ranged};
 use crate::refusal::Verdict;
@@ -10,6 +10,15 @@ pub fn is_two_or_seven(v: u8) -> bool
 {
     match v {
         2 | 7 => true,
+        _ => false,
+    }
+}
+
+pub fn is_two_three_or_seven(v: u8) -> bool
+    ensures { λ r. ⌜ r ≡ allowed twoThreeOrSeven v ⌝ }
+{
+    match v {
+        2 | 3 | 7 => true,
         _ => false,
     }
 }

@@ -14,6 +14,7 @@ use rows::fields::Spares;
 use rows::time::Time;
 use slots::slot::Slot;
 use tsunami::Warning;
+use volcano::Activity;
 
 // Tables 2-1-4, 2-2-1 and 2-3-2: the coast of Ehime on the Uwa Sea, Kochi, the coast of Oita on the
 // Bungo Channel, and Miyazaki.
@@ -29,12 +30,18 @@ const MIYAZAKI: u64 = 760;
 // code blank: it is 3 by table 4.1.2-23 of document 001.
 const THREE_METRES: u8 = 3;
 
-// Tables 2-4-2 and 2-5-1: Aso city, Takamori town and Minamiaso village in Kumamoto.
+// Tables 2-4-1, 2-4-2 and 2-5-1: Aso city, Takamori town and Minamiaso village in Kumamoto.
 const ASO: u64 = 4321400;
 
 const TAKAMORI: u64 = 4342800;
 
 const MINAMIASO: u64 = 4343300;
+
+// Tables 2-4-1 to 2-5-1: Mount Aso.
+const MOUNT_ASO: u16 = 503;
+
+// Tables 2-6-2 and 2-7-1: the Kinu river in Tochigi and Ibaraki.
+const KINU: u64 = 830303020300;
 
 // Table 2-3-1: the text of the Nankai bulletin in UTF-8, one page of 18 bytes a line, the last one
 // filled up with zeros.
@@ -252,12 +259,28 @@ fn show_pages(at: Time) {
     }
 }
 
-// Mount Aso.
+// Table 2-4-1: an eruption of Mount Aso at a time without ambiguity, and three places.
+fn volcano(at: Time) -> Record {
+    let activity = Activity {
+        ambiguity: 0,
+        time: at,
+        warning: 52,
+        volcano: MOUNT_ASO,
+    };
+    let places = four_slots(
+        slot(0, 0, ASO),
+        slot(0, 0, TAKAMORI),
+        slot(0, 0, MINAMIASO),
+        Slot::none(),
+    );
+    issued(at, Body::Volcano(activity), places, [0u8; 18])
+}
+
 fn aso(at: Time, warning: u8) -> Eruption {
     Eruption {
         time: at,
         warning: warning,
-        volcano: 503,
+        volcano: MOUNT_ASO,
     }
 }
 
@@ -318,6 +341,13 @@ fn show_detailed(at: Time) {
     );
 }
 
+// Tables 2-6-2 and 2-7-1: one area, whose level is 2 while it is warned and 1 when the warning is lifted.
+fn flood(at: Time, level: u8) -> Record {
+    let mut areas = no_slots();
+    areas[0] = slot(0, level, KINU);
+    issued(at, Body::Flood, areas, [0u8; 18])
+}
+
 fn at(day: u8, hour: u8, minute: u8) -> Time {
     Time {
         day: day,
@@ -340,8 +370,14 @@ fn main() {
     show_pages(at(27, 1, 35));
     show(tsunami_lifted(at(11, 4, 35)));
     show(tsunami_lifted(at(27, 1, 35)));
+    show(volcano(at(11, 5, 10)));
+    show(volcano(at(27, 2, 10)));
     show_preliminary(at(11, 5, 10));
     show_preliminary(at(27, 2, 10));
     show_detailed(at(11, 5, 20));
     show_detailed(at(27, 2, 20));
+    show(flood(at(11, 5, 35), 2));
+    show(flood(at(27, 2, 35), 2));
+    show(flood(at(11, 5, 50), 1));
+    show(flood(at(27, 2, 50), 1));
 }

@@ -141,7 +141,8 @@ pub fn spoiled_page(random: &mut Random, name: &Name, texts: &[[u8; PAGE_LENGTH]
 /// A valid record of another category that is issued as the bulletin is, but for
 /// an Rc that its category does not have.
 pub fn other_category(random: &mut Random, name: &Name) -> Record {
-    let others = [Category::Hypocenter, Category::Intensity, Category::Tsunami, Category::AshFall];
+    let mut others = Category::ALL.to_vec();
+    others.retain(|&category| category != Category::Nankai);
     let category = random.pick(&others);
     let record = valid_record(random, category);
     let rc = if category == Category::Tsunami { record.rc } else { name.rc };

@@ -2,7 +2,8 @@
 //! the writer, so that a mistake in the writer cannot hide one in the reader.
 
 use super::{
-    allowed_value, any_category, bounds, field_bounds, part_of_zero, raw_frame, seal, RawValue,
+    allowed_value, any_category, any_disturbance, any_group, bounds, field_bounds, part_of_zero,
+    raw_frame, seal, Disturbance, RawValue,
 };
 use crate::bits::{bit, get, set, set_bit, Frame};
 use crate::fields::{
@@ -12,7 +13,16 @@ use crate::random::Random;
 use crate::record::{Category, PREAMBLES};
 
 /// The categories that have slots.
-pub const WITH_SLOTS: [Category; 3] = [Category::Intensity, Category::Tsunami, Category::AshFall];
+pub const WITH_SLOTS: [Category; 5] =
+    [Category::Intensity, Category::Tsunami, Category::Volcano, Category::AshFall, Category::Flood];
+
+/// Those whose slots have several parts, so that one can be half filled. In
+/// category 8 a slot is a place alone, which is there or is not.
+pub const WITH_PARTS: [Category; 4] =
+    [Category::Intensity, Category::Tsunami, Category::AshFall, Category::Flood];
+
+/// The categories that have a group: the arrival of each area, the activity time.
+pub const WITH_GROUPS: [Category; 2] = [Category::Tsunami, Category::Volcano];
 
 /// A frame that must be read, with a random number of used slots and whatever
 /// its spares hold.
@@ -76,7 +86,7 @@ pub fn gap_frame(random: &mut Random) -> Frame {
 /// A frame whose last used slot, perhaps the first, has a part of zero that no
 /// used slot may have.
 pub fn half_filled_frame(random: &mut Random) -> Frame {
-    let category = random.pick(&WITH_SLOTS);
+    let category = random.pick(&WITH_PARTS);
     let layout = slot_layout(category);
     let used = 1 + random.below(layout.count);
     let base = frame_with_slots(random, category, used);
@@ -169,15 +179,12 @@ pub fn page_frame(random: &mut Random) -> Frame {
     raw_frame(&base, &[page, chosen])
 }
 
-/// A tsunami frame with some hour and some minute in one area, each normal, its
-/// code or next to one: hours and codes are mixed in all ways.
-pub fn arrival_frame(random: &mut Random) -> Frame {
-    let layout = slot_layout(Category::Tsunami);
-    let base = frame_with_slots(random, Category::Tsunami, layout.count);
-    let area = layout.parts(random.below(layout.count));
-    let group = area.iter().filter(|part| part.group_code.is_some());
-    let values = group.map(|part| random.pick(&field_bounds(part)).any_edge(random));
-    raw_frame(&base, &values.collect::<Vec<_>>())
+/// A frame in which each field of some group is normal, has its code or is next to
+/// one: times and codes are mixed in all ways.
+pub fn group_frame(random: &mut Random) -> Frame {
+    let category = random.pick(&WITH_GROUPS);
+    let base = frame_with_slots(random, category, slot_layout(category).count);
+    raw_frame(&base, &mixed_codes(random, category))
 }
 
 /// A right frame with one of refusals 2 to 7 made true.
@@ -264,6 +271,12 @@ fn edge_value(random: &mut Random, category: Category) -> RawValue {
     random.pick(&bounds(category)).any_edge(random)
 }
 
+/// Values for the fields of some group, each by itself.
+fn mixed_codes(random: &mut Random, category: Category) -> Vec<RawValue> {
+    let group = any_group(random, category);
+    group.iter().map(|field| random.pick(&field_bounds(field)).any_edge(random)).collect()
+}
+
 fn clear_slot(frame: &mut Frame, category: Category, slot: usize) {
     for part in slot_layout(category).parts(slot) {
         set(frame, part.first, part.width, 0);
@@ -281,20 +294,18 @@ fn use_spare(random: &mut Random, frame: &mut Frame, category: Category) {
 /// One disturbance behind the envelope; the parity is left to be renewed. A bit
 /// in a spare is no fault and must hide none.
 fn disturb(random: &mut Random, frame: &mut Frame, category: Category) {
-    let layout = slot_layout(category);
-    match random.below(if layout.count == 0 { 2 } else { 4 }) {
-        0 => {
-            let raw = edge_value(random, category);
-            set(frame, raw.first, raw.width, raw.value);
+    let count = slot_layout(category).count;
+    let values = match any_disturbance(random, category) {
+        Disturbance::FieldAtEdge => vec![edge_value(random, category)],
+        Disturbance::SpareUsed => return use_spare(random, frame, category),
+        Disturbance::SlotEmptied => return clear_slot(frame, category, random.below(count)),
+        Disturbance::PartOfZero => {
+            let slot = random.below(count);
+            vec![part_of_zero(random, category, slot)]
         }
-        1 => use_spare(random, frame, category),
-        2 => clear_slot(frame, category, random.below(layout.count)),
-        _ => {
-            let slot = random.below(layout.count);
-            let raw = part_of_zero(random, category, slot);
-            set(frame, raw.first, raw.width, raw.value);
-        }
-    }
+        Disturbance::CodesMixed => mixed_codes(random, category),
+    };
+    values.iter().for_each(|raw| set(frame, raw.first, raw.width, raw.value));
 }
 
 /// Makes one of refusals 2 to 7 true; the parity stays right in all but 4.

@@ -1,12 +1,13 @@
 //! Records for the writer to refuse.
 
 use super::{
-    any_category, bounds, full_record, part_of_zero, set_number, slot_count, valid_record,
-    valid_slot, Bounds, WITH_SLOTS,
+    any_category, any_disturbance, any_group, bounds, field_bounds, full_record, lacking_parts,
+    part_of_zero, set_number, slot_count, valid_record, valid_slot, Bounds, Disturbance,
+    WITH_GROUPS, WITH_PARTS, WITH_SLOTS,
 };
 use crate::fields::{spares, RESERVED};
 use crate::random::Random;
-use crate::record::{Body, Category, Record, Slot, PREAMBLES};
+use crate::record::{Body, Category, Part, Record, Slot, PREAMBLES};
 
 /// Every number of a category at its bounds, just outside and far outside,
 /// one at a time, in records that are otherwise valid with all slots used.
@@ -52,7 +53,7 @@ pub fn gap_record(random: &mut Random) -> Record {
 /// A record with a part of zero in some slot, perhaps the first, that no used
 /// slot may have.
 pub fn half_filled_record(random: &mut Random) -> Record {
-    let category = random.pick(&WITH_SLOTS);
+    let category = random.pick(&WITH_PARTS);
     let mut record = valid_record(random, category);
     let slot = random.below(slot_count(category));
     record.slots[slot] = valid_slot(random, category);
@@ -94,18 +95,12 @@ pub fn page_record(random: &mut Random) -> Record {
     record
 }
 
-/// A tsunami record with some hour and some minute in one area, each normal, its
-/// code, next to one, or too wide and with the low bits of its code.
-pub fn arrival_record(random: &mut Random) -> Record {
-    let mut record = valid_record(random, Category::Tsunami);
-    let area = random.below(slot_count(Category::Tsunami));
-    let hour = random.pick(&[0, 23, 24, 30, 31, 32, 32 + 31, 255]);
-    let minute = random.pick(&[0, 59, 60, 62, 63, 64, 64 + 63, 255]);
-    for slot in record.slots.iter_mut().take(area + 1) {
-        *slot = valid_slot(random, Category::Tsunami);
-    }
-    record.slots[area].hour = hour;
-    record.slots[area].minute = minute;
+/// A record in which each number of some group is normal, has its code, is next to
+/// one, or is too wide and has the low bits of one.
+pub fn group_record(random: &mut Random) -> Record {
+    let category = random.pick(&WITH_GROUPS);
+    let mut record = full_record(random, category);
+    mix_codes(random, &mut record, category);
     record
 }
 
@@ -119,18 +114,8 @@ pub fn spare_record(random: &mut Random, category: Category) -> Record {
 /// A record disturbed in two to six places.
 pub fn many_faults_record(random: &mut Random, category: Category) -> Record {
     let mut record = valid_record(random, category);
-    let count = slot_count(category);
     for _ in 0..2 + random.below(5) {
-        let choices = if count == 0 { 2 } else { 4 };
-        match random.below(choices) {
-            0 => put_edge(random, &mut record, category),
-            1 => put_spare(random, &mut record, category),
-            2 => record.slots[random.below(count)] = Slot::default(),
-            _ => {
-                let slot = random.below(count);
-                clear_part(random, &mut record, category, slot);
-            }
-        }
+        disturb(random, &mut record, category);
     }
     if random.one_in(8) {
         fill_unused(random, &mut record, category);
@@ -182,6 +167,29 @@ fn put_edge(random: &mut Random, record: &mut Record, category: Category) {
     set_number(record, row.first, random.pick(&record_edges(&row)));
 }
 
+/// One disturbance, which may be none where the slot was empty before.
+fn disturb(random: &mut Random, record: &mut Record, category: Category) {
+    let count = slot_count(category);
+    match any_disturbance(random, category) {
+        Disturbance::FieldAtEdge => put_edge(random, record, category),
+        Disturbance::SpareUsed => put_spare(random, record, category),
+        Disturbance::SlotEmptied => record.slots[random.below(count)] = Slot::default(),
+        Disturbance::PartOfZero => {
+            let slot = random.below(count);
+            clear_part(random, record, category, slot);
+        }
+        Disturbance::CodesMixed => mix_codes(random, record, category),
+    }
+}
+
+/// Sets the numbers of some group, each by itself.
+fn mix_codes(random: &mut Random, record: &mut Record, category: Category) {
+    for field in any_group(random, category) {
+        let row = random.pick(&field_bounds(&field));
+        set_number(record, row.first, random.pick(&row.edges_and_too_wide()));
+    }
+}
+
 /// Puts a number of 1 to 64 bits into a spare, each length as often as another.
 fn put_spare(random: &mut Random, record: &mut Record, category: Category) {
     let spare = random.pick(&spares(category));
@@ -206,21 +214,14 @@ fn fill_unused(random: &mut Random, record: &mut Record, category: Category) {
         record.text[random.below(18)] = 1 + random.bits(7) as u8;
         return;
     }
-    // An area of category 5 has all that a slot can hold.
-    let full = if category == Category::Tsunami { slot_count(category) } else { 0 };
-    let number = full + random.below(16 - full);
-    let parts = match category {
-        _ if number >= slot_count(category) => 5,
-        Category::AshFall => 2,
-        _ => 3,
+    let (count, lacking) = (slot_count(category), lacking_parts(category));
+    // A slot that lacks nothing has no part to be filled.
+    let first = if lacking.is_empty() { count } else { 0 };
+    let number = first + random.below(16 - first);
+    let part = random.pick(if number < count { lacking } else { &Part::ALL });
+    let something = match part {
+        Part::Place => 1 << random.below(64),
+        _ => 1 + random.bits(7),
     };
-    let slot = &mut record.slots[number];
-    let something = 1 + random.bits(7) as u8;
-    match random.below(parts) {
-        0 => slot.day = something,
-        1 => slot.minute = something,
-        2 => slot.hour = something,
-        3 => slot.strength = something,
-        _ => slot.place = 1 << random.below(64),
-    }
+    record.slots[number].set_part(part, something);
 }

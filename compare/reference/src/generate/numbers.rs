@@ -1,8 +1,8 @@
 //! The numbers of a record by the bits of the frame that they go to.
 
-use crate::fields::spares;
+use crate::fields::{slot_layout, spares};
 use crate::random::Random;
-use crate::record::{Body, Hypocenter, Record, Slot, Time};
+use crate::record::{Body, Hypocenter, Part, Record, Slot, Time};
 
 /// A number that does not fit so many bits, whatever its low bits say.
 pub fn too_wide(random: &mut Random, width: usize) -> u64 {
@@ -21,10 +21,17 @@ pub fn set_number(record: &mut Record, first: usize, value: u64) {
         35 => record.minute = byte(value),
         41 => record.it = byte(value),
         220 => record.reserved = byte(value),
-        _ => match spare_at(record, first) {
-            Some(spare) => *spare = value,
-            None => set_in_category(record, first, value),
-        },
+        _ => set_by_category(record, first, value),
+    }
+}
+
+fn set_by_category(record: &mut Record, first: usize, value: u64) {
+    if let Some(spare) = spare_at(record, first) {
+        *spare = value;
+    } else if let Some((slot, part)) = part_at(record, first) {
+        slot.set_part(part, value);
+    } else {
+        set_in_body(&mut record.body, first, value);
     }
 }
 
@@ -35,15 +42,23 @@ fn spare_at(record: &mut Record, first: usize) -> Option<&mut u64> {
     record.spares.get_mut(number)
 }
 
-fn set_in_category(record: &mut Record, first: usize, value: u64) {
-    match &mut record.body {
-        Body::Nothing => {}
+/// The slot of the record's category, and its part, that begins at a bit.
+fn part_at(record: &mut Record, first: usize) -> Option<(&mut Slot, Part)> {
+    let layout = slot_layout(record.body.category()?);
+    let own = record.slots.iter_mut().enumerate().take(layout.count);
+    let mut parts = own.filter_map(|(number, slot)| {
+        let parts = layout.named_parts(number);
+        let (part, _) = parts.into_iter().find(|(_, field)| field.first == first)?;
+        Some((slot, part))
+    });
+    parts.next()
+}
+
+fn set_in_body(body: &mut Body, first: usize, value: u64) {
+    match body {
+        Body::Nothing | Body::Flood => {}
         Body::Hypocenter(hypocenter) => set_in_hypocenter(hypocenter, first, value),
-        Body::Intensity(time) if first < 69 => set_in_time(time, first - 53, value),
-        Body::Intensity(_) => {
-            let slot = &mut record.slots[(first - 69) / 9];
-            set_in_slot(slot, 3 + (first - 69) % 9, value);
-        }
+        Body::Intensity(time) => set_in_time(time, first - 53, value),
         Body::Nankai { serial, page, total } => match first {
             53 => *serial = byte(value),
             201 => *page = byte(value),
@@ -51,14 +66,18 @@ fn set_in_category(record: &mut Record, first: usize, value: u64) {
         },
         Body::Tsunami { notifications, warning } => match first {
             53..=79 => notifications[(first - 53) / 9] = short(value),
-            80 => *warning = byte(value),
-            _ => set_in_area(&mut record.slots[(first - 84) / 26], (first - 84) % 26, value),
+            _ => *warning = byte(value),
+        },
+        Body::Volcano { ambiguity, time, warning, volcano } => match first {
+            50 => *ambiguity = byte(value),
+            53..=68 => set_in_time(time, first - 53, value),
+            69 => *warning = byte(value),
+            _ => *volcano = short(value),
         },
         Body::AshFall { time, warning, volcano } => match first {
             53..=68 => set_in_time(time, first - 53, value),
             69 => *warning = byte(value),
-            71 => *volcano = short(value),
-            _ => set_in_slot(&mut record.slots[(first - 83) / 29], (first - 83) % 29, value),
+            _ => *volcano = short(value),
         },
     }
 }
@@ -86,25 +105,6 @@ fn set_in_time(time: &mut Time, offset: usize, value: u64) {
         0 => time.day = byte(value),
         5 => time.hour = byte(value),
         _ => time.minute = byte(value),
-    }
-}
-
-/// The offset is that of ash fall, where the hour comes first.
-fn set_in_slot(slot: &mut Slot, offset: usize, value: u64) {
-    match offset {
-        0 => slot.hour = byte(value),
-        3 => slot.strength = byte(value),
-        _ => slot.place = value,
-    }
-}
-
-fn set_in_area(slot: &mut Slot, offset: usize, value: u64) {
-    match offset {
-        0 => slot.day = byte(value),
-        1 => slot.hour = byte(value),
-        6 => slot.minute = byte(value),
-        12 => slot.strength = byte(value),
-        _ => slot.place = value,
     }
 }
 

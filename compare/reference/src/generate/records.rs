@@ -3,7 +3,7 @@
 
 use super::allowed_value;
 use crate::random::Random;
-use crate::record::{Angle, Body, Category, Hypocenter, Record, Slot, Time, PREAMBLES};
+use crate::record::{Angle, Body, Category, Hypocenter, Part, Record, Slot, Time, PREAMBLES};
 
 /// A record that must be written, with a random number of used slots and
 /// whatever its spares hold.
@@ -35,10 +35,16 @@ pub fn full_record(random: &mut Random, category: Category) -> Record {
 pub fn valid_slot(random: &mut Random, category: Category) -> Slot {
     match category {
         Category::Tsunami => valid_area(random),
+        Category::Volcano => Slot { place: local_government(random), ..Slot::default() },
         Category::AshFall => Slot {
             hour: byte(random, &[(1, 6)]),
             strength: byte(random, &[(1, 7)]),
-            place: allowed_value(random, &[(110_000, 4_799_999)]),
+            place: local_government(random),
+            ..Slot::default()
+        },
+        Category::Flood => Slot {
+            strength: byte(random, &[(1, 15)]),
+            place: allowed_value(random, &[(10_175_000_100, 899_999_999_999)]),
             ..Slot::default()
         },
         _ => Slot {
@@ -54,8 +60,19 @@ pub fn slot_count(category: Category) -> usize {
     match category {
         Category::Hypocenter | Category::Nankai => 0,
         Category::Intensity => 16,
-        Category::Tsunami => 5,
+        Category::Tsunami | Category::Volcano => 5,
         Category::AshFall => 4,
+        Category::Flood => 3,
+    }
+}
+
+/// The parts that the slots of a category do not have.
+pub fn lacking_parts(category: Category) -> &'static [Part] {
+    match category {
+        Category::Hypocenter | Category::Nankai | Category::Tsunami => &[],
+        Category::Intensity | Category::Flood => &[Part::Day, Part::Hour, Part::Minute],
+        Category::Volcano => &[Part::Day, Part::Hour, Part::Minute, Part::Strength],
+        Category::AshFall => &[Part::Day, Part::Minute],
     }
 }
 
@@ -65,7 +82,9 @@ pub fn valid_spares(random: &mut Random, category: Category) -> [u64; 2] {
         Category::Hypocenter => [10, 51],
         Category::Intensity | Category::Nankai => [10, 1],
         Category::Tsunami => [10, 0],
+        Category::Volcano => [7, 11],
         Category::AshFall => [10, 15],
+        Category::Flood => [10, 29],
     };
     widths.map(|width| allowed_value(random, &[(0, (1 << width) - 1)]))
 }
@@ -83,19 +102,22 @@ fn valid_area(random: &mut Random) -> Slot {
     }
 }
 
+fn local_government(random: &mut Random) -> u64 {
+    allowed_value(random, &[(110_000, 4_799_999)])
+}
+
 fn valid_rc(random: &mut Random, category: Category) -> u8 {
-    if category == Category::Tsunami {
-        random.pick(&[1, 3, 7])
-    } else {
-        random.pick(&[2, 7])
+    match category {
+        Category::Tsunami => random.pick(&[1, 3, 7]),
+        Category::Volcano | Category::Flood => random.pick(&[2, 3, 7]),
+        _ => random.pick(&[2, 7]),
     }
 }
 
 fn valid_it(random: &mut Random, category: Category) -> u8 {
-    if category == Category::AshFall {
-        random.pick(&[0, 1, 2])
-    } else {
-        random.pick(&[0, 2])
+    match category {
+        Category::Volcano | Category::AshFall | Category::Flood => random.pick(&[0, 1, 2]),
+        _ => random.pick(&[0, 2]),
     }
 }
 
@@ -112,11 +134,18 @@ fn valid_body(random: &mut Random, category: Category) -> Body {
             notifications: valid_notifications(random),
             warning: byte(random, &[(1, 15)]),
         },
+        Category::Volcano => Body::Volcano {
+            ambiguity: byte(random, &[(0, 7)]),
+            time: valid_activity(random),
+            warning: byte(random, &[(1, 127)]),
+            volcano: short(random, &[(101, 4000)]),
+        },
         Category::AshFall => Body::AshFall {
             time: valid_time(random),
             warning: random.pick(&[1, 2]),
             volcano: short(random, &[(101, 4000)]),
         },
+        Category::Flood => Body::Flood,
     }
 }
 
@@ -150,6 +179,15 @@ fn valid_time(random: &mut Random) -> Time {
         day: byte(random, &[(1, 31)]),
         hour: byte(random, &[(0, 23)]),
         minute: byte(random, &[(0, 59)]),
+    }
+}
+
+/// The time of volcanic activity, which may be unknown.
+fn valid_activity(random: &mut Random) -> Time {
+    if random.one_in(4) {
+        Time { day: 0, hour: 31, minute: 63 }
+    } else {
+        valid_time(random)
     }
 }
 

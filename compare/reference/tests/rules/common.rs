@@ -18,7 +18,9 @@ pub fn base_record(category: Category) -> Record {
         Category::Intensity => samples::intensity(),
         Category::Nankai => samples::nankai(),
         Category::Tsunami => samples::tsunami_warning(),
+        Category::Volcano => samples::volcano(),
         Category::AshFall => samples::ash_fall_detailed(),
+        Category::Flood => samples::flood_warning(),
     };
     samples[0]
 }

@@ -6,7 +6,9 @@ use reference::bits::{get, Frame};
 use reference::check::out_of_range;
 use reference::fields::{fields, slot_layout, Field};
 use reference::read::read;
-use reference::record::Category::{self, AshFall, Hypocenter, Intensity, Nankai, Tsunami};
+use reference::record::Category::{
+    self, AshFall, Flood, Hypocenter, Intensity, Nankai, Tsunami, Volcano,
+};
 
 type Row = (usize, usize, fn(u64) -> bool);
 
@@ -18,6 +20,7 @@ const READ: (u8, u8, u64) = (0, 0, 0);
 
 const RC: Row = (14, 3, |value| value == 2 || value == 7);
 const RC_OF_TSUNAMI: Row = (14, 3, |value| value == 1 || value == 3 || value == 7);
+const RC_OR_REGULAR: Row = (14, 3, |value| value == 2 || value == 3 || value == 7);
 
 const ISSUE_TIME: [Row; 4] = [
     (21, 4, |value| (1..13).contains(&value)),
@@ -27,6 +30,7 @@ const ISSUE_TIME: [Row; 4] = [
 ];
 
 const SPARE1: Row = (43, 10, |_| true);
+const SHORT_SPARE1: Row = (43, 7, |_| true);
 
 const HYPOCENTER: [Row; 19] = [
     (41, 2, |value| value == 0 || value == 2),
@@ -75,6 +79,18 @@ const TSUNAMI: [Row; 5] = [
     (80, 4, |value| value != 0),
 ];
 
+/// A single code beside a time is a value like any other.
+const VOLCANO: [Row; 8] = [
+    (41, 2, |value| value < 3),
+    (50, 3, |_| true),
+    (53, 5, |value| value != 0),
+    (58, 5, |value| value < 24),
+    (63, 6, |value| value < 60),
+    (69, 7, |value| value != 0),
+    (76, 12, |value| (101..4001).contains(&value)),
+    (203, 11, |_| true),
+];
+
 const ASH_FALL: [Row; 7] = [
     (41, 2, |value| value < 3),
     (53, 5, |value| value != 0),
@@ -85,16 +101,19 @@ const ASH_FALL: [Row; 7] = [
     (199, 15, |_| true),
 ];
 
+const FLOOD: [Row; 2] = [(41, 2, |value| value < 3), (185, 29, |_| true)];
+
 fn rows(category: Category) -> Vec<Row> {
-    let own: &[Row] = match category {
-        Hypocenter => &HYPOCENTER,
-        Intensity => &INTENSITY,
-        Nankai => &NANKAI,
-        Tsunami => &TSUNAMI,
-        AshFall => &ASH_FALL,
+    let (rc, spare1, own): (Row, Row, &[Row]) = match category {
+        Hypocenter => (RC, SPARE1, &HYPOCENTER),
+        Intensity => (RC, SPARE1, &INTENSITY),
+        Nankai => (RC, SPARE1, &NANKAI),
+        Tsunami => (RC_OF_TSUNAMI, SPARE1, &TSUNAMI),
+        Volcano => (RC_OR_REGULAR, SHORT_SPARE1, &VOLCANO),
+        AshFall => (RC, SPARE1, &ASH_FALL),
+        Flood => (RC_OR_REGULAR, SPARE1, &FLOOD),
     };
-    let rc = if category == Tsunami { RC_OF_TSUNAMI } else { RC };
-    [&[rc, SPARE1], &ISSUE_TIME[..], own].concat()
+    [&[rc, spare1], &ISSUE_TIME[..], own].concat()
 }
 
 #[test]
@@ -169,8 +188,8 @@ fn every_day_hour_and_minute_of_every_area() {
     }
 }
 
-/// The rule of a group does not know how many fields it has: a time whose day,
-/// hour and minute are unknown together.
+/// The rule of a group does not know how many fields it has or where they stand: a
+/// time whose day, hour and minute are unknown together, with each of its faults.
 #[test]
 fn a_group_of_three_has_all_codes_or_none() {
     let row = |first, width, allowed, code| Field { first, width, allowed, group_code: Some(code) };

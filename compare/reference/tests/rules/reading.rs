@@ -3,7 +3,9 @@
 use crate::common::{base_frame, changed, outcome, reading};
 use reference::bits::{set, Frame};
 use reference::read::read;
-use reference::record::Category::{self, AshFall, Hypocenter, Intensity, Nankai, Tsunami};
+use reference::record::Category::{
+    self, AshFall, Flood, Hypocenter, Intensity, Nankai, Tsunami, Volcano,
+};
 
 /// The digits of a frame line as a frame, two padding bits added to 252.
 fn of_digits(digits: &str) -> Frame {
@@ -67,18 +69,23 @@ fn places_of_ash_fall_begin_at_110000() {
 }
 
 #[test]
-fn only_ash_fall_knows_a_correction() {
+fn volcano_ash_fall_and_flood_know_a_correction() {
     for category in Category::ALL {
-        let correction = if category == AshFall { (0, 0) } else { (8, 41) };
+        let known = [Volcano, AshFall, Flood].contains(&category);
+        let correction = if known { (0, 0) } else { (8, 41) };
         let expected = [(0, 0), correction, (0, 0), (8, 41)];
         assert_eq!([0, 1, 2, 3].map(|it| reading(category, &[(41, 2, it)])), expected);
     }
 }
 
 #[test]
-fn tsunami_reports_have_an_rc_of_their_own() {
+fn each_category_has_the_rc_of_its_own_table() {
     for category in Category::ALL {
-        let right: &[u64] = if category == Tsunami { &[1, 3, 7] } else { &[2, 7] };
+        let right: &[u64] = match category {
+            Tsunami => &[1, 3, 7],
+            Volcano | Flood => &[2, 3, 7],
+            _ => &[2, 7],
+        };
         for rc in 0..8 {
             let expected = if right.contains(&rc) { (0, 0) } else { (8, 14) };
             assert_eq!(reading(category, &[(14, 3, rc)]), expected, "{category:?} {rc}");
@@ -90,11 +97,11 @@ fn tsunami_reports_have_an_rc_of_their_own() {
 fn every_other_category_is_7() {
     for code in 0..16 {
         let numbers = Category::ALL.map(|category| reading(category, &[(17, 4, code)]).0);
-        if [2, 3, 4, 5, 9].contains(&code) {
+        if [2, 3, 4, 5, 8, 9, 11].contains(&code) {
             // The frame that has this category from the start is read.
             assert!(numbers.contains(&0) && !numbers.contains(&7), "{code}");
         } else {
-            assert_eq!(numbers, [7; 5], "{code}");
+            assert_eq!(numbers, [7; 7], "{code}");
         }
     }
 }
@@ -104,7 +111,7 @@ fn every_other_category_is_7() {
 fn the_refusals_of_the_envelope_come_in_order() {
     for category in Category::ALL {
         let base = base_frame(category);
-        let bad = [(0, 8, 0), (8, 6, 44), (214, 6, 2), (17, 4, 8), (14, 3, 0), (41, 2, 3)];
+        let bad = [(0, 8, 0), (8, 6, 44), (214, 6, 2), (17, 4, 10), (14, 3, 0), (41, 2, 3)];
         let mut worst = changed(&base, &bad);
         set(&mut worst, 250, 6, 1);
         assert_eq!(outcome(read(&worst[..31])), (1, 0));

@@ -9,7 +9,9 @@ use reference::fields::spares;
 use reference::generate::valid_record;
 use reference::random::Random;
 use reference::read::read;
-use reference::record::Category::{self, AshFall, Hypocenter, Intensity, Nankai, Tsunami};
+use reference::record::Category::{
+    self, AshFall, Flood, Hypocenter, Intensity, Nankai, Tsunami, Volcano,
+};
 use reference::record::Record;
 use reference::write::write;
 
@@ -19,12 +21,14 @@ const COUNT: usize = 50_000;
 type Row = (usize, usize, u64);
 
 /// Spare1 and, where there is one, Spare2.
-const SPARES: [(Category, &[Row]); 5] = [
+const SPARES: [(Category, &[Row]); 7] = [
     (Hypocenter, &[(43, 10, 1023), (163, 51, 2_251_799_813_685_247)]),
     (Intensity, &[(43, 10, 1023), (213, 1, 1)]),
     (Nankai, &[(43, 10, 1023), (213, 1, 1)]),
     (Tsunami, &[(43, 10, 1023)]),
+    (Volcano, &[(43, 7, 127), (203, 11, 2047)]),
     (AshFall, &[(43, 10, 1023), (199, 15, 32_767)]),
+    (Flood, &[(43, 10, 1023), (185, 29, 536_870_911)]),
 ];
 
 /// One spare of one category.

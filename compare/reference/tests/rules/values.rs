@@ -6,7 +6,9 @@ use reference::fields::{fields_and_parts, Field, PAGE_NUMBER_FIRST, PAGE_TOTAL_F
 use reference::generate::{any_frame, any_record, set_number};
 use reference::random::Random;
 use reference::read::read;
-use reference::record::Category::{self, AshFall, Hypocenter, Intensity, Nankai, Tsunami};
+use reference::record::Category::{
+    self, AshFall, Flood, Hypocenter, Intensity, Nankai, Tsunami, Volcano,
+};
 use reference::record::{Body, Record, Refusal, Slot};
 use reference::write::{placed, write};
 
@@ -16,7 +18,7 @@ const COUNT: usize = 200_000;
 type Values = &'static [(usize, usize, u64)];
 
 /// What is put into a sample, and the place and the value that are told of it.
-const FAULTS: [(Category, Values, u8, u64); 22] = [
+const FAULTS: [(Category, Values, u8, u64); 35] = [
     (Hypocenter, &[(14, 3, 3)], 14, 3),
     (Hypocenter, &[(21, 4, 13)], 21, 13),
     (Hypocenter, &[(25, 5, 0)], 25, 0),
@@ -37,8 +39,21 @@ const FAULTS: [(Category, Values, u8, u64); 22] = [
     (Tsunami, &[(85, 5, 5), (90, 6, 63)], 90, 63),
     (Tsunami, &[(85, 5, 31), (90, 6, 63), (111, 5, 30)], 111, 30),
     (Tsunami, &[(100, 10, 1001)], 100, 1001),
+    (Volcano, &[(53, 5, 0), (58, 5, 31), (63, 6, 5)], 53, 0),
+    (Volcano, &[(53, 5, 0), (58, 5, 5), (63, 6, 63)], 53, 0),
+    (Volcano, &[(53, 5, 0), (58, 5, 0), (63, 6, 0)], 53, 0),
+    (Volcano, &[(53, 5, 5), (58, 5, 31), (63, 6, 63)], 58, 31),
+    (Volcano, &[(53, 5, 5), (58, 5, 5), (63, 6, 63)], 63, 63),
+    (Volcano, &[(53, 5, 0), (58, 5, 31), (63, 6, 63), (69, 7, 0)], 69, 0),
+    (Volcano, &[(76, 12, 100)], 76, 100),
+    (Volcano, &[(88, 23, 0)], 88, 0),
+    (Volcano, &[(134, 23, 8_388_607)], 134, 8_388_607),
     (AshFall, &[(71, 12, 4095)], 71, 4095),
     (AshFall, &[(89, 23, 8_388_607)], 89, 8_388_607),
+    (Flood, &[(53, 4, 0)], 53, 0),
+    (Flood, &[(57, 40, 10_175_000_099)], 57, 10_175_000_099),
+    (Flood, &[(57, 40, 900_000_000_000)], 57, 900_000_000_000),
+    (Flood, &[(97, 4, 1), (101, 40, 1_099_511_627_775)], 101, 1_099_511_627_775),
 ];
 
 /// What reading says of a sample with these values, and what writing says.
@@ -58,7 +73,7 @@ fn what_stands_in_the_field_of_a_frame_or_a_record() {
 
 /// A bit of the frame, what is put there in a record, and what the record then
 /// has: it keeps no more than its number can hold.
-const TOO_WIDE: [(Category, usize, u64, u64); 17] = [
+const TOO_WIDE: [(Category, usize, u64, u64); 29] = [
     (Hypocenter, 14, 8 + 7, 15),
     (Hypocenter, 41, u64::MAX, 255),
     (Hypocenter, 53, 512 + 101, 613),
@@ -74,8 +89,20 @@ const TOO_WIDE: [(Category, usize, u64, u64); 17] = [
     (Nankai, 207, u64::MAX, 255),
     (Tsunami, 84, 2, 2),
     (Tsunami, 90, 64 + 63, 127),
+    (Volcano, 43, 128, 128),
+    (Volcano, 50, 8, 8),
+    (Volcano, 53, 32, 32),
+    (Volcano, 63, 64 + 63, 127),
+    (Volcano, 69, 128 + 52, 180),
+    (Volcano, 76, 4096 + 503, 4599),
+    (Volcano, 88, (1 << 23) + 4_321_400, (1 << 23) + 4_321_400),
+    (Volcano, 203, 2048, 2048),
     (AshFall, 89, u64::MAX, u64::MAX),
     (AshFall, 199, 32_768, 32_768),
+    (Flood, 53, 16 + 2, 18),
+    (Flood, 57, (1 << 40) + 830_303_020_300, (1 << 40) + 830_303_020_300),
+    (Flood, 57, u64::MAX, u64::MAX),
+    (Flood, 185, 1 << 29, 1 << 29),
 ];
 
 #[test]

@@ -1,7 +1,9 @@
 //! Writing: values checked by hand, and the order of the refusals.
 
 use crate::common::{base_record, outcome, writing, written};
-use reference::record::Category::{self, AshFall, Hypocenter, Intensity, Nankai, Tsunami};
+use reference::record::Category::{
+    self, AshFall, Flood, Hypocenter, Intensity, Nankai, Tsunami, Volcano,
+};
 use reference::record::{Body, Record, Slot};
 use reference::write::write;
 
@@ -51,7 +53,7 @@ fn all_three_preambles_are_written_as_they_are() {
 
 #[test]
 fn text_where_the_category_has_none() {
-    for category in [Hypocenter, Intensity, Tsunami, AshFall] {
+    for category in [Hypocenter, Intensity, Tsunami, Volcano, AshFall, Flood] {
         for number in 0..18 {
             assert_eq!(writing(category, |record| record.text[number] = 1), (11, 0));
         }
@@ -70,12 +72,14 @@ const WIDE_PLACE: Put = |slot| slot.place = 1 << 32;
 #[test]
 fn something_in_a_slot_where_the_category_has_nothing() {
     // How many slots a category has, and what they lack.
-    let rows: [(Category, usize, &[Put]); 5] = [
+    let rows: [(Category, usize, &[Put]); 7] = [
         (Hypocenter, 0, &[]),
         (Intensity, 16, &[DAY, HOUR, MINUTE]),
         (Nankai, 0, &[]),
         (Tsunami, 5, &[]),
+        (Volcano, 5, &[DAY, HOUR, MINUTE, STRENGTH]),
         (AshFall, 4, &[DAY, MINUTE]),
+        (Flood, 3, &[DAY, HOUR, MINUTE]),
     ];
     for (category, count, lacking) in rows {
         for number in 0..16 {

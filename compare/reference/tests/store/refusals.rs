@@ -160,7 +160,9 @@ fn other_categories_are_12_and_wrong_pages_8() {
         samples::hypocenter(),
         samples::intensity(),
         samples::tsunami_warning(),
+        samples::volcano(),
         samples::ash_fall_detailed(),
+        samples::flood_warning(),
     ];
     for record in others {
         assert_eq!(store.take(&record[0]), refused(12));

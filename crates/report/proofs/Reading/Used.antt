@@ -27,6 +27,13 @@ use Rattle.tsunami.specs.Tsunami.{tsunami}
 use Rattle.tsunami.specs.Meaning.{arrivalOf, heightOf}
 use Rattle.tsunami.specs.declared.meaning.Arrival.the-variants.{At, Arrived}
 use Rattle.tsunami.specs.declared.meaning.Height.the-variants.{Code, Unknown}
+use Rattle.volcano.specs.Volcano.{volcano}
+use Rattle.volcano.specs.Meaning.{activityTimeOf, validityOf}
+use Rattle.volcano.specs.declared.meaning.ActivityTime.the-variants.{At as AtTime, Unknown as UnknownTime}
+use Rattle.volcano.specs.declared.meaning.Validity.the-variants.{OutOfRange as NoAmbiguity}
+use Rattle.volcano.proofs.Claims.{Codes, Timely, an-activity-keeps-its-rules, an-ambiguity-is-told, day-0-with-hour-31-and-minute-63-is-unknown, each-activity-time-is-told}
+use Rattle.flood.specs.Flood.{flood}
+use Rattle.flood.proofs.Claims.{an-area-keeps-its-rules as a-flood-area-keeps-its-rules}
 use Rattle.tsunami.proofs.Claims.{an-area-keeps-its-rules, each-height-is-told-by-its-code, each-time-is-told, height-14-is-unknown, hour-31-with-minute-63-has-arrived}
 use Rattle.report.specs.Categories.{bodyFrom, layout}
 use Rattle.report.proofs.Categories.{listed}
@@ -96,14 +103,47 @@ pub used-prefecture : (s : List ℕ) → Conforms s → fieldOf s 17 4 ≡ 3 →
 unfolding bodyFrom
 used-prefecture s c e i u = one-span 1 47 _ (used-slot-of s c intensity (table-by-code s 3 e) i u .1 .0)
 
-pub used-place : (s : List ℕ) → Conforms s → fieldOf s 17 4 ≡ 9 → (i : ℕ) → i < usedOf (recordOf s)
-    → (p : ℕ) × ((prefectureOf (getD (recordOf s .slots) i noSlot .place) ≡ Number p) × ((1 ≤ p) × (p ≤ 47)))
-unfolding bodyFrom
-used-place s c e i u =
-    let place : ℕ = getD (recordOf s .slots) i noSlot .place in
-    let inside : (110000 ≤ place) × (place ≤ 4799999) = one-span 110000 4799999 place (used-slot-of s c ashFall (table-by-code s 9 e) i u .1 .1 .0) in
+abbrev pub InPrefecture : ℕ → Type 0
+InPrefecture place = (p : ℕ) × ((prefectureOf place ≡ Number p) × ((1 ≤ p) × (p ≤ 47)))
+
+lies : (place : ℕ) → In (110000 to 4799999 ∷ []) place → InPrefecture place
+lies place h =
+    let inside = one-span 110000 4799999 place h in
     let named : prefectureOf place ≡ Number (place / 100000) = each-place-has-a-prefecture place (omega arith) (inside .1) in
     (place / 100000, (named, a-prefecture-is-1-to-47 place (place / 100000) named .1))
+
+pub used-place : (s : List ℕ) → Conforms s → fieldOf s 17 4 ≡ 9 → (i : ℕ) → i < usedOf (recordOf s) → InPrefecture (getD (recordOf s .slots) i noSlot .place)
+unfolding bodyFrom
+used-place s c e i u = lies _ (used-slot-of s c ashFall (table-by-code s 9 e) i u .1 .1 .0)
+
+pub used-volcano-place : (s : List ℕ) → Conforms s → fieldOf s 17 4 ≡ 8 → (i : ℕ) → i < usedOf (recordOf s) → InPrefecture (getD (recordOf s .slots) i noSlot .place)
+unfolding bodyFrom
+used-volcano-place s c e i u = lies _ (used-slot-of s c volcano (table-by-code s 8 e) i u .0)
+
+pub used-flood-area : (s : List ℕ) → Conforms s → fieldOf s 17 4 ≡ 11 → (i : ℕ) → i < usedOf (recordOf s)
+    → let a = getD (recordOf s .slots) i noSlot in ((1 ≤ a .strength) × (a .strength ≤ 15)) × ((10175000100 ≤ a .place) × (a .place ≤ 899999999999))
+unfolding bodyFrom
+used-flood-area s c e i u =
+    let a = getD (recordOf s .slots) i noSlot in
+    a-flood-area-keeps-its-rules (a .strength) (a .place) .0 (used-slot-of s c flood (table-by-code s 11 e) i u)
+
+-- ---- the time of a volcano report, and its ambiguity
+
+pub told-activity : (s : List ℕ) → Conforms s → fieldOf s 17 4 ≡ 8
+    → let time = activityTimeOf (fieldOf s 53 5) (fieldOf s 58 5) (fieldOf s 63 6) in
+    ((time ≡ UnknownTime) ⊎ (time ≡ AtTime (fieldOf s 53 5) (fieldOf s 58 5) (fieldOf s 63 6))) × (validityOf (fieldOf s 50 3) ≡ NoAmbiguity → ⊥)
+unfolding bodyFrom valuesOf
+told-activity s c e =
+    let kept : Kept [] (volcano .front) (map (cut s) (volcano .front)) = subst (λ (l : Layout). Kept [] (l .front) (map (cut s) (l .front))) (table-by-code s 8 e) (c .rows .front) in
+    let k = an-activity-keeps-its-rules (fieldOf s 43 7) (fieldOf s 50 3) (fieldOf s 53 5) (fieldOf s 58 5) (fieldOf s 63 6) (fieldOf s 69 7) (fieldOf s 76 12) .0 kept in
+    (told (fieldOf s 53 5) (fieldOf s 58 5) (fieldOf s 63 6) (k .1 .1 .0), an-ambiguity-is-told (fieldOf s 50 3) (k .1 .0))
+  where
+    told : (d h m : ℕ) → Codes d h m ⊎ Timely d h m → (activityTimeOf d h m ≡ UnknownTime) ⊎ (activityTimeOf d h m ≡ AtTime d h m)
+    told d h m (inl k) = inl (coded d h m k)
+      where
+        coded : (d h m : ℕ) → Codes d h m → activityTimeOf d h m ≡ UnknownTime
+        coded d h m k = simp (k .0, k .1 .0, k .1 .1) day-0-with-hour-31-and-minute-63-is-unknown
+    told d h m (inr t) = inr (each-activity-time-is-told d h m t)
 
 -- what the arrival and the height of an area say, where it keeps its rules
 arrives : (hour minute : ℕ) → ((hour ≡ 31) × (minute ≡ 63)) ⊎ ((hour ≤ 23) × (minute ≤ 59))

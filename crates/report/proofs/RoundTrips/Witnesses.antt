@@ -17,7 +17,7 @@ use Rattle.report.specs.Records.{values}
 use Rattle.report.specs.Conforms.{Conforms}
 use Rattle.report.specs.Runs.Reading.{readOf}
 use Rattle.report.specs.Runs.Writing.{Valid, frame, writeAnswer, writeOf}
-use Rattle.report.proofs.Categories.{samples}
+use Rattle.report.proofs.Categories.{Each, samples}
 use Rattle.report.specs.Categories.{layout}
 use Rattle.report.proofs.Spares.{allOnes, sparing}
 use Rattle.report.proofs.Shaped.{Shaped}
@@ -29,10 +29,6 @@ pub record WrittenAndRead (r : Record) : Type 0 where
   pub written : (buffer : List ℕ) → length buffer ≡ 32 → writeOf r buffer ≡ bytesOf (frame r)
   pub conforms : Conforms (bytesOf (frame r))
   pub read : readOf (bytesOf (frame r)) ≡ record { answer = Fine; «record» = r }
-
-abbrev pub Each : (Record → Type 0) → List Record → Type 0
-Each P [] = Unit
-Each P (r ∷ rs) = P r × Each P rs
 
 abbrev shaped : Record → Bool
 shaped r = eqb (length (r .slots)) 16 && eqb (length (r .text)) 18

@@ -7,7 +7,9 @@ use reference::bits::{get, Frame};
 use reference::generate::{any_frame, raw_frame, set_number, RawValue};
 use reference::random::Random;
 use reference::read::read;
-use reference::record::Category::{self, AshFall, Hypocenter, Intensity, Nankai, Tsunami};
+use reference::record::Category::{
+    self, AshFall, Flood, Hypocenter, Intensity, Nankai, Tsunami, Volcano,
+};
 use reference::record::{Body, Record, Refusal, Slot};
 use reference::write::write;
 
@@ -45,12 +47,16 @@ fn the_fields_of_the_category_before_spare2_before_reserved() {
         };
         assert_eq!(writing(spare.category, spare2), spare.too_wide());
         // The last number of the sample in front of it: seconds, the prefecture of
-        // the ninth slot, a page total, the place of the fourth slot.
+        // the ninth slot, a page total, the third place, the place of the fourth
+        // slot, the only region.
         let last = match spare.category {
             Hypocenter => 157,
             Intensity => 144,
             Nankai => 207,
-            _ => 176,
+            Volcano => 134,
+            AshFall => 176,
+            Flood => 57,
+            Tsunami => unreachable!("it has no second spare"),
         };
         let last_field = |record: &mut Record| {
             spare2(record);
@@ -62,8 +68,11 @@ fn the_fields_of_the_category_before_spare2_before_reserved() {
 
 #[test]
 fn a_gap_stands_between_the_spares() {
-    for (category, gap) in [(Intensity, 87), (Tsunami, 136), (AshFall, 141)] {
+    let gaps = [(Intensity, 87), (Tsunami, 136), (Volcano, 134), (AshFall, 141), (Flood, 141)];
+    for (category, gap) in gaps {
         let empty = |record: &mut Record| {
+            // The sample of flood has one area alone.
+            record.slots[2] = record.slots[0];
             record.slots[1] = Slot::default();
             if category != Tsunami {
                 record.spares[1] = u64::MAX;
@@ -131,7 +140,9 @@ fn a_spare_that_is_set_hides_no_fault() {
     assert_eq!(with(&[(157, 6, 60), (96, 9, 502)]), (8, 96));
     assert_eq!(reading(Intensity, &[(43, 10, 1), (78, 9, 0), (213, 1, 1)]), (10, 87));
     assert_eq!(reading(Nankai, &[(43, 10, 1), (207, 6, 0), (213, 1, 1)]), (8, 207));
+    assert_eq!(reading(Volcano, &[(43, 7, 127), (53, 5, 0), (203, 11, 1)]), (8, 53));
     assert_eq!(reading(AshFall, &[(43, 10, 1), (170, 3, 0), (199, 15, 1)]), (8, 170));
+    assert_eq!(reading(Flood, &[(43, 10, 1), (97, 4, 1), (185, 29, 1)]), (8, 101));
 }
 
 /// Whatever a frame with right parity is, other bits in its spares give the same

@@ -1,5 +1,5 @@
 -- `report::body::Body::of_values` meets its contract.
-use mathlib.Core.Path.{_≡_, _∙_, ap, sym}
+use mathlib.Core.Path.{_≡_, _∙_, ap, refl, sym}
 use Prim.Native.Nat.{ℕ}
 use mathlib.Core.List.{List}
 use borrow.Author.Tests.{ne-eqb}
@@ -8,7 +8,7 @@ use Rattle.report.specs.Runs.Told.{withSpares}
 use Rattle.rows.specs.Runs.Fields.{keptIn}
 use Rattle.report.specs.declared.body.Body.{Body}
 use Rattle.report.specs.declared.body.BodyAndSpares.{BodyAndSpares}
-use Rattle.report.specs.declared.body.Body.the-variants.{AshFall, Hypocenter, Intensity, Nankai, NoCategory, Tsunami}
+use Rattle.report.specs.declared.body.Body.the-variants.{AshFall, Flood, Hypocenter, Intensity, Nankai, NoCategory, Tsunami, Volcano}
 use borrow.Author.Needs.{needs}
 use Rattle.report.proofs.body.Body.of_values.Statement.{statement}
 use Rattle.report.proofs.body.Body.of_values.Tie as tie
@@ -36,17 +36,34 @@ returns-4 c = let m = c .before .before in let a = m .before .args in coded (a .
 
 returns-5 : tie.Need-returns-5
 unfolding bodyFrom
-returns-5 c = let m = c .before .before in let a = m .before .args in coded (a .t2) (a .t3) _ 9 (AshFall _) _ (c .with-spares5 .ensures) (ap AshFall (c .before .of-values5 .ensures)) (m .match .keys5)
+returns-5 c = let m = c .before .before in let a = m .before .args in coded (a .t2) (a .t3) _ 8 (Volcano _) _ (c .with-spares5 .ensures) (ap Volcano (c .before .of-values5 .ensures)) (m .match .keys5)
 
 returns-6 : tie.Need-returns-6
 unfolding bodyFrom
-returns-6 c =
+returns-6 c = let m = c .before .before in let a = m .before .args in coded (a .t2) (a .t3) _ 9 (AshFall _) _ (c .with-spares6 .ensures) (ap AshFall (c .before .of-values6 .ensures)) (m .match .keys6)
+
+returns-7 : tie.Need-returns-7
+unfolding bodyFrom
+returns-7 c = let m = c .before in let a = m .before .args in coded (a .t2) (a .t3) _ 11 Flood _ (c .with-spares7 .ensures) refl (m .match .keys7)
+
+returns-8 : tie.Need-returns-8
+unfolding bodyFrom
+returns-8 c =
     let m = c .before in
     let a = m .before .args in
     let other = m .match .rest in
-    let none : bodyFrom (keptIn (a .t2) (a .t3)) (a .code) ≡ NoCategory = simp (ne-eqb _ 2 (other .0 .0 .0 .0 .1), ne-eqb _ 3 (other .0 .0 .0 .1), ne-eqb _ 4 (other .0 .0 .1), ne-eqb _ 5 (other .0 .1), ne-eqb _ 9 (other .1)) in
-    c .with-spares6 .ensures ∙ ap (withSpares (a .t2) (a .t3)) (sym none)
+    let none : bodyFrom (keptIn (a .t2) (a .t3)) (a .code) ≡ NoCategory = simp (
+      ne-eqb _ 2 (other .0 .0 .0 .0 .0 .0 .1),
+      ne-eqb _ 3 (other .0 .0 .0 .0 .0 .1),
+      ne-eqb _ 4 (other .0 .0 .0 .0 .1),
+      ne-eqb _ 5 (other .0 .0 .0 .1),
+      ne-eqb _ 8 (other .0 .0 .1),
+      ne-eqb _ 9 (other .0 .1),
+      ne-eqb _ 11 (other .1),
+    )
+    in
+    c .with-spares8 .ensures ∙ ap (withSpares (a .t2) (a .t3)) (sym none)
 
 pub of-values-spec : {M : Type 1} → statement M
 of-values-spec =
-    tie.close (tie.spec (λ c κs. search needs) (λ c. search needs) (λ c. search needs) (λ c κs. search needs) (λ c κs. search needs) (λ c. search needs) (λ c. search needs) (λ c κs. search needs) (λ c κs. search needs) (λ c. search needs) (λ c. search needs) (λ c κs. search needs) (λ c κs. search needs) (λ c. search needs) (λ c κs. search needs) (λ c κs. search needs) (λ c. search needs) (λ c. search needs) (λ c κs. search needs) (λ c. search needs) (λ c κs. search needs) returns returns-2 returns-3 returns-4 returns-5 returns-6)
+    tie.close (tie.spec (λ c κs. search needs) (λ c. search needs) (λ c. search needs) (λ c κs. search needs) (λ c κs. search needs) (λ c. search needs) (λ c. search needs) (λ c κs. search needs) (λ c κs. search needs) (λ c. search needs) (λ c. search needs) (λ c κs. search needs) (λ c κs. search needs) (λ c. search needs) (λ c κs. search needs) (λ c κs. search needs) (λ c. search needs) (λ c. search needs) (λ c κs. search needs) (λ c κs. search needs) (λ c. search needs) (λ c. search needs) (λ c κs. search needs) (λ c. search needs) (λ c. search needs) (λ c κs. search needs) (λ c. search needs) (λ c κs. search needs) returns returns-2 returns-3 returns-4 returns-5 returns-6 returns-7 returns-8)

@@ -51,26 +51,40 @@ returns-5 : tie.Need-returns-5
 unfolding bodyFrom slotsOf
 returns-5 c =
     let k = c .before .before .before .before in
-    coded (frame k) _ 9 _ (k .field8 .ensures .0) (c .before .before .before .match .keys5) (simp (c .spares5 .ensures, c .before .places-of .ensures, c .before .before .of5 .ensures))
+    coded (frame k) _ 8 _ (k .field8 .ensures .0) (c .before .before .before .match .keys5) (simp (c .spares5 .ensures, c .before .places-of .ensures, c .before .before .of5 .ensures))
 
 returns-6 : tie.Need-returns-6
 unfolding bodyFrom slotsOf
 returns-6 c =
+    let k = c .before .before .before .before in
+    coded (frame k) _ 9 _ (k .field8 .ensures .0) (c .before .before .before .match .keys6) (simp (c .spares6 .ensures, c .before .places-of2 .ensures, c .before .before .of6 .ensures))
+
+returns-7 : tie.Need-returns-7
+unfolding bodyFrom slotsOf
+returns-7 c =
+    let k = c .before .before .before in
+    coded (frame k) _ 11 _ (k .field8 .ensures .0) (c .before .before .match .keys7) (simp (c .spares7 .ensures, c .before .areas-of2 .ensures))
+
+returns-8 : tie.Need-returns-8
+unfolding bodyFrom slotsOf
+returns-8 c =
     let m = c .before .before in
     let k = m .before in
     let f = frame k in
     let e = k .field8 .ensures .0 in
     let other = m .match .rest in
     let none : bodyFrom (sidesAt f) (fieldOf f 17 4) ≡ NoCategory = simp (
-      ne-eqb _ 2 (λ q. other .0 .0 .0 .0 .1 (e ∙ q)),
-      ne-eqb _ 3 (λ q. other .0 .0 .0 .1 (e ∙ q)),
-      ne-eqb _ 4 (λ q. other .0 .0 .1 (e ∙ q)),
-      ne-eqb _ 5 (λ q. other .0 .1 (e ∙ q)),
-      ne-eqb _ 9 (λ q. other .1 (e ∙ q)),
+      ne-eqb _ 2 (λ q. other .0 .0 .0 .0 .0 .0 .1 (e ∙ q)),
+      ne-eqb _ 3 (λ q. other .0 .0 .0 .0 .0 .1 (e ∙ q)),
+      ne-eqb _ 4 (λ q. other .0 .0 .0 .0 .1 (e ∙ q)),
+      ne-eqb _ 5 (λ q. other .0 .0 .0 .1 (e ∙ q)),
+      ne-eqb _ 8 (λ q. other .0 .0 .1 (e ∙ q)),
+      ne-eqb _ 9 (λ q. other .0 .1 (e ∙ q)),
+      ne-eqb _ 11 (λ q. other .1 (e ∙ q)),
     )
     in
     _∙_ {b = contentAs f NoCategory} (simp (c .field64 .ensures .0, c .before .none3 .ensures)) (ap (contentAs f) (sym none))
 
 pub of-spec : {M : Type 1} → statement M
 of-spec =
-    tie.close (tie.spec (λ c κs. search needs) (λ c κs. search needs) (λ c κs. search needs) (λ c κs. search needs) (λ c κs. search needs) (λ c κs. search needs) (λ c κs. search needs) (λ c κs. search needs) (λ c κs. search needs) (λ c κs. search needs) (λ c κs. search needs) (λ c κs. search needs) (λ c κs. search needs) (λ c κs. search needs) (λ c κs. search needs) (λ c κs. search needs) (λ c κs. search needs) (λ c κs. search needs) (λ c κs. search needs) returns returns-2 returns-3 returns-4 returns-5 returns-6)
+    tie.close (tie.spec (λ c κs. search needs) (λ c κs. search needs) (λ c κs. search needs) (λ c κs. search needs) (λ c κs. search needs) (λ c κs. search needs) (λ c κs. search needs) (λ c κs. search needs) (λ c κs. search needs) (λ c κs. search needs) (λ c κs. search needs) (λ c κs. search needs) (λ c κs. search needs) (λ c κs. search needs) (λ c κs. search needs) (λ c κs. search needs) (λ c κs. search needs) (λ c κs. search needs) (λ c κs. search needs) (λ c κs. search needs) (λ c κs. search needs) (λ c κs. search needs) (λ c κs. search needs) (λ c κs. search needs) returns returns-2 returns-3 returns-4 returns-5 returns-6 returns-7 returns-8)

@@ -1,15 +1,16 @@
 //! The builders of test inputs reach what they are meant to reach.
 
-use std::collections::BTreeSet;
+mod codes;
+mod spares;
 
 use reference::bits::Frame;
-use reference::fields::{fields_and_parts, slot_layout, spares, Field};
+use reference::fields::{fields_and_parts, groups, slot_layout};
 use reference::generate::*;
-use reference::meaning::{arrival, slots_used, Arrival};
 use reference::random::Random;
 use reference::read::read;
 use reference::record::{Category, Record, Refusal};
 use reference::write::write;
+use std::collections::BTreeSet;
 
 const COUNT: usize = 20_000;
 
@@ -146,38 +147,15 @@ fn boundary_inputs_reach_every_field() {
     }
 }
 
-/// The hours and minutes of all areas.
-fn arrival_places() -> Vec<usize> {
-    (0..5).flat_map(|area| [84 + 26 * area + 1, 84 + 26 * area + 6]).collect()
-}
-
+/// The builders pick their categories from lists, which must be those of the tables.
 #[test]
-fn mixed_arrivals_reach_every_hour_and_minute() {
-    let frames = frames_of(|random, _| arrival_frame(random));
-    let records = records_of(|random, _| arrival_record(random));
-    for seen in [frames, records] {
-        assert_eq!(seen.numbers(), [0, 8]);
-        assert_eq!(seen.places(8), arrival_places());
-    }
-}
-
-/// In every area of what is valid there are waves that have arrived and others.
-#[test]
-fn valid_inputs_reach_both_kinds_of_arrival() {
-    let mut random = Random::new(13);
-    let mut seen = BTreeSet::new();
-    for _ in 0..COUNT {
-        let built = valid_record(&mut random, Category::Tsunami);
-        let frame = valid_frame(&mut random, Category::Tsunami);
-        let records = [("record", built), ("frame", read(&frame).expect("the frame is valid"))];
-        for (source, record) in records {
-            for (area, slot) in record.slots.iter().enumerate().take(slots_used(&record)) {
-                let arrived = arrival(slot.hour, slot.minute) == Some(Arrival::Arrived);
-                seen.insert((source, area, arrived));
-            }
-        }
-    }
-    assert_eq!(seen.len(), 2 * 5 * 2);
+fn the_lists_of_categories_leave_none_out() {
+    let those = |has: fn(Category) -> bool| {
+        Category::ALL.into_iter().filter(|&category| has(category)).collect::<Vec<_>>()
+    };
+    assert_eq!(those(|category| slot_layout(category).count > 0), WITH_SLOTS);
+    assert_eq!(those(|category| slot_layout(category).parts(0).len() > 1), WITH_PARTS);
+    assert_eq!(those(|category| !groups(category).is_empty()), WITH_GROUPS);
 }
 
 #[test]
@@ -195,91 +173,13 @@ fn gaps_reach_every_slot_that_can_have_one_before_it() {
 fn half_filled_slots_reach_every_part_that_must_not_be_zero() {
     let mut expected = BTreeSet::new();
     for layout in Category::ALL.map(slot_layout) {
-        let parts = (0..layout.count).flat_map(|slot| layout.parts(slot));
+        let mut slots: Vec<_> = (0..layout.count).map(|slot| layout.parts(slot)).collect();
+        // A slot with one part is empty where that is zero.
+        slots.retain(|parts| parts.len() > 1);
+        let parts = slots.into_iter().flatten();
         expected.extend(parts.filter(|part| !part.allows(0)).map(|part| part.first));
     }
     let expected = Vec::from_iter(expected);
     assert_eq!(frames_of(|random, _| half_filled_frame(random)).places(8), expected);
     assert_eq!(records_of(|random, _| half_filled_record(random)).places(8), expected);
-}
-
-/// Each spare of each category: the category, which of its spares, and the row.
-fn all_spares() -> Vec<(Category, usize, Field)> {
-    let numbered = |category| spares(category).into_iter().enumerate();
-    let of_category =
-        |category| numbered(category).map(move |(number, row)| (category, number, row));
-    Category::ALL.into_iter().flat_map(of_category).collect()
-}
-
-#[test]
-fn spare_frames_reach_every_bit_of_every_spare_alone() {
-    let mut random = Random::new(14);
-    let mut seen = BTreeSet::new();
-    for category in categories() {
-        let record = read(&spare_frame(&mut random, category)).expect("the frame is valid");
-        seen.insert((category.code(), record.spares));
-    }
-    for (category, number, row) in all_spares() {
-        for bit in 0..row.width {
-            let mut alone = [0; 2];
-            alone[number] = 1 << bit;
-            assert!(seen.contains(&(category.code(), alone)), "{category:?} {number} {bit}");
-        }
-    }
-}
-
-/// In every spare of what is valid nothing, something and all bits come up.
-#[test]
-fn valid_inputs_reach_all_fillings_of_every_spare() {
-    let mut random = Random::new(15);
-    for (category, number, row) in all_spares() {
-        let highest = (1 << row.width) - 1;
-        let mut seen = BTreeSet::new();
-        for _ in 0..100 {
-            let built = valid_record(&mut random, category);
-            let frame = valid_frame(&mut random, category);
-            let records = [("record", built), ("frame", read(&frame).expect("it is valid"))];
-            seen.extend(records.map(|(source, record)| (source, record.spares[number])));
-        }
-        for source in ["record", "frame"] {
-            let has = |wanted: &dyn Fn(u64) -> bool| {
-                seen.iter().any(|&(from, value)| from == source && wanted(value))
-            };
-            assert!(has(&|value| value == 0) && has(&|value| value == highest));
-            assert!(row.width == 1 || has(&|value| 0 < value && value < highest));
-        }
-    }
-}
-
-/// Spares too wide come up alone and among other faults, in every category.
-#[test]
-fn records_reach_every_spare_too_wide() {
-    let mut random = Random::new(16);
-    for build in [spare_record, many_faults_record, boundary_record] {
-        for (category, _, row) in all_spares() {
-            let records = (0..COUNT).map(|_| build(&mut random, category));
-            assert!(write_all(records).places(8).contains(&row.first), "{category:?} {row:?}");
-        }
-    }
-}
-
-/// A number of every length from 1 to 64 bits comes up in every spare.
-#[test]
-fn spare_records_reach_every_length() {
-    let mut random = Random::new(17);
-    for (category, number, _) in all_spares() {
-        let records = (0..COUNT).map(|_| spare_record(&mut random, category));
-        let lengths: BTreeSet<u32> =
-            records.map(|record| 64 - record.spares[number].leading_zeros()).collect();
-        assert!((1..=64).all(|length| lengths.contains(&length)), "{category:?} {number}");
-    }
-}
-
-#[test]
-fn unused_filled_records_reach_the_spare_that_a_category_lacks() {
-    let mut random = Random::new(18);
-    let records: Vec<Record> =
-        (0..COUNT).map(|_| unused_filled_record(&mut random, Category::Tsunami)).collect();
-    let filled = records.iter().filter(|record| record.spares[1] != 0).count();
-    assert!(COUNT / 4 < filled && filled < COUNT / 2, "{filled}");
 }

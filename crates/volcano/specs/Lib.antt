@@ -1,0 +1,2 @@
+pub mod Volcano
+pub mod Meaning
