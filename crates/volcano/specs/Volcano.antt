@@ -11,9 +11,9 @@ use Rattle.rows.specs.Layout.{Member, member, group, twoThreeOrSeven, corrected
 -- of the day, "0-31", is a part of that, and of no day
 abbrev pub activityTimes : List Member
 activityTimes =
-    member 5 1 31 0  -- activity: day
-    ∷ member 5 0 23 31  -- activity: hour
-    ∷ member 6 0 59 63 ∷ []  -- activity: minute
+    member 5 1 31 0  -- activity day
+    ∷ member 5 0 23 31  -- activity hour
+    ∷ member 6 0 59 63 ∷ []  -- activity minute
 
 -- five places from 88, 23 bits each
 abbrev pub places : Slots
