@@ -1,14 +1,11 @@
 -- What is claimed of an area: which areas keep their rules, and how many bits a region needs.
 use mathlib.Core.List.{[], _∷_}
-use mathlib.Core.Logic.{inl, ⊎-elim, _↔_}
+use mathlib.Core.Logic.{inl, _↔_}
 use Prim.Native.Nat.{ℕ, _^_, _≤_, _<_}
 use native.Mathlib.Omega.{arith}
-use Rattle.rows.specs.Kept.{In, Kept}
-use Rattle.rows.specs.Layout.{_to_}
+use Rattle.rows.specs.Kept.{Kept}
+use Rattle.rows.proofs.Rules.Spans.{one-span}
 use Rattle.flood.specs.Flood.{areas}
-
-one-span : (lo hi v : ℕ) → In (lo to hi ∷ []) v → (lo ≤ v) × (v ≤ hi)
-one-span lo hi v h = ⊎-elim (λ p. p) (λ n. absurd n) h
 
 -- "up to three areas with level and region": an area keeps its rules exactly where its level is 1 to 15 and its region 10175000100 to
 -- 899999999999 ..

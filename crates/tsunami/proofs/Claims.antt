@@ -7,10 +7,10 @@ use Prim.Native.Nat.{ℕ, _≤_}
 use native.Mathlib.Omega.{arith}
 use lib.Dec.{eqb, leb}
 use borrow.Author.Tests.{eqb-true, eqb-false, leb-true, le-leb, ne-eqb}
-use Rattle.rows.specs.Kept.{AllNormal, In, Kept}
-use Rattle.rows.specs.Layout.{Row, _to_, row, within, codesOf}
-use Rattle.rows.proofs.Rules.Outcomes.{and-both}
-use Rattle.rows.proofs.Rules.Spans.{in-span, span-in, span-out}
+use Rattle.rows.specs.Kept.{AllNormal, Kept}
+use Rattle.rows.specs.Layout.{Row, row, within, codesOf}
+use Rattle.rows.proofs.Rules.Outcomes.{and-both, not-true}
+use Rattle.rows.proofs.Rules.Spans.{in-span, one-span, span-in, span-out}
 use Rattle.rows.proofs.Rules.Groups.{group-kept}
 use Rattle.tsunami.specs.declared.meaning.Arrival.the-variants.{At, Arrived, OutOfRange}
 use Rattle.tsunami.specs.declared.meaning.Height.the-variants.{Code, Unknown, OutOfRange as NoHeight}
@@ -18,10 +18,6 @@ use Rattle.tsunami.specs.Meaning.{arrived, arrivalOf, heightOf}
 use Rattle.tsunami.specs.Tsunami.{areas, arrivals}
 
 -- ---- the arrival
-
-neither : (b : Bool) → (b ≡ true → ⊥) → b ≡ false
-neither true n = absurd (n refl)
-neither false n = refl
 
 both-codes : (hour minute : ℕ) → arrived hour minute ≡ true → (hour ≡ 31) × (minute ≡ 63)
 both-codes hour minute e = let q = and-both (eqb hour 31) (eqb minute 63) e in (eqb-true hour 31 (q .0), eqb-true minute 63 (q .1))
@@ -68,8 +64,8 @@ pub nothing-else-is-an-arrival : (hour minute : ℕ) → ((hour ≡ 31) × (minu
     → arrivalOf hour minute ≡ OutOfRange
 unfolding arrivalOf
 nothing-else-is-an-arrival hour minute n m = simp (
-  neither (arrived hour minute) (λ e. n (both-codes hour minute e)),
-  neither (leb hour 23 && leb minute 59) (λ e. m (time-of-day hour minute e)),
+  not-true (arrived hour minute) (λ e. n (both-codes hour minute e)),
+  not-true (leb hour 23 && leb minute 59) (λ e. m (time-of-day hour minute e)),
 )
 
 -- ---- the height
@@ -121,9 +117,6 @@ an-empty-area-has-no-height = refl
 -- height and region
 abbrev rest : List Row
 rest = row 12 4 (within 1 15) ∷ row 16 10 (within 100 1000) ∷ []
-
-one-span : (lo hi v : ℕ) → In (lo to hi ∷ []) v → (lo ≤ v) × (v ≤ hi)
-one-span lo hi v h = ⊎-elim (λ p. p) (λ n. absurd n) h
 
 -- "An arrival code that speaks for hour and minute together must have both": an area keeps its rules exactly where its day is 0 or
 -- 1, its hour and minute are 31 and 63 or a time of a day, its height is 1 to 15, and its region 100 to 1000

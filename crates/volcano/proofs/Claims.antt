@@ -2,21 +2,22 @@
 use mathlib.Core.Path.{_≡_, refl, subst}
 use mathlib.Core.Bool.{Bool, true, false, _&&_, cond}
 use mathlib.Core.Logic.{_⊎_, inl, inr, ⊎-elim, _↔_}
-use mathlib.Core.List.{List, [], _∷_, _++_}
+use mathlib.Core.List.{List, [], _∷_}
 use Prim.Native.Nat.{ℕ, _^_, _≤_, _<_}
 use native.Mathlib.Omega.{arith}
 use lib.Dec.{eqb, leb}
 use borrow.Author.Tests.{eqb-true, leb-true, le-leb, lt-leb, ne-eqb}
 use Rattle.rows.specs.declared.refusal.Verdict.the-variants.{Refused}
 use Rattle.rows.specs.declared.refusal.Refusal.the-variants.{Range}
-use Rattle.rows.specs.Kept.{AllNormal, In, Kept}
-use Rattle.rows.specs.Layout.{Row, _to_, row, within, codesOf, group}
+use Rattle.rows.specs.Kept.{AllNormal, Kept}
+use Rattle.rows.specs.Layout.{Row, row, within, codesOf, group}
 use Rattle.rows.specs.Runs.Questions.{_then_, unless}
 use Rattle.rows.specs.Runs.Verdict.{allowed, judge, walk}
-use Rattle.rows.proofs.Rules.Outcomes.{and-both}
-use Rattle.rows.proofs.Rules.Spans.{in-span, span-in, span-out}
+use Rattle.rows.proofs.Rules.Outcomes.{and-both, not-true}
+use Rattle.rows.proofs.Rules.Spans.{in-span, one-span, span-in}
 use Rattle.rows.proofs.Rules.Groups.{group-kept}
 use Rattle.volcano.specs.declared.meaning.ActivityTime.the-variants.{At, Unknown, OutOfRange}
+use Rattle.volcano.specs.declared.meaning.Validity.{Validity}
 use Rattle.volcano.specs.declared.meaning.Validity.the-variants.{DayHourMinute, DayHour, Day, Nothing, OutOfRange as NoAmbiguity}
 use Rattle.volcano.specs.Meaning.{unknown, timely, activityTimeOf, validityOf}
 use Rattle.volcano.specs.Volcano.{activityTimes, volcano}
@@ -30,10 +31,6 @@ Codes day hour minute = (day ≡ 0) × ((hour ≡ 31) × (minute ≡ 63))
 -- a day from 1 to 31, an hour from 0 to 23, a minute from 0 to 59
 abbrev pub Timely : ℕ → ℕ → ℕ → Type 0
 Timely day hour minute = ((1 ≤ day) × (day ≤ 31)) × ((hour ≤ 23) × (minute ≤ 59))
-
-neither : (b : Bool) → (b ≡ true → ⊥) → b ≡ false
-neither true n = absurd (n refl)
-neither false n = refl
 
 all-codes : (day hour minute : ℕ) → unknown day hour minute ≡ true → Codes day hour minute
 all-codes d h m e =
@@ -85,7 +82,7 @@ only-an-activity-time-is-told d h m x y z e = by (unknown d h m) (timely d h m) 
 pub nothing-else-is-an-activity-time : (day hour minute : ℕ) → (Codes day hour minute → ⊥) → (Timely day hour minute → ⊥)
     → activityTimeOf day hour minute ≡ OutOfRange
 unfolding activityTimeOf
-nothing-else-is-an-activity-time d h m n t = simp (neither (unknown d h m) (λ e. n (all-codes d h m e)), neither (timely d h m) (λ e. t (is-timely d h m e)))
+nothing-else-is-an-activity-time d h m n t = simp (not-true (unknown d h m) (λ e. n (all-codes d h m e)), not-true (timely d h m) (λ e. t (is-timely d h m e)))
 
 -- ---- where a time is refused: "A partly unknown time is 8 at its first field that is out of the normal range"
 
@@ -93,7 +90,7 @@ nothing-else-is-an-activity-time d h m n t = simp (neither (unknown d h m) (λ e
 pub a-day-of-0-is-refused-at-53 : (hour minute : ℕ) → ((hour ≡ 31) × (minute ≡ 63) → ⊥)
     → walk [] (group 53 activityTimes) (0 ∷ hour ∷ minute ∷ []) ≡ Refused (Range 53 0)
 unfolding walk judge allowed _then_ unless
-a-day-of-0-is-refused-at-53 h m n = simp (neither (eqb h 31 && (eqb m 63 && true)) (λ e. n (both e)))
+a-day-of-0-is-refused-at-53 h m n = simp (not-true (eqb h 31 && (eqb m 63 && true)) (λ e. n (both e)))
   where
     both : eqb h 31 && (eqb m 63 && true) ≡ true → (h ≡ 31) × (m ≡ 63)
     both e = let p = and-both (eqb h 31) (eqb m 63 && true) e in (eqb-true h 31 (p .0), eqb-true m 63 (and-both (eqb m 63) true (p .1) .0))
@@ -140,7 +137,9 @@ with-6-and-7-nothing-is-valid = (refl, refl)
 -- so each code up to 7 says one of these
 pub an-ambiguity-is-told : (code : ℕ) → code ≤ 7 → validityOf code ≡ NoAmbiguity → ⊥
 unfolding validityOf
-an-ambiguity-is-told code h e = by (leb code 3) (eqb code 4) (eqb code 5) (subst (λ (b : Bool). cond (leb code 3) DayHourMinute (cond (eqb code 4) DayHour (cond (eqb code 5) Day (cond b Nothing NoAmbiguity))) ≡ NoAmbiguity) (le-leb code 7 h) e)
+an-ambiguity-is-told code h e =
+    let told : Bool → Validity = λ b. cond (leb code 3) DayHourMinute (cond (eqb code 4) DayHour (cond (eqb code 5) Day (cond b Nothing NoAmbiguity))) in
+    by (leb code 3) (eqb code 4) (eqb code 5) (subst (λ (b : Bool). told b ≡ NoAmbiguity) (le-leb code 7 h) e)
   where
     by : (a b c : Bool) → cond a DayHourMinute (cond b DayHour (cond c Day Nothing)) ≡ NoAmbiguity → ⊥
     by true b c e = let z : _≡_ {A = ℕ} 0 1 = cc in omega arith
@@ -162,9 +161,6 @@ no-code-past-7-is-an-ambiguity code h =
 -- warning code and volcano
 abbrev rest : List Row
 rest = row 69 7 (within 1 127) ∷ row 76 12 (within 101 4000) ∷ []
-
-one-span : (lo hi v : ℕ) → In (lo to hi ∷ []) v → (lo ≤ v) × (v ≤ hi)
-one-span lo hi v h = ⊎-elim (λ p. p) (λ n. absurd n) h
 
 -- They are kept exactly where the spare fits its seven bits, the ambiguity is at most 7, whatever the time is, day, hour and minute are
 -- all codes or a time, and warning code and volcano are in their ranges.

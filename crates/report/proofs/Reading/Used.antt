@@ -3,7 +3,7 @@ use Rattle.report.specs.declared.body.Body.{Body}
 use mathlib.Core.Bool.{Bool, _||_, false, true}
 use Rattle.report.specs.Conforms.{Conforms}
 use mathlib.Core.List.{List, [], _∷_, map}
-use mathlib.Core.Logic.{_⊎_, inl, inr, ⊎-elim}
+use mathlib.Core.Logic.{_⊎_, inl, inr}
 use Rattle.bits.specs.Frame.{fieldOf}
 use Rattle.rows.specs.Layout.{Layout, Slots, _to_, slotRows}
 use Rattle.rows.specs.Kept.{In, Kept, SlotsKept}
@@ -17,6 +17,7 @@ use Rattle.rows.specs.Runs.Verdict.{empty}
 use lib.Dec.{eqb}
 use borrow.Author.Tests.{eqb-true, eqb-false}
 use Rattle.rows.proofs.Layouts.Lengths.{each-at, frame-filled, length-each}
+use Rattle.rows.proofs.Rules.Spans.{one-span}
 use lib.ListN.{getD, length, length-map}
 use Rattle.ash_fall.specs.AshFall.{ashFall}
 use Rattle.ash_fall.specs.Meaning.{prefectureOf}
@@ -94,9 +95,6 @@ used-slot-of s c l e i u =
 
 table-by-code : (s : List ℕ) (dc : ℕ) → fieldOf s 17 4 ≡ dc → layout (bodyOf s) ≡ layout (bodyBy s dc)
 table-by-code s dc e = ap (λ (n : ℕ). layout (bodyBy s n)) e
-
-one-span : (lo hi v : ℕ) → In (lo to hi ∷ []) v → (lo ≤ v) × (v ≤ hi)
-one-span lo hi v h = ⊎-elim (λ p. p) (λ n. absurd n) h
 
 pub used-prefecture : (s : List ℕ) → Conforms s → fieldOf s 17 4 ≡ 3 → (i : ℕ) → i < usedOf (recordOf s)
     → (1 ≤ getD (recordOf s .slots) i noSlot .place) × (getD (recordOf s .slots) i noSlot .place ≤ 47)

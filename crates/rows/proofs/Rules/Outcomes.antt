@@ -76,6 +76,10 @@ refused-one (Refused r) b x e = inl e
 
 -- ---- tests
 
+pub not-true : (b : Bool) → (b ≡ true → ⊥) → b ≡ false
+not-true true n = absurd (n refl)
+not-true false n = refl
+
 pub and-true : (b : Bool) → b && true ≡ b
 and-true true = refl
 and-true false = refl

@@ -12,7 +12,7 @@ use types.Run.{OneOf}
 use Rattle.rows.specs.Layout.{Span, _to_, allBelow}
 use Rattle.rows.specs.Runs.Verdict.{allowed}
 use Rattle.rows.specs.Kept.{In}
-use Rattle.rows.proofs.Rules.Outcomes.{false-not-true, and-both, both-and, or-either, left-or, right-or}
+use Rattle.rows.proofs.Rules.Outcomes.{false-not-true, not-true, and-both, both-and, or-either, left-or, right-or}
 
 or-false : (a b : Bool) → a && b || false ≡ a && b
 or-false true true = refl
@@ -31,11 +31,11 @@ pub span-in : (lo hi v : ℕ) → (lo ≤ v) × (v ≤ hi) → leb lo v && leb v
 span-in lo hi v h = both-and (leb lo v) (leb v hi) (le-leb lo v (h .0)) (le-leb v hi (h .1))
 
 pub span-out : (lo hi v : ℕ) → ((lo ≤ v) × (v ≤ hi) → ⊥) → leb lo v && leb v hi ≡ false
-span-out lo hi v h = by (leb lo v && leb v hi) refl
-  where
-    by : (b : Bool) → leb lo v && leb v hi ≡ b → leb lo v && leb v hi ≡ false
-    by true e = absurd (h (in-span lo hi v e))
-    by false e = e
+span-out lo hi v h = not-true (leb lo v && leb v hi) (λ e. h (in-span lo hi v e))
+
+-- what lies in one span lies between its bounds
+pub one-span : (lo hi v : ℕ) → In (lo to hi ∷ []) v → (lo ≤ v) × (v ≤ hi)
+one-span lo hi v h = ⊎-elim (λ p. p) (λ n. absurd n) h
 
 pub allowed-in : (ss : List Span) (v : ℕ) → allowed ss v ≡ true → In ss v
 unfolding allowed
@@ -50,11 +50,7 @@ in-allowed ((lo to hi) ∷ ss) v h =
     ⊎-elim (λ k. left-or _ (allowed ss v) (span-in lo hi v k)) (λ k. right-or (leb lo v && leb v hi) _ (in-allowed ss v k)) h
 
 pub not-allowed : (ss : List Span) (v : ℕ) → (In ss v → ⊥) → allowed ss v ≡ false
-not-allowed ss v n = by (allowed ss v) refl
-  where
-    by : (b : Bool) → allowed ss v ≡ b → allowed ss v ≡ false
-    by true e = absurd (n (allowed-in ss v e))
-    by false e = e
+not-allowed ss v n = not-true (allowed ss v) (λ e. n (allowed-in ss v e))
 
 pub in-below : (n : ℕ) (ss : List Span) (v : ℕ) → allBelow n ss ≡ true → In ss v → v < n
 in-below n [] v b h = absurd h
