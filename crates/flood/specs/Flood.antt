@@ -29,5 +29,5 @@ flood = record {
 }
 
 -- the values of the rows outside the areas: those of the spares, which stand in a record beside what a category says
-abbrev pub floodValues : Spares → Sides
-floodValues z = record { front = z .first ∷ []; behind = z .second ∷ [] }
+abbrev pub floodSides : Spares → Sides
+floodSides z = record { front = z .first ∷ []; behind = z .second ∷ [] }

@@ -3,7 +3,7 @@ ghost use mathlib.Core.Path.{_≡_};
 ghost use Rattle.bits.specs.Frame.{frameIn};
 ghost use Rattle.rows.specs.Runs.Questions.{_then_};
 ghost use Rattle.rows.specs.Runs.Verdict.{bodyVerdict};
-ghost use Rattle.flood.specs.Flood.{flood, floodValues, areas};
+ghost use Rattle.flood.specs.Flood.{flood, floodSides, areas};
 ghost use Rattle.rows.specs.Values.{headValues, sparesAt};
 ghost use Rattle.rows.specs.Runs.Fields.{fieldsIn, tableIn};
 ghost use Rattle.slots.specs.Slots.{slotsValues};
@@ -48,7 +48,7 @@ fn table() -> Table
 
 // All rules from bit 8 to bit 213, behind what has been found.
 pub fn check(found: Verdict, c: Common, slots: [Slot; 16], spares: Spares) -> Verdict
-    ensures { λ r. ⌜ r ≡ found then bodyVerdict flood (headValues c 11) (floodValues spares) (slotsValues areas slots) ⌝ }
+    ensures { λ r. ⌜ r ≡ found then bodyVerdict flood (headValues c 11) (floodSides spares) (slotsValues areas slots) ⌝ }
 {
     let head = found.common(c, is_two_three_or_seven(c.rc), is_corrected(c.it));
     let front = head.spare(43, 10, spares.first);
@@ -57,7 +57,7 @@ pub fn check(found: Verdict, c: Common, slots: [Slot; 16], spares: Spares) -> Ve
 
 // The rows in front of the areas and behind them as numbers: the spares.
 pub fn fields(spares: Spares) -> Fields
-    ensures { λ r. ⌜ r ≡ fieldsIn flood (floodValues spares) ⌝ }
+    ensures { λ r. ⌜ r ≡ fieldsIn flood (floodSides spares) ⌝ }
 {
     Fields {
         table: table(),

@@ -14,7 +14,7 @@ use Rattle.intensity.specs.Intensity.{intensity, shakingFrom, shakingValues}
 use Rattle.nankai.specs.Nankai.{nankai, numberValues, numbersFrom}
 use Rattle.tsunami.specs.Tsunami.{tsunami, warningFrom, warningValues}
 use Rattle.volcano.specs.Volcano.{volcano, activityFrom, activityValues}
-use Rattle.flood.specs.Flood.{flood, floodValues}
+use Rattle.flood.specs.Flood.{flood, floodSides}
 use Prim.Native.Nat.{ℕ}
 use Rattle.report.specs.declared.body.Paged.the-variants.{NoPages, Numbers}
 use Rattle.report.specs.declared.body.Paged.{Paged}
@@ -56,7 +56,7 @@ sidesOf (Nankai p) z = numberValues p z
 sidesOf (Tsunami w) z = warningValues w z
 sidesOf (Volcano a) z = activityValues a z
 sidesOf (AshFall e) z = eruptionValues e z
-sidesOf Flood z = floodValues z
+sidesOf Flood z = floodSides z
 
 -- the page that a body brings: category 4 alone has pages
 abbrev pub pagedOf : Body → Paged

@@ -13,7 +13,7 @@ use Rattle.rows.specs.Values.{each}
 use Rattle.rows.specs.Runs.Verdict.{empty, later, slotsVerdict, walk}
 use lib.ListN.{getD, length, take}
 use Rattle.slots.specs.Runs.{laterRun}
-use Rattle.slots.specs.Slots.{noSlot, slotValues}
+use Rattle.slots.specs.Slots.{noSlot, slotValues, slotsValues}
 use Rattle.rows.proofs.Rules.Outcomes.{then-assoc, then-fine}
 
 -- all later slots, with what is found in the fields of each
@@ -46,6 +46,15 @@ pub by-index : (k : Slots) (n : ℕ) (ss : List Slot) → n ≤ length ss → ma
 by-index k zero ss h = refl
 by-index k (suc n) [] h = absurd (omega arith)
 by-index k (suc n) (s ∷ ss) h = ap (λ (l : List (List ℕ)). slotValues k s ∷ l) (by-index k n ss (omega arith))
+
+-- so the run of a category's n + 1 slots, the first and n later ones, tells the verdict of all of them
+pub run-found : (k : Slots) (n : ℕ) (ss : List Slot) (found : Verdict) (run : Run) → k .count ≡ suc n → suc n ≤ length ss
+    → run ≡ laterRuns k (record { verdict = found then walk [] (slotRows k (k .first)) (slotValues k (getD ss 0 noSlot)); gap = false }) (k .first + k .bits) (each n (λ i. slotValues k (getD ss (suc i) noSlot)))
+    → run .verdict ≡ found then slotsVerdict k (slotsValues k ss)
+run-found k n ss found run c h e =
+    ap (λ (r : Run). r .verdict) e
+    ∙ slots-found k found _ _
+    ∙ ap (λ (vs : List (List ℕ)). found then slotsVerdict k vs) (sym (by-index k (suc n) ss h) ∙ ap (λ (m : ℕ). map (slotValues k) (take m ss)) (sym c))
 
 -- one slot after the other
 pub one-run : (k : Slots) (run more : Run) (at : ℕ) (v : List ℕ) (vs : List (List ℕ)) → more ≡ laterRun run at (empty v) (walk [] (slotRows k at) v)

@@ -25,14 +25,14 @@ use Rattle.volcano.specs.Volcano.{activityTimes, volcano}
 -- ---- the time of an activity
 
 -- "day 0, hour 31, minute 63, all three together"
-abbrev pub Codes : ℕ → ℕ → ℕ → Type 0
-Codes day hour minute = (day ≡ 0) × ((hour ≡ 31) × (minute ≡ 63))
+abbrev pub AllCodes : ℕ → ℕ → ℕ → Type 0
+AllCodes day hour minute = (day ≡ 0) × ((hour ≡ 31) × (minute ≡ 63))
 
 -- a day from 1 to 31, an hour from 0 to 23, a minute from 0 to 59
 abbrev pub Timely : ℕ → ℕ → ℕ → Type 0
 Timely day hour minute = ((1 ≤ day) × (day ≤ 31)) × ((hour ≤ 23) × (minute ≤ 59))
 
-all-codes : (day hour minute : ℕ) → unknown day hour minute ≡ true → Codes day hour minute
+all-codes : (day hour minute : ℕ) → unknown day hour minute ≡ true → AllCodes day hour minute
 all-codes d h m e =
     let p = and-both (eqb d 0) (eqb h 31 && eqb m 63) e in
     let q = and-both (eqb h 31) (eqb m 63) (p .1) in
@@ -50,11 +50,11 @@ unfolding activityTimeOf
 day-0-with-hour-31-and-minute-63-is-unknown = refl
 
 -- .. and nothing else says so
-pub only-those-three-are-unknown : (day hour minute : ℕ) → activityTimeOf day hour minute ≡ Unknown → Codes day hour minute
+pub only-those-three-are-unknown : (day hour minute : ℕ) → activityTimeOf day hour minute ≡ Unknown → AllCodes day hour minute
 unfolding activityTimeOf
 only-those-three-are-unknown d h m e = by (unknown d h m) (timely d h m) refl e
   where
-    by : (a b : Bool) → unknown d h m ≡ a → cond a Unknown (cond b (At d h m) OutOfRange) ≡ Unknown → Codes d h m
+    by : (a b : Bool) → unknown d h m ≡ a → cond a Unknown (cond b (At d h m) OutOfRange) ≡ Unknown → AllCodes d h m
     by true b t e = all-codes d h m t
     by false true t e = absurd (let z : _≡_ {A = ℕ} 0 1 = cc in omega arith)
     by false false t e = absurd (let z : _≡_ {A = ℕ} 0 1 = cc in omega arith)
@@ -79,7 +79,7 @@ only-an-activity-time-is-told d h m x y z e = by (unknown d h m) (timely d h m) 
     by false false t e = absurd (let z : _≡_ {A = ℕ} 0 1 = cc in omega arith)
 
 -- "a partly unknown time" says nothing
-pub nothing-else-is-an-activity-time : (day hour minute : ℕ) → (Codes day hour minute → ⊥) → (Timely day hour minute → ⊥)
+pub nothing-else-is-an-activity-time : (day hour minute : ℕ) → (AllCodes day hour minute → ⊥) → (Timely day hour minute → ⊥)
     → activityTimeOf day hour minute ≡ OutOfRange
 unfolding activityTimeOf
 nothing-else-is-an-activity-time d h m n t = simp (not-true (unknown d h m) (λ e. n (all-codes d h m e)), not-true (timely d h m) (λ e. t (is-timely d h m e)))
@@ -165,28 +165,28 @@ rest = row 69 7 (within 1 127) ∷ row 76 12 (within 101 4000) ∷ []
 -- They are kept exactly where the spare fits its seven bits, the ambiguity is at most 7, whatever the time is, day, hour and minute are
 -- all codes or a time, and warning code and volcano are in their ranges.
 pub an-activity-keeps-its-rules : (spare ambiguity day hour minute warning name : ℕ) → Kept [] (volcano .front) (spare ∷ ambiguity ∷ day ∷ hour ∷ minute ∷ warning ∷ name ∷ [])
-    ↔ (spare < 2 ^ 7) × ((ambiguity ≤ 7) × ((Codes day hour minute ⊎ Timely day hour minute) × (((1 ≤ warning) × (warning ≤ 127)) × ((101 ≤ name) × (name ≤ 4000)))))
+    ↔ (spare < 2 ^ 7) × ((ambiguity ≤ 7) × ((AllCodes day hour minute ⊎ Timely day hour minute) × (((1 ≤ warning) × (warning ≤ 127)) × ((101 ≤ name) × (name ≤ 4000)))))
 an-activity-keeps-its-rules z a d h m w v = (told, kept)
   where
-    three : d ∷ h ∷ m ∷ [] ≡ codesOf activityTimes → Codes d h m
+    three : d ∷ h ∷ m ∷ [] ≡ codesOf activityTimes → AllCodes d h m
     three e = (let p : d ≡ 0 = cc in p, (let q : h ≡ 31 = cc in q, let r : m ≡ 63 = cc in r))
 
     times : AllNormal activityTimes (d ∷ h ∷ m ∷ []) → Timely d h m
     times n = (one-span 1 31 d (n .0), (one-span 0 23 h (n .1 .0) .1, one-span 0 59 m (n .1 .1 .0) .1))
 
     told : Kept [] (volcano .front) (z ∷ a ∷ d ∷ h ∷ m ∷ w ∷ v ∷ [])
-        → (z < 2 ^ 7) × ((a ≤ 7) × ((Codes d h m ⊎ Timely d h m) × (((1 ≤ w) × (w ≤ 127)) × ((101 ≤ v) × (v ≤ 4000)))))
+        → (z < 2 ^ 7) × ((a ≤ 7) × ((AllCodes d h m ⊎ Timely d h m) × (((1 ≤ w) × (w ≤ 127)) × ((101 ≤ v) × (v ≤ 4000)))))
     told k =
         let g = group-kept rest (w ∷ v ∷ []) 53 (a ∷ z ∷ []) activityTimes (d ∷ h ∷ m ∷ []) refl .0 (k .1 .1) in
         (k .0, (one-span 0 7 a (k .1 .0) .1, (⊎-elim (λ e. inl (three e)) (λ n. inr (times n)) (g .0), (one-span 1 127 w (g .1 .0), one-span 101 4000 v (g .1 .1 .0)))))
 
-    codes : Codes d h m → d ∷ h ∷ m ∷ [] ≡ codesOf activityTimes
+    codes : AllCodes d h m → d ∷ h ∷ m ∷ [] ≡ codesOf activityTimes
     codes e = simp (e .0, e .1 .0, e .1 .1)
 
     normal : Timely d h m → AllNormal activityTimes (d ∷ h ∷ m ∷ [])
     normal n = (inl (n .0), (inl (omega arith, n .1 .0), (inl (omega arith, n .1 .1), tt)))
 
-    kept : (z < 2 ^ 7) × ((a ≤ 7) × ((Codes d h m ⊎ Timely d h m) × (((1 ≤ w) × (w ≤ 127)) × ((101 ≤ v) × (v ≤ 4000)))))
+    kept : (z < 2 ^ 7) × ((a ≤ 7) × ((AllCodes d h m ⊎ Timely d h m) × (((1 ≤ w) × (w ≤ 127)) × ((101 ≤ v) × (v ≤ 4000)))))
         → Kept [] (volcano .front) (z ∷ a ∷ d ∷ h ∷ m ∷ w ∷ v ∷ [])
     kept r =
         let g = group-kept rest (w ∷ v ∷ []) 53 (a ∷ z ∷ []) activityTimes (d ∷ h ∷ m ∷ []) refl .1 in

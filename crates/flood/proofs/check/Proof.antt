@@ -4,7 +4,7 @@ use Rattle.flood.proofs.check.Statement.{statement}
 use mathlib.Core.Bool.{Bool}
 use Rattle.rows.specs.Runs.Questions.{_then_}
 use mathlib.Core.Path.{_∙_, ap₂}
-use Rattle.flood.specs.Flood.{flood, floodValues, areas}
+use Rattle.flood.specs.Flood.{flood, floodSides, areas}
 use Rattle.rows.proofs.Rules.Walks.{body-found, spare-found}
 use Rattle.rows.specs.Runs.Verdict.{commonVerdict}
 use Rattle.slots.specs.Slots.{slotsValues}
@@ -18,7 +18,7 @@ returns c =
     let i = h .before in
     let k = i .before in
     let a = k .before .args in
-    body-found flood (a .c) (floodValues (a .spares)) (slotsValues areas (a .slots)) (a .found) (h .common .result) (f .spare .result) (p .check-areas .result) (c .spare2 .result)
+    body-found flood (a .c) (floodSides (a .spares)) (slotsValues areas (a .slots)) (a .found) (h .common .result) (f .spare .result) (p .check-areas .result) (c .spare2 .result)
     (h .common .ensures ∙ ap₂ (λ (x y : Bool). a .found then commonVerdict (a .c) x y) (k .is-two-three-or-seven .ensures) (i .is-corrected .ensures))
     (spare-found _ _ 43 10 (a .spares .first) (f .spare .ensures)) (p .check-areas .ensures) (spare-found _ _ 185 29 (a .spares .second) (c .spare2 .ensures))
 

@@ -32,7 +32,7 @@ use Rattle.volcano.specs.Volcano.{volcano}
 use Rattle.volcano.specs.Meaning.{activityTimeOf, validityOf}
 use Rattle.volcano.specs.declared.meaning.ActivityTime.the-variants.{At as AtTime, Unknown as UnknownTime}
 use Rattle.volcano.specs.declared.meaning.Validity.the-variants.{OutOfRange as NoAmbiguity}
-use Rattle.volcano.proofs.Claims.{Codes, Timely, an-activity-keeps-its-rules, an-ambiguity-is-told, day-0-with-hour-31-and-minute-63-is-unknown, each-activity-time-is-told}
+use Rattle.volcano.proofs.Claims.{AllCodes, Timely, an-activity-keeps-its-rules, an-ambiguity-is-told, day-0-with-hour-31-and-minute-63-is-unknown, each-activity-time-is-told}
 use Rattle.flood.specs.Flood.{flood}
 use Rattle.flood.proofs.Claims.{an-area-keeps-its-rules as a-flood-area-keeps-its-rules}
 use Rattle.tsunami.proofs.Claims.{an-area-keeps-its-rules, each-height-is-told-by-its-code, each-time-is-told, height-14-is-unknown, hour-31-with-minute-63-has-arrived}
@@ -136,10 +136,10 @@ told-activity s c e =
     let k = an-activity-keeps-its-rules (fieldOf s 43 7) (fieldOf s 50 3) (fieldOf s 53 5) (fieldOf s 58 5) (fieldOf s 63 6) (fieldOf s 69 7) (fieldOf s 76 12) .0 kept in
     (told (fieldOf s 53 5) (fieldOf s 58 5) (fieldOf s 63 6) (k .1 .1 .0), an-ambiguity-is-told (fieldOf s 50 3) (k .1 .0))
   where
-    told : (d h m : ℕ) → Codes d h m ⊎ Timely d h m → (activityTimeOf d h m ≡ UnknownTime) ⊎ (activityTimeOf d h m ≡ AtTime d h m)
+    told : (d h m : ℕ) → AllCodes d h m ⊎ Timely d h m → (activityTimeOf d h m ≡ UnknownTime) ⊎ (activityTimeOf d h m ≡ AtTime d h m)
     told d h m (inl k) = inl (coded d h m k)
       where
-        coded : (d h m : ℕ) → Codes d h m → activityTimeOf d h m ≡ UnknownTime
+        coded : (d h m : ℕ) → AllCodes d h m → activityTimeOf d h m ≡ UnknownTime
         coded d h m k = simp (k .0, k .1 .0, k .1 .1) day-0-with-hour-31-and-minute-63-is-unknown
     told d h m (inr t) = inr (each-activity-time-is-told d h m t)
 

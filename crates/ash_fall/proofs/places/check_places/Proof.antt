@@ -1,19 +1,11 @@
 -- `ash_fall::places::check_places` meets its contract.
 use borrow.Author.Needs.{needs}
-use Rattle.ash_fall.proofs.places.check_places.Statement.{statement}
-use mathlib.Core.List.{List, [], _∷_}
-use Rattle.slots.specs.declared.run.Run.{Run}
-use Rattle.rows.specs.Runs.Questions.{_then_}
-use mathlib.Core.Path.{_∙_, _≡_, ap, sym}
+use mathlib.Core.Path.{_≡_, refl}
 use native.Mathlib.Omega.{arith}
-use Rattle.slots.proofs.Judged.{by-index, laterRuns, slots-found}
-use mathlib.Core.Bool.{false}
-use lib.ListN.{getD, length}
-use Rattle.slots.specs.Slots.{noSlot, slotValues}
+use lib.ListN.{length}
+use Rattle.slots.proofs.Judged.{run-found}
 use Rattle.ash_fall.specs.AshFall.{places}
-use Rattle.rows.specs.Layout.{slotRows}
-use Rattle.rows.specs.Runs.Verdict.{slotsVerdict, walk}
-use Prim.Native.Nat.{ℕ}
+use Rattle.ash_fall.proofs.places.check_places.Statement.{statement}
 use Rattle.ash_fall.proofs.places.check_places.Tie as tie
 
 sixteen : (c : tie.Start) → length (c .args .t2) ≡ 16
@@ -34,21 +26,13 @@ array-copy-out-later-3 c = omega (arith, sixteen (c .before .before .before .bef
 returns : tie.Need-returns
 returns c =
     let s = c .before .before .before .before .before .before .before .before .before in
-    let found = s .args .found in
-    let slots = s .args .t2 in
-    let v : ℕ → List ℕ = λ i. slotValues places (getD slots i noSlot) in
-    let all : c .later3 .result ≡ laterRuns places (record { verdict = found then walk [] (slotRows places 83) (v 0); gap = false }) 112 (v 1 ∷ v 2 ∷ v 3 ∷ []) =
-    simp (
+    run-found places 3 (s .args .t2) (s .args .found) (c .later3 .result) refl (omega (arith, sixteen s)) (simp (
       c .later3 .ensures,
       c .before .before .later2 .ensures,
       c .before .before .before .before .later .ensures,
       c .before .before .before .before .before .before .then .ensures,
       c .before .before .before .before .before .before .before .fields .ensures,
-    )
-    in
-    ap (λ (r : Run). r .verdict) all
-    ∙ slots-found places found (v 0) (v 1 ∷ v 2 ∷ v 3 ∷ [])
-    ∙ ap (λ (vs : List (List ℕ)). found then slotsVerdict places vs) (sym (by-index places 4 slots (omega (arith, sixteen s))))
+    ))
 
 pub check-places-spec : {M : Type 1} → statement M
 check-places-spec =

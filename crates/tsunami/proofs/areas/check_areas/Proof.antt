@@ -1,18 +1,10 @@
 -- `tsunami::areas::check_areas` meets its contract.
 use borrow.Author.Needs.{needs}
-use mathlib.Core.List.{List, [], _∷_}
-use Rattle.slots.specs.declared.run.Run.{Run}
-use Rattle.rows.specs.Runs.Questions.{_then_}
-use mathlib.Core.Path.{_∙_, _≡_, ap, sym}
+use mathlib.Core.Path.{_≡_, refl}
 use native.Mathlib.Omega.{arith}
-use Rattle.slots.proofs.Judged.{by-index, laterRuns, slots-found}
-use mathlib.Core.Bool.{false}
-use lib.ListN.{getD, length}
-use Rattle.slots.specs.Slots.{noSlot, slotValues}
+use lib.ListN.{length}
+use Rattle.slots.proofs.Judged.{run-found}
 use Rattle.tsunami.specs.Tsunami.{areas}
-use Rattle.rows.specs.Layout.{slotRows}
-use Rattle.rows.specs.Runs.Verdict.{slotsVerdict, walk}
-use Prim.Native.Nat.{ℕ}
 use Rattle.tsunami.proofs.areas.check_areas.Statement.{statement}
 use Rattle.tsunami.proofs.areas.check_areas.Tie as tie
 
@@ -23,22 +15,14 @@ returns : tie.Need-returns
 returns c =
     let p = c .before .before in
     let s = p .before .before .before .before .before .before .before .before .before in
-    let found = s .args .found in
-    let slots = s .args .t2 in
-    let v : ℕ → List ℕ = λ i. slotValues areas (getD slots i noSlot) in
-    let all : c .later4 .result ≡ laterRuns areas (record { verdict = found then walk [] (slotRows areas 84) (v 0); gap = false }) 110 (v 1 ∷ v 2 ∷ v 3 ∷ v 4 ∷ []) =
-    simp (
+    run-found areas 4 (s .args .t2) (s .args .found) (c .later4 .result) refl (omega (arith, sixteen s)) (simp (
       c .later4 .ensures,
       p .later3 .ensures,
       p .before .before .later2 .ensures,
       p .before .before .before .before .later .ensures,
       p .before .before .before .before .before .before .then .ensures,
       p .before .before .before .before .before .before .before .fields .ensures,
-    )
-    in
-    ap (λ (r : Run). r .verdict) all
-    ∙ slots-found areas found (v 0) (v 1 ∷ v 2 ∷ v 3 ∷ v 4 ∷ [])
-    ∙ ap (λ (vs : List (List ℕ)). found then slotsVerdict areas vs) (sym (by-index areas 5 slots (omega (arith, sixteen s))))
+    ))
 
 pub check-areas-spec : {M : Type 1} → statement M
 check-areas-spec =
