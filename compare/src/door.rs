@@ -1,5 +1,5 @@
 //! The proved functions, made safe to call: the only place where a pointer is
-//! handed over. Each takes any slice, since none of them has a precondition.
+//! handed to them. Each takes any slice, since none of them has a precondition.
 //! Their answer is the number of the refusal, 0 where nothing is refused, its
 //! place, page and mark, and with 8 the value found at the place, if nothing else
 //! is said. The values can also be asked for alone.

@@ -28,7 +28,13 @@ type Comparison = fn(&mut Count);
 
 /// Every comparison with its name, in the order in which they run.
 const COMPARISONS: &[(&str, Comparison)] = &[
-    ("parity", parity::compare),
+    ("parity, frames of all kinds", parity::any_frames),
+    ("parity, every byte at every place", parity::every_byte),
+    ("parity, every window of twelve bits", parity::every_window),
+    ("parity, every pattern of up to sixteen bits, repeated", parity::every_pattern),
+    ("parity, every two bits", parity::every_two_bits),
+    ("parity, every run of bits", parity::every_run),
+    ("parity, slices of 0 to 40 bytes and of 64", parity::slice_lengths),
     ("one field, every place and width", one_field::every_place),
     ("one field, slices of 0 to 40 bytes and of 64", one_field::slice_lengths),
     ("one field, far beyond the end", one_field::far_beyond),

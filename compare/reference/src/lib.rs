@@ -3,8 +3,9 @@
 //! plainness before speed, so that another implementation can be compared
 //! with it on as many inputs as one likes.
 //!
-//! `read` and `write` work on frames, `line` on lines of digits; `meaning` says
-//! what numbers of a record mean; `listing` is the listing of a file of frames.
+//! `read` and `write` work on frames, `line` on lines of digits; `parity` is the
+//! parity of a frame in three ways; `meaning` says what numbers of a record mean;
+//! `listing` is the listing of a file of frames.
 //! `store` is the page store, `history` a second account of it, and `player`
 //! drives both, and any other, through the same steps, each with its `answer`.
 //! `generate` builds inputs for all of them, `samples` holds the values of

@@ -1,4 +1,9 @@
-//! The parity of a frame: CRC-24Q.
+//! The parity of a frame: CRC-24Q. It is worked out in three ways, which are
+//! compared with each other: here by long division, the way of reader and writer,
+//! and beside it one bit at a time and one byte at a time.
+
+pub mod by_bits;
+pub mod by_table;
 
 /// The generator with its leading one: a polynomial of degree 24.
 const GENERATOR: u32 = 0x186_4CFB;

@@ -1,21 +1,26 @@
-//! Parity and bit fields against values worked out by hand.
+//! Parity and bit fields against values worked out by hand, and the three ways to
+//! the parity against each other.
 
-use reference::bits::{bit, get, set, set_bit};
-use reference::parity::parity;
+use reference::bits::{bit, get, set, set_bit, Frame};
+use reference::parity::{self, by_bits, by_table};
 use reference::random::Random;
 
-/// The usual shift register, as a second way to the same parity.
-fn shift_register(bytes: &[u8], count: usize) -> u32 {
-    let mut register = 0u32;
-    for position in 0..count {
-        let bit = u32::from(bytes[position / 8] >> (7 - position % 8) & 1);
-        let feedback = (register >> 23 & 1) ^ bit;
-        register = register << 1 & 0xFF_FFFF;
-        if feedback == 1 {
-            register ^= 0x86_4CFB;
-        }
-    }
-    register
+const RANDOM_FRAMES: usize = 20_000;
+const FRAMES_OF_EACH_COUNT: usize = 50;
+
+/// The parity on which all three ways agree.
+fn parity(bytes: &[u8], count: usize) -> u32 {
+    let divided = parity::parity(bytes, count);
+    let shifted = by_bits::parity(bytes, count);
+    let looked_up = by_table::parity(bytes, count);
+    let of_what = || format!("the first {count} bits of {bytes:02X?}");
+    assert_eq!(shifted, divided, "one bit at a time and long division, {}", of_what());
+    assert_eq!(looked_up, shifted, "by the table and one bit at a time, {}", of_what());
+    looked_up
+}
+
+fn random_frame(random: &mut Random) -> Frame {
+    std::array::from_fn(|_| random.byte())
 }
 
 #[test]
@@ -26,6 +31,7 @@ fn parity_has_its_published_check_value() {
 #[test]
 fn parity_of_nothing_and_of_zeros_is_zero() {
     assert_eq!(parity(&[], 0), 0);
+    assert_eq!(parity(&[0xFF], 0), 0);
     assert_eq!(parity(&[0; 32], 226), 0);
 }
 
@@ -48,13 +54,46 @@ fn parity_counts_bits_and_not_bytes() {
     assert_ne!(parity(&frame, 226), sum);
 }
 
+/// With its parity behind it the generator divides a message, so nothing is left.
 #[test]
-fn parity_agrees_with_the_shift_register() {
+fn parity_over_a_message_and_its_own_parity_is_zero() {
+    let mut random = Random::new(3);
+    for _ in 0..RANDOM_FRAMES {
+        let mut frame = random_frame(&mut random);
+        let count = random.below(256 - 24 + 1);
+        let sum = parity(&frame, count);
+        set(&mut frame, count, 24, sum.into());
+        assert_eq!(parity(&frame, count + 24), 0);
+        // One bit off, and something is left.
+        set(&mut frame, count, 24, u64::from(sum) ^ 1 << random.below(24));
+        assert_ne!(parity(&frame, count + 24), 0);
+    }
+}
+
+/// Zeros in front do not count, since the register starts from zero: so every
+/// byte meets its entry of the table alone, wherever it stands.
+#[test]
+fn parity_of_every_byte_is_the_same_behind_any_zeros() {
+    for byte in 0..=255 {
+        let sum = parity(&[byte], 8);
+        for zeros in 0..32 {
+            let mut frame = [0; 32];
+            frame[zeros] = byte;
+            assert_eq!(parity(&frame, 8 * zeros + 8), sum);
+        }
+    }
+}
+
+#[test]
+fn parity_is_the_same_in_all_three_ways_on_every_count_of_bits() {
     let mut random = Random::new(1);
-    for _ in 0..20_000 {
-        let bytes = [0; 32].map(|_: u8| random.byte());
-        let count = random.below(257);
-        assert_eq!(parity(&bytes, count), shift_register(&bytes, count));
+    for count in 0..=256 {
+        for _ in 0..FRAMES_OF_EACH_COUNT {
+            parity(&random_frame(&mut random), count);
+        }
+    }
+    for _ in 0..RANDOM_FRAMES {
+        parity(&random_frame(&mut random), 226);
     }
 }
 
@@ -84,8 +123,8 @@ fn setting_a_field_touches_no_other_bit() {
 #[test]
 fn a_field_gives_back_what_was_set() {
     let mut random = Random::new(2);
-    for _ in 0..20_000 {
-        let mut frame = [0; 32].map(|_: u8| random.byte());
+    for _ in 0..RANDOM_FRAMES {
+        let mut frame = random_frame(&mut random);
         let before = frame;
         let width = 1 + random.below(64);
         let first = random.below(257 - width);

@@ -1,22 +1,24 @@
 //! The time of a listing: the proved program against the reference's, each as
-//! a process of its own, on the same file of valid frames.
+//! a process of its own, on the same files of valid frames.
 
-use super::fastest;
+use super::{built, fastest, file_of_frames};
 use std::fs::File;
 use std::path::{Path, PathBuf};
 use std::process::{Command, Stdio};
 use std::time::Instant;
 
-const FRAMES: &str = "1000000";
+/// An archive of some size, and as many frames as one listing takes.
+const SIZES: [usize; 2] = [100_000, 1_000_000];
 const ROUNDS: usize = 5;
 
 pub fn measure() {
-    let root = Path::new(env!("CARGO_MANIFEST_DIR"));
-    let built = root.join("target/release");
-    let proved = root.join("../target/bin/list");
-    let reference = built.join("list_frames");
-    let input = built.join("million-frames.txt");
-    write_frames(&built.join("sample_file"), &input);
+    SIZES.into_iter().for_each(measure_size);
+}
+
+fn measure_size(frames: usize) {
+    let proved = Path::new(env!("CARGO_MANIFEST_DIR")).join("../target/bin/list");
+    let reference = built("list_frames");
+    let input = file_of_frames(frames);
     let mut times = (Vec::new(), Vec::new());
     // The two take turns, so that a slow time of the machine meets both.
     for _ in 0..ROUNDS {
@@ -24,15 +26,9 @@ pub fn measure() {
         times.1.push(seconds(&reference, &input));
     }
     let (proved, reference) = (fastest(times.0), fastest(times.1));
-    println!("listing {FRAMES} frames, proved:    {proved:.2} s");
-    println!("listing {FRAMES} frames, reference: {reference:.2} s");
+    println!("listing {frames} frames, proved:    {proved:.2} s");
+    println!("listing {frames} frames, reference: {reference:.2} s");
     println!("ratio: {:.2}", proved / reference);
-}
-
-fn write_frames(program: &Path, to: &PathBuf) {
-    let file = File::create(to).expect("the file of frames cannot be written");
-    let ended = Command::new(program).arg(FRAMES).stdout(file).status();
-    assert!(ended.expect("build the package `reference` first").success());
 }
 
 /// How long a program takes over the file. What it prints goes nowhere.

@@ -15,9 +15,6 @@ field16-is-settled κs a x y = beside answer
 pub field8-is-settled : Settled bits.field8.ended bits.field8.Reads.Post
 field8-is-settled κs a x y = beside answer
 
-pub bit-of-is-settled : Settled bits.bit_of.ended bits.bit_of.Reads.Post
-bit-of-is-settled κs a x y = beside answer
-
 pub put-is-settled : Settled bits.put.ended bits.put.Reads.Post
 put-is-settled κs a x y = answer
 

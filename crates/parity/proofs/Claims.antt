@@ -1,5 +1,5 @@
 -- What this crate claims of its definitions.
-use mathlib.Core.Path.{_≡_, sym, ap, _∙_}
+use mathlib.Core.Path.{_≡_, refl, sym, ap, _∙_}
 use mathlib.Core.Bool.{true}
 use Prim.Native.Nat.{ℕ, _/_, _^_, _<_}
 use native.Mathlib.Omega.{arith}
@@ -9,10 +9,12 @@ use borrow.Author.Tests.{eq-eqb, eqb-true}
 use lib.ListN.{length}
 use Rattle.bits.specs.Frame.{number, fieldOf, frameIn}
 use Rattle.bits.proofs.Frames.{field-lt}
-use Rattle.parity.specs.Parity.{after, parityOf, parityOfFront, parityRight}
+use Rattle.parity.specs.Parity.{step, after, parityOf, parityOfFront, parityRight}
+use Rattle.parity.specs.Groups.{bitsOf, registerOf}
 use Rattle.parity.proofs.Step.{after-lt}
 use Rattle.parity.proofs.Linear.{sum, after-sum}
 use Rattle.parity.proofs.Front.{parity-of-front, no-parity}
+use Rattle.parity.proofs.Groups.{group-more}
 use Rattle.parity.proofs.EveryBit.{one-bit-counts}
 
 -- A parity is a number of 24 bits.
@@ -31,6 +33,16 @@ pub each-of-226-bits-counts : (s t : List ℕ) (k : ℕ) → k < 226 → ((i : �
 unfolding parityOf
 each-of-226-bits-counts s t k h same n e =
     n (one-bit-counts (λ i. fieldOf s i 1) (λ i. fieldOf t i 1) k 226 h (λ i. field-lt s i 1) (λ i. field-lt t i 1) same e)
+
+-- The published check value of CRC-24Q, what the nine bytes "123456789" leave in the register: so the generator is that of
+-- the paper, and bits go in the most significant first, from zero, with no change at the end.
+pub crc-24q-has-its-check-value : after 0 (bitsOf 72 0x313233343536373839) 72 ≡ 0xCDE703
+unfolding step
+crc-24q-has-its-check-value = refl
+
+-- A group is the bit rule: 24 bits taken at once are 24 steps, whatever the register holds.
+pub a-group-is-24-steps : (c v : ℕ) → c < 2 ^ 24 → registerOf (bitXor c v) ≡ after c (bitsOf 24 v) 24
+a-group-is-24-steps c v h = sym (group-more c v (bitsOf 24 v) h (λ i l. refl))
 
 -- The register is linear: of the sum of two runs of bits, without carries, it is the sum of the registers.
 pub register-is-linear : (c d : ℕ) (f g : ℕ → ℕ) (n : ℕ) → after (bitXor c d) (sum f g) n ≡ bitXor (after c f n) (after d g n)

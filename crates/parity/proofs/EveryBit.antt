@@ -12,7 +12,7 @@ use Rattle.parity.proofs.Linear.{step-sum}
 use Rattle.parity.proofs.Front.{after-same}
 
 -- numbers without a difference are one
-same-number : (a b : ℕ) → bitXor a b ≡ 0 → a ≡ b
+pub same-number : (a b : ℕ) → bitXor a b ≡ 0 → a ≡ b
 same-number a b e = omega (arith, e, xor-add-and a b, and-le-l a b, and-le-r a b)
 
 -- the generator is odd, so a register that a bit of zero makes zero was zero ..

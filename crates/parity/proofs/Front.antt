@@ -25,7 +25,7 @@ unfolding parityOf parityOfFront
 parity-of-front s = after-same 0 _ _ 226 (λ i h. front-bit (number s) i h)
 
 -- bits of zero leave a register of zero
-silent : (n : ℕ) → after 0 (λ i. 0) n ≡ 0
+pub silent : (n : ℕ) → after 0 (λ i. 0) n ≡ 0
 unfolding step
 silent zero = refl
 silent (suc n) = ap (λ (c : ℕ). step c 0) (silent n)

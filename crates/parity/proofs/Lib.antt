@@ -4,5 +4,8 @@ pub mod Xor
 pub mod Linear
 pub mod Front
 pub mod EveryBit
-pub mod Bytes
+pub mod Groups
+pub mod Digits
+pub mod Entries
+pub mod Taken
 pub mod Settled

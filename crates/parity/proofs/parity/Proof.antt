@@ -1,51 +1,62 @@
--- `parity::parity` meets its contract: the register is that of the bytes passed.
-use mathlib.Core.Path.{_≡_, refl, sym, ap, _∙_}
-use Prim.Native.Nat.{_+_, _-_, _*_, _≤_, _<_, _^_}
+-- `parity::parity` meets its contract: the register is that of the bits passed.
+use mathlib.Core.Path.{_≡_, subst, sym, ap, ap₂, _∙_}
+use Prim.Native.Nat.{ℕ, _-_, _%_, _≤_, _<_, _^_}
 use native.Mathlib.Omega.{arith}
+use mathlib.Core.List.{List}
 use borrow.Author.Needs.{needs}
-use Rattle.bits.specs.Frame.{Bytes}
-use Rattle.bits.proofs.Inside.{frame-lent}
+use lib.Bits.{bitXor, xor-lt}
+use Rattle.bits.specs.Frame.{frameIn}
+use Rattle.bits.proofs.Inside.{field-in}
 use Rattle.parity.specs.Parity.{parityOf}
-use Rattle.parity.proofs.Bytes.{taken, byte-more}
-use Rattle.parity.proofs.Front.{no-parity}
+use Rattle.parity.specs.Groups.{entryOf, registerOf}
+use Rattle.parity.proofs.Step.{after-lt}
+use Rattle.parity.proofs.Taken.{taken, first-group, next-group}
 use Rattle.parity.proofs.parity.Statement.{statement}
 use Rattle.parity.proofs.parity.Tie as tie
 
 abbrev Inv-loop : tie.InvT-loop
-Inv-loop frame register₀ at₀ register at = (at ≤ 28) × ((register ≡ taken frame (8 * at)) × (register < 2 ^ 24))
+Inv-loop frame register₀ at₀ register at = (at ≤ 226) × ((at % 24 ≡ 10) × (register ≡ taken (frameIn frame) at))
 
 abbrev μ-loop : tie.MeasureT-loop
-μ-loop frame register₀ at₀ register at = 28 - at
-
-bytes : (c : tie.After-shared-slice-known Inv-loop μ-loop) → Bytes (c .before .args .frame .now)
-bytes c i = omega (arith, c .shared-slice-known .given i)
-
-returns : tie.Need-returns Inv-loop μ-loop
-returns c = sym (no-parity (c .before .before .args .frame .now) (c .if1 .taken))
+μ-loop frame register₀ at₀ register at = 226 - at
 
 loop-holds : tie.Need-loop-holds Inv-loop μ-loop
-loop-holds c = (omega arith, (refl, omega arith))
+loop-holds c =
+    let two = c .before .before in
+    let one = two .before .before in
+    let s = frameIn (one .before .before .before .args .frame .now) in
+    let first = one .entry-2 .ensures ∙ ap (entryOf 2) (one .before .field8 .ensures .0) in
+    let second = two .entry-1 .ensures ∙ ap (entryOf 1) (two .before .field82 .ensures .0) in
+    let third = c .entry-0 .ensures ∙ ap (entryOf 0) (c .before .field83 .ensures .0) in
+    (omega arith, (omega arith, ap₂ bitXor (ap₂ bitXor first second) third ∙ first-group s))
+
+-- the frame that was lent, from the loop
+abbrev lent : tie.At-loop Inv-loop μ-loop → List ℕ
+lent l = frameIn (l .before .before .before .before .before .before .before .before .args .frame .now)
+
+register-lt : (l : tie.At-loop Inv-loop μ-loop) → l .loop .register < 2 ^ 24
+register-lt l = subst (λ (r : ℕ). r < 2 ^ 24) (sym (l .loop .inv .1 .1)) (after-lt 0 _ (l .loop .at) (omega arith))
+
+after-group-requires : tie.Need-after-group-requires Inv-loop μ-loop
+after-group-requires c κs =
+    let l = c .before .before in
+    xor-lt 24 (l .loop .register) (c .field32 .result) (register-lt l) (c .field32 .ensures .1)
 
 loop-again : tie.Need-loop-again Inv-loop μ-loop
 loop-again c =
-    let l = c .before .before .before .loop in
-    let e = c .before .before .before .before in
-    let lent = e .before .before .args .frame .now in
-    let next = byte-more lent (l .at) 8 (l .register) (8 * (l .at + 1)) (e .if1 .left) (bytes (e .before)) (omega arith) (omega arith) (l .inv .1 .0) (omega arith) in
-    (omega arith, (c .push-bits .ensures .0 ∙ next, c .push-bits .ensures .1))
+    let l = c .before .before .before in
+    let at = l .loop .at in
+    let group = c .before .field32 .ensures .0 ∙ field-in 32 (lent l) at 24 (omega arith) (omega arith) in
+    (omega arith, (omega arith, c .after-group .ensures ∙ ap registerOf (ap₂ bitXor (l .loop .inv .1 .1) group) ∙ next-group (lent l) at (omega arith)))
 
-returns-2 : tie.Need-returns-2 Inv-loop μ-loop
+returns : tie.Need-returns Inv-loop μ-loop
 unfolding parityOf
-returns-2 c =
-    let l = c .before .before .before .loop in
-    let e = c .before .before .before .before in
-    let lent = e .before .before .args .frame .now in
-    let whole : l .at ≡ 28 = omega arith in
-    c .push-bits2 .ensures .0
-    ∙ byte-more lent 28 2 (l .register) 226 (e .if1 .left) (bytes (e .before)) (omega arith) (omega arith) (rw whole at (l .inv .1 .0)) refl
-    ∙ ap parityOf (sym (frame-lent lent (e .if1 .left)))
+returns c =
+    let l = c .before in
+    let all : l .loop .at ≡ 226 = omega arith in
+    l .loop .inv .1 .1 ∙ ap (taken (lent l)) all
 
 pub parity-spec : {M : Type 1} → statement M
 parity-spec =
     tie.close
-    (tie.spec Inv-loop μ-loop returns loop-holds (λ c. search needs) (λ c κs. search needs) (λ c. search needs) (λ c. search needs) loop-again (λ c. search needs) (λ c κs. search needs) returns-2)
+    (tie.spec Inv-loop μ-loop (λ c κs. search needs) (λ c κs. search needs) (λ c κs. search needs) (λ c κs. search needs) (λ c κs. search needs) (λ c κs. search needs) loop-holds (λ c κs. search needs) after-group-requires (λ c. search needs) (λ c. search needs) loop-again returns)
