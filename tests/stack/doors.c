@@ -70,7 +70,7 @@ struct door {
 
 static struct door doors[] = {
     {"one field", call_field, 8, 0},
-    {"lz_parity", call_parity, 8, 0},
+    {"lz_parity", call_parity, 88, 0},
     {"lz_read, refused by a field", call_refused, 1664, 0},
     {"lz_read", call_read, 1664, 0},
     {"lz_read_line", call_read_line, 1792, 0},

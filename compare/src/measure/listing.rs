@@ -26,8 +26,8 @@ fn measure_size(frames: usize) {
         times.1.push(seconds(&reference, &input));
     }
     let (proved, reference) = (fastest(times.0), fastest(times.1));
-    println!("listing {frames} frames, proved:    {proved:.2} s");
-    println!("listing {frames} frames, reference: {reference:.2} s");
+    println!("listing {frames} frames, proved:    {proved:.3} s");
+    println!("listing {frames} frames, reference: {reference:.3} s");
     println!("ratio: {:.2}", proved / reference);
 }
 

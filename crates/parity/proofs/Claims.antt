@@ -1,13 +1,13 @@
 -- What this crate claims of its definitions.
 use mathlib.Core.Path.{_≡_, refl, sym, ap, _∙_}
 use mathlib.Core.Bool.{true}
-use Prim.Native.Nat.{ℕ, _/_, _^_, _<_}
+use Prim.Native.Nat.{ℕ, _*_, _/_, _^_, _<_}
 use native.Mathlib.Omega.{arith}
 use mathlib.Core.List.{List}
 use lib.Bits.{bitXor}
 use borrow.Author.Tests.{eq-eqb, eqb-true}
 use lib.ListN.{length}
-use Rattle.bits.specs.Frame.{number, fieldOf, frameIn}
+use Rattle.bits.specs.Frame.{number, bytesOf, fieldOf, frameIn}
 use Rattle.bits.proofs.Frames.{field-lt}
 use Rattle.parity.specs.Parity.{step, after, parityOf, parityOfFront, parityRight}
 use Rattle.parity.specs.Groups.{bitsOf, registerOf}
@@ -34,10 +34,10 @@ unfolding parityOf
 each-of-226-bits-counts s t k h same n e =
     n (one-bit-counts (λ i. fieldOf s i 1) (λ i. fieldOf t i 1) k 226 h (λ i. field-lt s i 1) (λ i. field-lt t i 1) same e)
 
--- The published check value of CRC-24Q, what the nine bytes "123456789" leave in the register: so the generator is that of
--- the paper, and bits go in the most significant first, from zero, with no change at the end.
-pub crc-24q-has-its-check-value : after 0 (bitsOf 72 0x313233343536373839) 72 ≡ 0xCDE703
-unfolding step
+-- The published check value of CRC-24Q, that of the nine bytes "123456789", here as bits 154 to 225 behind zeros: so the
+-- generator is that of the paper, and bits go in the most significant first, from zero, with no change at the end.
+pub crc-24q-has-its-check-value : parityOf (bytesOf (0x313233343536373839 * 2 ^ 30)) ≡ 0xCDE703
+unfolding parityOf step
 crc-24q-has-its-check-value = refl
 
 -- A group is the bit rule: 24 bits taken at once are 24 steps, whatever the register holds.

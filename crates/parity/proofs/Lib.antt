@@ -6,6 +6,6 @@ pub mod Front
 pub mod EveryBit
 pub mod Groups
 pub mod Digits
-pub mod Entries
+pub mod Arms
 pub mod Taken
 pub mod Settled
