@@ -34,6 +34,7 @@ const COMPARISONS: &[(&str, Comparison)] = &[
     ("parity, every pattern of up to sixteen bits, repeated", parity::every_pattern),
     ("parity, every two bits", parity::every_two_bits),
     ("parity, every run of bits", parity::every_run),
+    ("parity, document 004", parity::document_004),
     ("parity, slices of 0 to 40 bytes and of 64", parity::slice_lengths),
     ("one field, every place and width", one_field::every_place),
     ("one field, slices of 0 to 40 bytes and of 64", one_field::slice_lengths),

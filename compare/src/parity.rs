@@ -8,11 +8,13 @@
 //! sixteen bits among others. Wider groups are met with one, two and neighbouring
 //! bits, and at random.
 
+use crate::reading::frame_of;
 use crate::{door, Count};
 use reference::bits::{set, set_bit, Frame};
 use reference::generate::{plain_frames, random_bytes, slice_of_length};
 use reference::parity::{by_bits, by_table, parity};
 use reference::random::Random;
+use reference::samples;
 
 const RANDOM_FRAMES: usize = 200_000;
 const NEIGHBOURED_FRAMES: usize = 200;
@@ -103,6 +105,11 @@ pub fn every_run(count: &mut Count) {
             with_opposite(count, frame);
         }
     }
+}
+
+/// The reports of document 004.
+pub fn document_004(count: &mut Count) {
+    samples::all().iter().for_each(|record| agree(count, &frame_of(record)));
 }
 
 /// Every slice that is no frame is told from one, whatever it holds.
