@@ -1,16 +1,13 @@
 -- A group may be cut into digits: the register after it is the sum of what each digit leaves.
-use mathlib.Core.Path.{_≡_, sym, ap, ap₂, _∙_}
+use mathlib.Core.Path.{_≡_, sym, ap, _∙_}
 use Prim.Native.Nat.{ℕ, zero, suc, _+_, _*_, _/_, _%_, _^_}
-use native.Mathlib.Nat.{add-zero, mul-assoc, mod-lt}
+use native.Mathlib.Nat.{mul-assoc, mod-lt}
 use native.Mathlib.Omega.{arith}
-use lib.Bits.{bitXor, xor-block, xor-shifted}
+use lib.Bits.{bitXor, xor-shifted}
 use lib.Pow.{pow-pos, pow-add, split, shr-shr}
 use Rattle.parity.specs.Groups.{registerOf, entryOf}
+use Rattle.parity.proofs.Xor.{xor-up}
 use Rattle.parity.proofs.Groups.{register-sum}
-
-scaled : (m a b : ℕ) → bitXor (a * 2 ^ m) (b * 2 ^ m) ≡ bitXor a b * 2 ^ m
-scaled m a b =
-    ap₂ bitXor (sym (add-zero (a * 2 ^ m))) (sym (add-zero (b * 2 ^ m))) ∙ xor-block m a b 0 0 (pow-pos m) (pow-pos m) ∙ add-zero (bitXor a b * 2 ^ m)
 
 -- the last digit of y, and those before it
 digit-more : (n y : ℕ) → entryOf n y ≡ bitXor (entryOf (suc n) (y / 2 ^ 4)) (entryOf n (y % 2 ^ 4))
@@ -20,7 +17,7 @@ digit-more n y =
     ap (λ (k : ℕ). y / 2 ^ 4 * 2 ^ k) places ∙ ap (λ (z : ℕ). y / 2 ^ 4 * z) (pow-add 2 4 (4 * n)) ∙ sym (mul-assoc (y / 2 ^ 4) (2 ^ 4) (2 ^ (4 * n))) in
     ap registerOf
     (ap (λ (x : ℕ). x * 2 ^ (4 * n)) (sym (xor-shifted (y / 2 ^ 4) 4 (y % 2 ^ 4) (mod-lt y (pow-pos 4)) ∙ split y 4))
-    ∙ sym (scaled (4 * n) (y / 2 ^ 4 * 2 ^ 4) (y % 2 ^ 4))
+    ∙ sym (xor-up (4 * n) (y / 2 ^ 4 * 2 ^ 4) (y % 2 ^ 4))
     ∙ ap (λ (x : ℕ). bitXor x (y % 2 ^ 4 * 2 ^ (4 * n))) (sym up))
     ∙ register-sum (y / 2 ^ 4 * 2 ^ (4 * suc n)) (y % 2 ^ 4 * 2 ^ (4 * n))
 

@@ -4,7 +4,7 @@ use Prim.Native.Nat.{ℕ, zero, suc, _+_, _*_, _/_, _%_, _^_, _<_}
 use native.Mathlib.Omega.{arith}
 use lib.Bits.{bitXor, xor-add-and, xor-shr, xor-mod}
 use Rattle.parity.specs.Parity.{generator, step, after}
-use Rattle.parity.proofs.Xor.{xor-swap, xor-double}
+use Rattle.parity.proofs.Xor.{xor-swap, xor-up}
 
 -- a multiple by a bit
 scaled : (s t : ℕ) → s < 2 → t < 2 → bitXor (s * (generator % 2 ^ 24)) (t * (generator % 2 ^ 24)) ≡ (s + t) % 2 * (generator % 2 ^ 24)
@@ -34,7 +34,7 @@ step-sum c d a b =
     let s : ℕ = (c / 2 ^ 23 + a) % 2 in
     let t : ℕ = (d / 2 ^ 23 + b) % 2 in
     let up : bitXor c d * 2 % 2 ^ 24 ≡ bitXor (c * 2 % 2 ^ 24) (d * 2 % 2 ^ 24) =
-    ap (λ (x : ℕ). x % 2 ^ 24) (sym (xor-double c d)) ∙ xor-mod (c * 2) (d * 2) 24 in
+    ap (λ (x : ℕ). x % 2 ^ 24) (sym (xor-up 1 c d)) ∙ xor-mod (c * 2) (d * 2) 24 in
     let out : (bitXor c d / 2 ^ 23 + (a + b) % 2) % 2 ≡ (s + t) % 2 =
     ap (λ (x : ℕ). (x + (a + b) % 2) % 2) (xor-shr c d 23)
     ∙ even (c / 2 ^ 23) (d / 2 ^ 23) _ _ a b (xor-add-and (c / 2 ^ 23) (d / 2 ^ 23)) in

@@ -10,7 +10,7 @@ pub step-by : (c b t : ℕ) → (c / 2 ^ 23 + b) % 2 ≡ t → step c b ≡ bitX
 unfolding step
 step-by c b t e = ap (λ (t : ℕ). bitXor (c * 2 % 2 ^ 24) (t * (generator % 2 ^ 24))) e
 
-pub step-lt : (c b : ℕ) → step c b < 2 ^ 24
+step-lt : (c b : ℕ) → step c b < 2 ^ 24
 unfolding step
 step-lt c b = xor-lt 24 (c * 2 % 2 ^ 24) ((c / 2 ^ 23 + b) % 2 * (generator % 2 ^ 24)) (omega arith) (omega arith)
 
