@@ -15,6 +15,12 @@ Record-told-is-settled κs a x y = answer
 pub read-is-settled : Settled report.read.read.ended report.read.read.Reads.Post
 read-is-settled κs a x y = beside answer
 
+pub look-is-settled : Settled report.look.look.ended report.look.look.Reads.Post
+look-is-settled κs a x y = beside answer
+
+pub Looked-of-is-settled : Settled report.look.Looked.of.ended report.look.Looked.of.Reads.Post
+Looked-of-is-settled κs a x y = answer
+
 pub write-answer-is-settled : Settled report.write.write_answer.ended report.write.write_answer.Reads.Post
 write-answer-is-settled κs a x y = beside answer
 

@@ -7,7 +7,13 @@ ghost use Rattle.rows.specs.Runs.Questions.{_then_};
 ghost use Rattle.report.specs.Records.{bodyOf};
 ghost use Rattle.rows.specs.Runs.Verdict.{bodyVerdict};
 ghost use Rattle.report.specs.Runs.Reading.{contentAs};
-ghost use Rattle.rows.specs.Values.{headValues};
+ghost use Rattle.rows.specs.Values.{headValues, sidesAt};
+ghost use Rattle.ash_fall.specs.AshFall.{ashFall, eruptionFrom};
+ghost use Rattle.hypocenter.specs.Hypocenter.{hypocenter, quakeFrom};
+ghost use Rattle.intensity.specs.Intensity.{intensity, shakingFrom};
+ghost use Rattle.nankai.specs.Nankai.{nankai, numbersFrom};
+ghost use Rattle.tsunami.specs.Tsunami.{tsunami, warningFrom};
+ghost use Rattle.volcano.specs.Volcano.{volcano, activityFrom};
 ghost use Rattle.rows.specs.Runs.Fields.{fieldsIn, keptIn};
 ghost use Rattle.report.specs.Categories.{layout, bodyFrom, sidesOf, pagedOf};
 ghost use Rattle.report.specs.Runs.Told.{toldOf, withSpares};
@@ -22,6 +28,7 @@ use rows::common::Common;
 use rows::fields::Fields;
 use rows::fields::Spares;
 use rows::fields::Table;
+use rows::refusal::Refusal;
 use rows::refusal::Verdict;
 use slots::slot::Slot;
 use tsunami::Warning;
@@ -59,70 +66,147 @@ pub struct BodyAndSpares {
     pub spares: Spares,
 }
 
-// What stands from bit 43 up to bit 213.
+// What stands from bit 43 up to bit 213, and what is found by 7 and by all rules from bit 8 to bit 213.
 pub struct Content {
+    pub found: Verdict,
     pub body: Body,
     pub slots: [Slot; 16],
     pub text: [u8; 18],
     pub spares: Spares,
 }
 
+// Each category is decided on where its fields are taken out of the frame, before a record is made of them.
 impl Content {
+    fn of_hypocenter(f: &[u8]) -> Content
+        ensures { λ r. ⌜ r ≡ contentAs (frameIn (now (f .entry))) (Body.Hypocenter (quakeFrom (sidesAt (frameIn (now (f .entry))) hypocenter))) ⌝ }
+    {
+        let quake = Quake::of(f);
+        let spares = hypocenter::spares(f);
+        Content {
+            found: quake.check(Verdict::Fine, Common::of(f), spares),
+            body: Body::Hypocenter(quake),
+            slots: [Slot::none(); 16],
+            text: [0u8; 18],
+            spares: spares,
+        }
+    }
+
+    fn of_intensity(f: &[u8]) -> Content
+        ensures { λ r. ⌜ r ≡ contentAs (frameIn (now (f .entry))) (Body.Intensity (shakingFrom (sidesAt (frameIn (now (f .entry))) intensity))) ⌝ }
+    {
+        let shaking = Shaking::of(f);
+        let slots = intensity::prefectures::prefectures_of(f);
+        let spares = intensity::spares(f);
+        Content {
+            found: shaking.check(Verdict::Fine, Common::of(f), slots, spares),
+            body: Body::Intensity(shaking),
+            slots: slots,
+            text: [0u8; 18],
+            spares: spares,
+        }
+    }
+
+    fn of_nankai(f: &[u8]) -> Content
+        ensures { λ r. ⌜ r ≡ contentAs (frameIn (now (f .entry))) (Body.Nankai (numbersFrom (sidesAt (frameIn (now (f .entry))) nankai))) ⌝ }
+    {
+        let page = PageNumbers::of(f);
+        let spares = nankai::spares(f);
+        Content {
+            found: page.check(Verdict::Fine, Common::of(f), spares),
+            body: Body::Nankai(page),
+            slots: [Slot::none(); 16],
+            text: nankai::page_text(f),
+            spares: spares,
+        }
+    }
+
+    fn of_tsunami(f: &[u8]) -> Content
+        ensures { λ r. ⌜ r ≡ contentAs (frameIn (now (f .entry))) (Body.Tsunami (warningFrom (sidesAt (frameIn (now (f .entry))) tsunami))) ⌝ }
+    {
+        let warning = Warning::of(f);
+        let slots = tsunami::areas::areas_of(f);
+        let spares = tsunami::spares(f);
+        Content {
+            found: warning.check(Verdict::Fine, Common::of(f), slots, spares),
+            body: Body::Tsunami(warning),
+            slots: slots,
+            text: [0u8; 18],
+            spares: spares,
+        }
+    }
+
+    fn of_volcano(f: &[u8]) -> Content
+        ensures { λ r. ⌜ r ≡ contentAs (frameIn (now (f .entry))) (Body.Volcano (activityFrom (sidesAt (frameIn (now (f .entry))) volcano))) ⌝ }
+    {
+        let activity = Activity::of(f);
+        let slots = volcano::places::places_of(f);
+        let spares = volcano::spares(f);
+        Content {
+            found: activity.check(Verdict::Fine, Common::of(f), slots, spares),
+            body: Body::Volcano(activity),
+            slots: slots,
+            text: [0u8; 18],
+            spares: spares,
+        }
+    }
+
+    fn of_ash_fall(f: &[u8]) -> Content
+        ensures { λ r. ⌜ r ≡ contentAs (frameIn (now (f .entry))) (Body.AshFall (eruptionFrom (sidesAt (frameIn (now (f .entry))) ashFall))) ⌝ }
+    {
+        let eruption = Eruption::of(f);
+        let slots = ash_fall::places::places_of(f);
+        let spares = ash_fall::spares(f);
+        Content {
+            found: eruption.check(Verdict::Fine, Common::of(f), slots, spares),
+            body: Body::AshFall(eruption),
+            slots: slots,
+            text: [0u8; 18],
+            spares: spares,
+        }
+    }
+
+    fn of_flood(f: &[u8]) -> Content
+        ensures { λ r. ⌜ r ≡ contentAs (frameIn (now (f .entry))) Body.Flood ⌝ }
+    {
+        let slots = flood::areas::areas_of(f);
+        let spares = flood::spares(f);
+        Content {
+            found: flood::check(Verdict::Fine, Common::of(f), slots, spares),
+            body: Body::Flood,
+            slots: slots,
+            text: [0u8; 18],
+            spares: spares,
+        }
+    }
+
+    // 7.
+    fn of_none(f: &[u8]) -> Content
+        ensures { λ r. ⌜ r ≡ contentAs (frameIn (now (f .entry))) Body.NoCategory ⌝ }
+    {
+        Content {
+            found: Verdict::Refused(Refusal::Category),
+            body: Body::NoCategory,
+            slots: [Slot::none(); 16],
+            text: [0u8; 18],
+            spares: Spares {
+                first: bits::field64(f, 43, 10),
+                second: 0,
+            },
+        }
+    }
+
     pub(crate) fn of(f: &[u8]) -> Content
         ensures { λ r. ⌜ r ≡ contentAs (frameIn (now (f .entry))) (bodyOf (frameIn (now (f .entry)))) ⌝ }
     {
         match bits::field8(f, 17, 4) {
-            2 => Content {
-                body: Body::Hypocenter(Quake::of(f)),
-                slots: [Slot::none(); 16],
-                text: [0u8; 18],
-                spares: hypocenter::spares(f),
-            },
-            3 => Content {
-                body: Body::Intensity(Shaking::of(f)),
-                slots: intensity::prefectures::prefectures_of(f),
-                text: [0u8; 18],
-                spares: intensity::spares(f),
-            },
-            4 => Content {
-                body: Body::Nankai(PageNumbers::of(f)),
-                slots: [Slot::none(); 16],
-                text: nankai::page_text(f),
-                spares: nankai::spares(f),
-            },
-            5 => Content {
-                body: Body::Tsunami(Warning::of(f)),
-                slots: tsunami::areas::areas_of(f),
-                text: [0u8; 18],
-                spares: tsunami::spares(f),
-            },
-            8 => Content {
-                body: Body::Volcano(Activity::of(f)),
-                slots: volcano::places::places_of(f),
-                text: [0u8; 18],
-                spares: volcano::spares(f),
-            },
-            9 => Content {
-                body: Body::AshFall(Eruption::of(f)),
-                slots: ash_fall::places::places_of(f),
-                text: [0u8; 18],
-                spares: ash_fall::spares(f),
-            },
-            11 => Content {
-                body: Body::Flood,
-                slots: flood::areas::areas_of(f),
-                text: [0u8; 18],
-                spares: flood::spares(f),
-            },
-            _ => Content {
-                body: Body::NoCategory,
-                slots: [Slot::none(); 16],
-                text: [0u8; 18],
-                spares: Spares {
-                    first: bits::field64(f, 43, 10),
-                    second: 0,
-                },
-            },
+            2 => Content::of_hypocenter(f),
+            3 => Content::of_intensity(f),
+            4 => Content::of_nankai(f),
+            5 => Content::of_tsunami(f),
+            8 => Content::of_volcano(f),
+            9 => Content::of_ash_fall(f),
+            11 => Content::of_flood(f),
+            _ => Content::of_none(f),
         }
     }
 }

@@ -8,4 +8,5 @@ pub mod check; // the rules, on values
 mod tidy; // nothing stands where the category has nothing
 mod encode; // a record as bits
 pub mod read; // from a lent frame to a record
+pub mod look; // what is seen of a lent frame without a record
 pub mod write; // from a record to a lent frame

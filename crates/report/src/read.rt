@@ -1,8 +1,8 @@
-// Reading a lent frame: the bits first, then the rules.
+// Reading a lent frame: what is refused is decided before a record is made.
 ghost use mathlib.Core.Path.{_≡_};
 ghost use Rattle.bits.specs.Frame.{frameIn};
 ghost use Rattle.report.specs.Records.{recordOf};
-ghost use Rattle.report.specs.Runs.Reading.{outerOf, contentAnswer, reading, readOf, readSays};
+ghost use Rattle.report.specs.Runs.Reading.{outerOf, contentAnswer, reading, unread, readOf, readSays};
 ghost use Rattle.rows.specs.Refusals.{answers};
 ghost use Rattle.rows.specs.declared.refusal.Verdict.{Verdict};
 use crate::body::Content;
@@ -19,7 +19,7 @@ pub struct Reading {
 }
 
 // 2 to 6, which are asked before what stands in a category.
-fn outer(f: &[u8]) -> Verdict
+pub(crate) fn outer(f: &[u8]) -> Verdict
     ensures { λ r. ⌜ r ≡ outerOf (frameIn (now (f .entry))) ⌝ }
 {
     Verdict::Fine
@@ -31,47 +31,41 @@ fn outer(f: &[u8]) -> Verdict
 }
 
 // No record leaves with a refusal.
-fn conclude(found: Verdict, read: Record) -> Reading
-    ensures { λ r. ⌜ r ≡ reading found read ⌝ }
+fn refused(found: Verdict) -> Reading
+    ensures { λ r. ⌜ r ≡ unread found ⌝ }
 {
-    match found {
-        Verdict::Fine => Reading {
-            answer: found,
-            record: read,
-        },
-        Verdict::Refused(_) => {
-            let zeros = Record::of_zeros();
-            Reading {
-                answer: found,
-                record: zeros,
-            }
-        }
+    Reading {
+        answer: found,
+        record: Record::of_zeros(),
     }
 }
 
-// 7, 8 and 10, and the record. The category is looked up where its content is taken out of the frame.
+// 7, 8 and 10, and the record: nothing is asked of Reserved, whose six bits may hold anything.
 fn inner(f: &[u8]) -> Reading
     requires { ⌜ outerOf (frameIn (now f)) ≡ Verdict.Fine ⌝ }
     ensures { λ r. ⌜ r ≡ reading (contentAnswer (frameIn (now (f .entry)))) (recordOf (frameIn (now (f .entry)))) ⌝ }
 {
     let content = Content::of(f);
+    let found = content.found;
+    let Verdict::Fine = found else {
+        return refused(found);
+    };
     let body = content.body;
     let slots = content.slots;
     let text = content.text;
     let spares = content.spares;
-    let record = Record {
-        preamble: bits::field8(f, 0, 8),
-        reserved: bits::field8(f, 220, 6),
-        common: Common::of(f),
-        body: body,
-        slots: slots,
-        text: text,
-        spares: spares,
-    };
-    let found = Verdict::Fine
-        .unless(body.code() != 0, Refusal::Category)
-        .then(record.check());
-    conclude(found, record)
+    Reading {
+        answer: Verdict::Fine,
+        record: Record {
+            preamble: bits::field8(f, 0, 8),
+            reserved: bits::field8(f, 220, 6),
+            common: Common::of(f),
+            body: body,
+            slots: slots,
+            text: text,
+            spares: spares,
+        },
+    }
 }
 
 // Reads a lent frame, of whatever length and content.
@@ -80,11 +74,11 @@ pub fn read(frame: &[u8]) -> Reading
     ensures { λ r. ⌜ answers (r .answer) ≡ readSays (now (frame .entry)) ⌝ }
 {
     if frame.len() != 32 {
-        return conclude(Verdict::Refused(Refusal::Length), Record::of_zeros());
+        return refused(Verdict::Refused(Refusal::Length));
     }
     let found = outer(frame);
     match found {
         Verdict::Fine => inner(frame),
-        Verdict::Refused(_) => conclude(found, Record::of_zeros()),
+        Verdict::Refused(_) => refused(found),
     }
 }

@@ -1,29 +1,32 @@
 -- The values of the record of a frame are the values of the frame.
-use mathlib.Core.Path.{_≡_, ap, ap₂, refl, _∙_}
-use mathlib.Core.Bool.{Bool, false, true}
-use Rattle.rows.specs.declared.refusal.Refusal.the-variants.{Category}
+use mathlib.Core.Path.{_≡_, ap, refl, sym, _∙_}
+use mathlib.Core.Bool.{Bool, _&&_, false, true}
+use mathlib.Core.Logic.{_⊎_, inl, inr}
+use Rattle.rows.specs.declared.refusal.Refusal.the-variants.{Category, Range}
 use Rattle.rows.specs.Runs.Questions.{_then_, unless}
-use Prim.Native.Nat.{ℕ}
-use mathlib.Core.List.{List, map}
-use borrow.Author.Tests.{eqb-true}
-use Rattle.bits.specs.Frame.{fieldOf}
-use Rattle.rows.specs.declared.refusal.Verdict.{Verdict}
+use Prim.Native.Nat.{ℕ, zero, suc, zero-le, _+_, _<_}
+use native.Mathlib.Omega.{arith}
+use lib.Dec.{leb}
+use mathlib.Core.List.{List, [], map}
+use borrow.Author.Tests.{eqb-true, le-leb}
+use Rattle.bits.specs.Frame.{Bytes, fieldOf}
+use Rattle.bits.proofs.Frames.{field-lt}
 use Rattle.rows.specs.declared.refusal.Verdict.the-variants.{Fine}
-use Rattle.report.specs.declared.record.Record.{Record}
-use Rattle.report.specs.declared.read.Reading.{Reading}
-use Rattle.rows.specs.Layout.{Layout, common, ending}
-use Rattle.rows.specs.Values.{Values, cut, valuesOf, lastValues, Sides, commonOf, headValues}
-use Rattle.rows.specs.Runs.Verdict.{allowed, verdict}
+use Rattle.rows.specs.Layout.{Layout, Row, bytes, common, ending}
+use Rattle.rows.specs.Values.{Values, cut, valuesOf, lastValues, Sides, commonOf, headValues, sidesAt}
+use Rattle.rows.specs.Runs.Verdict.{allowed, bodyVerdict, verdict, walk}
 use Rattle.report.specs.Records.{bodyOf, textOf, recordAs, recordOf, values}
-use Rattle.report.specs.Runs.Reading.{outerOf, contentAnswer, innerOf, reading}
+use Rattle.report.specs.Runs.Reading.{outerOf, contentAnswer, contentAs, innerOf, rulesFind}
 use Rattle.rows.specs.Kept.{In}
 use Rattle.rows.proofs.Rules.Spans.{allowed-in}
-use Rattle.rows.proofs.Rules.Outcomes.{fine-both, unless-fine}
+use Rattle.rows.proofs.Rules.Outcomes.{both-and, fine-both, fine-then, then-fine, unless-fine, unless-true}
 use Rattle.report.specs.Categories.{categories, layout}
 use lib.ListN.{length, length-map, take}
 use Rattle.slots.proofs.Tables.{slots-agree}
-use Rattle.report.proofs.Tables.{suited-slots}
-use Rattle.report.proofs.Categories.{suits}
+use Rattle.report.proofs.Tables.{last-walk, suited-slots}
+use Rattle.report.proofs.Categories.{known-code, suits, text-apart}
+use Rattle.nankai.specs.Nankai.{nankai}
+use Rattle.nankai.proofs.Walks.{any-text-passes}
 use lib.Seq.{take-at}
 
 -- what 5, 6 and 7 leave
@@ -64,21 +67,48 @@ agree s o =
     same _ _ _ _ _ _ _ _ _ _ _ _ (head-agrees s l (o .message) (fits .code)) (ap (λ (v : Sides). v .front) (fits .sides)) (slots-agree (l .slots) (suited-slots (bodyOf s)) s)
     (text-agrees s l) (ap (λ (v : Sides). v .behind) (fits .sides)) (last-agrees s (o .version))
 
--- so a record is judged as its frame is: 7 first, then its rules
-pub judged : (s : List ℕ) (r : Record) (known : Bool) (v : Verdict) (out : Reading) → outerOf s ≡ Fine → r ≡ recordOf s
-    → known ≡ allowed categories (fieldOf s 17 4)
-    → v ≡ unless known Category then verdict (layout (r .body)) (values r)
-    → out ≡ reading v r → out ≡ reading (contentAnswer s) (recordOf s)
-unfolding recordAs unless _then_
-judged s r known v out o e c h k =
-    let inside : Verdict = verdict (layout (r .body)) (values r) in
-    k ∙ ap₂ reading (h ∙ ap (λ (b : Bool). unless b Category then inside) c ∙ by (allowed categories (fieldOf s 17 4)) refl) e
-  where
-    same : In categories (fieldOf s 17 4) → verdict (layout (r .body)) (values r) ≡ innerOf s
-    same i =
-        ap (λ (q : Record). verdict (layout (q .body)) (values q)) e
-        ∙ ap (verdict (layout (bodyOf s))) (agree s (outer s o i))
+-- ---- what is asked of a frame
 
-    by : (b : Bool) → allowed categories (fieldOf s 17 4) ≡ b → unless b Category then verdict (layout (r .body)) (values r) ≡ unless b Category then innerOf s
-    by true a = same (allowed-in categories _ a)
+-- six bits hold any Reserved
+six-bits : (x : ℕ) → x < 64 → leb 0 x && leb x 63 ≡ true
+six-bits x h = both-and _ _ (le-leb 0 x zero-le) (le-leb x 63 (omega arith))
+
+ending-passes : (s : List ℕ) → fieldOf s 214 6 ≡ 1 → walk [] ending (map (cut s) ending) ≡ Fine
+ending-passes s e =
+    let x = fieldOf s 220 6 in
+    ap (walk [] ending) (sym (last-agrees s e)) ∙ last-walk x ∙ unless-true _ (Range 220 x) (six-bits x (field-lt s 220 6))
+
+cut-bytes : (s : List ℕ) (n a : ℕ) → Bytes (map (cut s) (bytes n a))
+cut-bytes s zero a i = omega arith
+cut-bytes s (suc n) a zero = field-lt s a 8
+cut-bytes s (suc n) a (suc i) = cut-bytes s n (a + 8) i
+
+text-cut-passes : (s : List ℕ) (rs : List Row) → (rs ≡ []) ⊎ (rs ≡ nankai .text) → walk [] rs (map (cut s) rs) ≡ Fine
+unfolding walk
+text-cut-passes s rs (inl e) = ap (λ (qs : List Row). walk [] qs (map (cut s) qs)) e
+text-cut-passes s rs (inr e) = ap (λ (qs : List Row). walk [] qs (map (cut s) qs)) e ∙ any-text-passes (map (cut s) (nankai .text)) (cut-bytes s 18 57)
+
+bare : (s : List ℕ) (l : Layout) → walk [] (l .text) (map (cut s) (l .text)) ≡ Fine → walk [] ending (map (cut s) ending) ≡ Fine
+    → verdict l (valuesOf s l) ≡ bodyVerdict l (map (cut s) (common l)) (sidesAt s l) (valuesOf s l .slots)
+unfolding verdict valuesOf bodyVerdict
+bare s l t e = simp (t, e, fine-then, then-fine)
+
+rules-agree : (s : List ℕ) → Outer s → rulesFind s (bodyOf s) ≡ innerOf s
+unfolding valuesOf
+rules-agree s o =
+    let fits = suits s (fieldOf s 17 4) (o .category) in
+    let l = layout (bodyOf s) in
+    _∙_ {b = bodyVerdict l (map (cut s) (common l)) (sidesAt s l) (valuesOf s l .slots)}
+    (λ i. bodyVerdict l (head-agrees s l (o .message) (fits .code) i) (fits .sides i) (slots-agree (l .slots) (suited-slots (bodyOf s)) s i))
+    (sym (bare s l (text-cut-passes s (l .text) (text-apart (bodyOf s))) (ending-passes s (o .version))))
+
+-- what is found where a frame's fields are taken out of it is what reading answers: 7 first, then its rules
+pub content-agrees : (s : List ℕ) → outerOf s ≡ Fine → contentAs s (bodyOf s) .found ≡ contentAnswer s
+unfolding unless _then_
+content-agrees s o =
+    ap (λ (known : Bool). unless known Category then rulesFind s (bodyOf s)) (known-code (sidesAt s) (fieldOf s 17 4))
+    ∙ by (allowed categories (fieldOf s 17 4)) refl
+  where
+    by : (b : Bool) → allowed categories (fieldOf s 17 4) ≡ b → unless b Category then rulesFind s (bodyOf s) ≡ unless b Category then innerOf s
+    by true a = rules-agree s (outer s o (allowed-in categories _ a))
     by false a = refl

@@ -3,41 +3,45 @@ use borrow.Author.Needs.{needs}
 use Rattle.report.proofs.read.inner.Statement.{statement}
 use Rattle.report.specs.declared.body.Content.{Content}
 use Rattle.report.specs.declared.record.Record.{Record}
-use Rattle.report.specs.Runs.Told.{recordTold}
+use Rattle.report.specs.declared.read.Reading.{Reading}
+use Rattle.report.specs.Runs.Reading.{contentAnswer, reading}
+use Rattle.rows.specs.declared.refusal.Verdict.the-variants.{Fine}
 use mathlib.Core.Path.{_≡_, _∙_, ap}
-use mathlib.Core.Bool.{not}
+use mathlib.Core.List.{List}
 use Prim.Native.Nat.{ℕ}
-use lib.Dec.{eqb}
-use Rattle.bits.specs.Frame.{fieldOf, frameIn}
-use Rattle.rows.specs.Runs.Questions.{_then_}
-use Rattle.rows.proofs.Rules.Outcomes.{fine-then}
-use Rattle.report.specs.Categories.{layout}
-use Rattle.report.proofs.Categories.{known-code}
-use Rattle.report.proofs.Reading.Agree.{judged}
+use Rattle.bits.specs.Frame.{frameIn}
+use Rattle.report.proofs.Reading.Agree.{content-agrees}
+use Rattle.report.proofs.Reading.ReadSteps.{read-inside, refused-inside}
 use Rattle.report.specs.Records.{recordOf, recordAs}
 use Rattle.report.proofs.read.inner.Tie as tie
 
+-- the lent frame
+abbrev frame : tie.After-of → List ℕ
+frame c = frameIn (c .before .before .args .f .now)
+
+-- what was found is what reading answers
+answered : (c : tie.After-of) → c .of .result .found ≡ contentAnswer (frame c)
+answered c = ap (λ (x : Content). x .found) (c .of .ensures) ∙ content-agrees (frame c) (c .before .before .pre)
+
 returns : tie.Need-returns
-unfolding recordAs recordTold
 returns c =
-    let t = c .before in
-    let k = t .before in
-    let u = k .before in
-    let n = u .before in
-    let o = n .before in
-    let b = o .before in
+    let k = c .before .before .before in
+    c .refused .ensures ∙ refused-inside _ _ _ _ (answered k) (c .before .enum-told2 .given .1)
+
+returns-2 : tie.Need-returns-2
+unfolding recordAs
+returns-2 c =
+    let b = c .before in
     let a = b .before in
-    let d = a .before .before .before .before in
-    let s = d .before .before in
-    let f = frameIn (s .args .f .now) in
-    let e = d .of .ensures in
-    let same : _≡_ {A = Record} (record { preamble = a .field8 .result; reserved = b .field82 .result; common = o .of2 .result; body = d .of .result .body; slots = d .of .result .slots; text = d .of .result .text; spares = d .of .result .spares }) (recordOf f) =
-    λ i. record { preamble = a .field8 .ensures .0 i; reserved = b .field82 .ensures .0 i; common = o .of2 .ensures i; body = e i .body; slots = e i .slots; text = e i .text; spares = e i .spares }
+    let told = a .before .before .before .before in
+    let k = told .before .before in
+    let f = frame k in
+    let e = k .of .ensures in
+    let same : _≡_ {A = Record} (record { preamble = a .field8 .result; reserved = b .field82 .result; common = c .of2 .result; body = k .of .result .body; slots = k .of .result .slots; text = k .of .result .text; spares = k .of .result .spares }) (recordOf f) =
+    λ i. record { preamble = a .field8 .ensures .0 i; reserved = b .field82 .ensures .0 i; common = c .of2 .ensures i; body = e i .body; slots = e i .slots; text = e i .text; spares = e i .spares }
     in
-    judged f _ (not (eqb (n .code .result) 0)) (t .then .result) (c .conclude .result) (s .pre) same
-    (ap (λ (m : ℕ). not (eqb m 0)) (n .code .ensures) ∙ ap (λ (x : Content). not (eqb (layout (x .body) .code) 0)) e ∙ known-code _ (fieldOf f 17 4))
-    (t .then .ensures ∙ (λ i. (u .unless .ensures ∙ fine-then _) i then k .check .ensures i)) (c .conclude .ensures)
+    _∙_ {b = reading Fine (recordOf f)} (ap (reading Fine) same) (read-inside _ _ _ (answered k) (told .enum-told .given .1))
 
 pub inner-spec : {M : Type 1} → statement M
 inner-spec =
-    tie.close (tie.spec (λ c κs. search needs) (λ c κs. search needs) (λ c κs. search needs) (λ c κs. search needs) (λ c κs. search needs) (λ c κs. search needs) (λ c κs. search needs) (λ c κs. search needs) (λ c κs. search needs) returns)
+    tie.close (tie.spec (λ c κs. search needs) (λ c. search needs) (λ c. search needs) (λ c κs. search needs) returns (λ c κs. search needs) (λ c κs. search needs) (λ c κs. search needs) returns-2)

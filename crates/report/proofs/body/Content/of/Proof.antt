@@ -1,14 +1,14 @@
 -- `report::body::Content::of` meets its contract.
 use borrow.Author.Needs.{needs}
 use Rattle.report.proofs.body.Content.of.Statement.{statement}
-use Rattle.report.specs.declared.body.Body.the-variants.{NoCategory}
 use mathlib.Core.Path.{_∙_, _≡_, ap, sym}
 use Rattle.report.specs.Categories.{bodyFrom}
 use Rattle.report.specs.Runs.Reading.{contentAs}
 use Rattle.bits.specs.Frame.{fieldOf, frameIn}
 use borrow.Author.Tests.{ne-eqb}
 use Rattle.rows.specs.Values.{sidesAt}
-use Rattle.slots.specs.Slots.{slotsOf}
+use Rattle.report.specs.declared.body.Body.{Body}
+use Rattle.report.specs.declared.body.Body.the-variants.{NoCategory}
 use Rattle.report.specs.declared.body.Content.{Content}
 use mathlib.Core.List.{List}
 use Prim.Native.Nat.{ℕ}
@@ -24,51 +24,37 @@ abbrev frame : tie.After-field8 → List ℕ
 frame c = frameIn (c .before .before .args .f .now)
 
 returns : tie.Need-returns
-unfolding bodyFrom slotsOf
-returns c =
-    let k = c .before .before .before .before in
-    coded (frame k) _ 2 _ (k .field8 .ensures .0) (c .before .before .before .match .keys1) (simp (c .spares .ensures, c .before .none .ensures, c .before .before .of .ensures))
+unfolding bodyFrom
+returns c = let k = c .before .before in coded (frame k) _ 2 _ (k .field8 .ensures .0) (c .before .match .keys1) (c .of-hypocenter .ensures)
 
 returns-2 : tie.Need-returns-2
-unfolding bodyFrom slotsOf
-returns-2 c =
-    let k = c .before .before .before .before in
-    coded (frame k) _ 3 _ (k .field8 .ensures .0) (c .before .before .before .match .keys2) (simp (c .spares2 .ensures, c .before .prefectures-of .ensures, c .before .before .of2 .ensures))
+unfolding bodyFrom
+returns-2 c = let k = c .before .before in coded (frame k) _ 3 _ (k .field8 .ensures .0) (c .before .match .keys2) (c .of-intensity .ensures)
 
 returns-3 : tie.Need-returns-3
-unfolding bodyFrom slotsOf
-returns-3 c =
-    let k = c .before .before .before .before .before in
-    coded (frame k) _ 4 _ (k .field8 .ensures .0) (c .before .before .before .before .match .keys3) (simp (c .spares3 .ensures, c .before .page-text .ensures, c .before .before .none2 .ensures, c .before .before .before .of3 .ensures))
+unfolding bodyFrom
+returns-3 c = let k = c .before .before in coded (frame k) _ 4 _ (k .field8 .ensures .0) (c .before .match .keys3) (c .of-nankai .ensures)
 
 returns-4 : tie.Need-returns-4
-unfolding bodyFrom slotsOf
-returns-4 c =
-    let k = c .before .before .before .before in
-    coded (frame k) _ 5 _ (k .field8 .ensures .0) (c .before .before .before .match .keys4) (simp (c .spares4 .ensures, c .before .areas-of .ensures, c .before .before .of4 .ensures))
+unfolding bodyFrom
+returns-4 c = let k = c .before .before in coded (frame k) _ 5 _ (k .field8 .ensures .0) (c .before .match .keys4) (c .of-tsunami .ensures)
 
 returns-5 : tie.Need-returns-5
-unfolding bodyFrom slotsOf
-returns-5 c =
-    let k = c .before .before .before .before in
-    coded (frame k) _ 8 _ (k .field8 .ensures .0) (c .before .before .before .match .keys5) (simp (c .spares5 .ensures, c .before .places-of .ensures, c .before .before .of5 .ensures))
+unfolding bodyFrom
+returns-5 c = let k = c .before .before in coded (frame k) _ 8 _ (k .field8 .ensures .0) (c .before .match .keys5) (c .of-volcano .ensures)
 
 returns-6 : tie.Need-returns-6
-unfolding bodyFrom slotsOf
-returns-6 c =
-    let k = c .before .before .before .before in
-    coded (frame k) _ 9 _ (k .field8 .ensures .0) (c .before .before .before .match .keys6) (simp (c .spares6 .ensures, c .before .places-of2 .ensures, c .before .before .of6 .ensures))
+unfolding bodyFrom
+returns-6 c = let k = c .before .before in coded (frame k) _ 9 _ (k .field8 .ensures .0) (c .before .match .keys6) (c .of-ash-fall .ensures)
 
 returns-7 : tie.Need-returns-7
-unfolding bodyFrom slotsOf
-returns-7 c =
-    let k = c .before .before .before in
-    coded (frame k) _ 11 _ (k .field8 .ensures .0) (c .before .before .match .keys7) (simp (c .spares7 .ensures, c .before .areas-of2 .ensures))
+unfolding bodyFrom
+returns-7 c = let k = c .before .before in coded (frame k) _ 11 _ (k .field8 .ensures .0) (c .before .match .keys7) (c .of-flood .ensures)
 
 returns-8 : tie.Need-returns-8
-unfolding bodyFrom slotsOf
+unfolding bodyFrom
 returns-8 c =
-    let m = c .before .before in
+    let m = c .before in
     let k = m .before in
     let f = frame k in
     let e = k .field8 .ensures .0 in
@@ -83,8 +69,7 @@ returns-8 c =
       ne-eqb _ 11 (λ q. other .1 (e ∙ q)),
     )
     in
-    _∙_ {b = contentAs f NoCategory} (simp (c .field64 .ensures .0, c .before .none3 .ensures)) (ap (contentAs f) (sym none))
+    c .of-none .ensures ∙ ap (λ (b : Body). contentAs f b) (sym none)
 
 pub of-spec : {M : Type 1} → statement M
-of-spec =
-    tie.close (tie.spec (λ c κs. search needs) (λ c κs. search needs) (λ c κs. search needs) (λ c κs. search needs) (λ c κs. search needs) (λ c κs. search needs) (λ c κs. search needs) (λ c κs. search needs) (λ c κs. search needs) (λ c κs. search needs) (λ c κs. search needs) (λ c κs. search needs) (λ c κs. search needs) (λ c κs. search needs) (λ c κs. search needs) (λ c κs. search needs) (λ c κs. search needs) (λ c κs. search needs) (λ c κs. search needs) (λ c κs. search needs) (λ c κs. search needs) (λ c κs. search needs) (λ c κs. search needs) (λ c κs. search needs) returns returns-2 returns-3 returns-4 returns-5 returns-6 returns-7 returns-8)
+of-spec = tie.close (tie.spec (λ c κs. search needs) (λ c κs. search needs) (λ c κs. search needs) (λ c κs. search needs) (λ c κs. search needs) (λ c κs. search needs) (λ c κs. search needs) (λ c κs. search needs) (λ c κs. search needs) returns returns-2 returns-3 returns-4 returns-5 returns-6 returns-7 returns-8)
