@@ -16,8 +16,9 @@ use Rattle.report.specs.declared.read.Reading.{Reading}
 use Rattle.rows.specs.Refusals.{answers}
 use Rattle.rows.specs.Runs.Questions.{_then_, unless}
 use Rattle.report.specs.Records.{recordOf, zeros}
-use Rattle.report.specs.Runs.Reading.{readAnswer, reading, readOf}
-use Rattle.report.proofs.Reading.ReadSteps.{answer-found}
+use Rattle.report.specs.declared.look.Looked.{Looked}
+use Rattle.report.specs.Runs.Reading.{notSeen, readAnswer, reading, readOf, seen}
+use Rattle.report.proofs.Reading.ReadSteps.{answer-found, nothing-seen}
 use Rattle.rows.proofs.Rules.Outcomes.{not-both}
 use Rattle.line.specs.declared.from_line.Framing.{Framing}
 use Rattle.line.specs.Lines.{isLine, frameOfLine, noLine, framing, framingSays, lineReading, lineSays, lineOf, lineAnswer, lineInto}
@@ -50,6 +51,14 @@ read-no-more l f x z e a q = by (isLine l) refl
     by true h = absurd (not-both (f .answer) x (ap (λ (g : Framing). g .answer) (e ∙ a-line l h)) a)
     by false h = simp (ap (λ (g : Framing). g .answer) (e ∙ no-line l h), q, h)
 
+-- ---- looking
+
+pub look-on : (l : List ℕ) (f : Framing) (out : Looked) → f ≡ framing l → f .answer ≡ Fine → out ≡ seen (readOf (f .frame)) → out ≡ seen (lineReading l)
+look-on l f out e a q = q ∙ ap seen (read-on l f (readOf (f .frame)) e a refl)
+
+pub look-no-more : (l : List ℕ) (f : Framing) (x : Refusal) (out : Looked) → f ≡ framing l → f .answer ≡ Refused x → out ≡ notSeen (f .answer) → out ≡ seen (lineReading l)
+look-no-more l f x out e a q = q ∙ nothing-seen (f .answer) ∙ ap seen (read-no-more l f x zeros e a refl)
+
 -- ---- what reading says
 
 pub framing-said : (l : List ℕ) (f : Framing) → f ≡ framing l → (f ≡ framing l) × (answers (f .answer) ≡ framingSays l)
@@ -60,13 +69,19 @@ framing-said l f e = (e, ap (λ (g : Framing). answers (g .answer)) e ∙ by (is
     by true = refl
     by false = refl
 
-pub line-said : (l : List ℕ) (out : Reading) → out ≡ lineReading l → (out ≡ lineReading l) × (answers (out .answer) ≡ lineSays l)
+line-says : (l : List ℕ) → answers (lineReading l .answer) ≡ lineSays l
 unfolding lineReading unless _then_
-line-said l out e = (e, ap (λ (o : Reading). answers (o .answer)) e ∙ by (isLine l))
+line-says l = by (isLine l)
   where
     by : (t : Bool) → answers (cond t (readOf (frameOfLine l)) (reading (Refused Line) zeros) .answer) ≡ answers (unless t Line then readAnswer (frameOfLine l))
     by true = ap answers (answer-found (readAnswer (frameOfLine l)) (recordOf (frameOfLine l)))
     by false = refl
+
+pub line-said : (l : List ℕ) (out : Reading) → out ≡ lineReading l → (out ≡ lineReading l) × (answers (out .answer) ≡ lineSays l)
+line-said l out e = (e, ap (λ (o : Reading). answers (o .answer)) e ∙ line-says l)
+
+pub look-said : (l : List ℕ) (out : Looked) → out ≡ seen (lineReading l) → (out ≡ seen (lineReading l)) × (answers (out .answer) ≡ lineSays l)
+look-said l out e = (e, ap (λ (o : Looked). answers (o .answer)) e ∙ line-says l)
 
 -- ---- writing
 

@@ -1,8 +1,10 @@
 // From a line to a frame, and to what the frame says.
 ghost use mathlib.Core.Path.{_≡_};
 ghost use Rattle.line.specs.Lines.{noLine, framing, framingSays, lineReading, lineSays};
+ghost use Rattle.report.specs.Runs.Reading.{seen};
 ghost use Rattle.rows.specs.Refusals.{answers};
 use crate::digits::DIGITS;
+use report::look::Looked;
 use report::read::Reading;
 use report::record::Record;
 use rows::refusal::Refusal;
@@ -71,5 +73,19 @@ pub fn read_line(line: &[u8]) -> Reading
             answer,
             record: Record::of_zeros(),
         },
+    }
+}
+
+// What is seen of a line, whatever it holds.
+pub fn look_line(line: &[u8]) -> Looked
+    ensures { λ r. ⌜ r ≡ seen (lineReading (now (line .entry))) ⌝ }
+    ensures { λ r. ⌜ answers (r .answer) ≡ lineSays (now (line .entry)) ⌝ }
+{
+    let framing = frame_of_line(line);
+    let answer = framing.answer;
+    let frame = framing.frame;
+    match answer {
+        Verdict::Fine => report::look::look(&frame),
+        Verdict::Refused(_) => Looked::refused(answer),
     }
 }

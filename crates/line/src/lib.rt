@@ -6,5 +6,6 @@ pub mod from_line;
 pub mod to_line;
 
 pub use from_line::frame_of_line;
+pub use from_line::look_line;
 pub use from_line::read_line;
 pub use to_line::write_line;

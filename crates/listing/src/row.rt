@@ -3,15 +3,13 @@ ghost use mathlib.Core.Path.{_≡_};
 ghost use Prim.Native.Nat.{_+_, _≤_};
 ghost use lib.ListN.{length};
 ghost use Rattle.rows.specs.Refusals.{says};
-ghost use Rattle.report.specs.Meaning.{usedOf};
-ghost use Rattle.rows.specs.declared.refusal.Verdict.the-variants.{Fine};
-ghost use Rattle.listing.specs.Rows.{rowFor, rowOf, refusedRow, placeEntry, valueEntry, slotsEntry, widened, entryText, rowText, headingText, cutText, filled, filledBy};
+ghost use Rattle.listing.specs.Rows.{rowOf, rowSeen, refusedRow, placeEntry, valueEntry, slotsEntry, widened, entryText, rowText, headingText, cutText, filled, filledBy};
 ghost use Rattle.lent.specs.Writing.{Wrote};
 use lent::put_byte;
 use lent::put_bytes;
 use lent::put_decimal;
+use report::look::Looked;
 use report::read::Reading;
-use report::record::Record;
 use rows::refusal::Refusal;
 use rows::refusal::Said;
 use rows::refusal::Verdict;
@@ -79,39 +77,28 @@ impl Row {
     }
 
     // A category without slots has nothing to say of them.
-    fn slots_entry(count: usize, found: Record) -> Entry
-        ensures { λ r. ⌜ r ≡ slotsEntry count (usedOf found) ⌝ }
+    fn slots_entry(count: usize, used: u8) -> Entry
+        ensures { λ r. ⌜ r ≡ slotsEntry count used ⌝ }
     {
         if count == 0 {
             return Entry::Dash;
         }
-        Entry::Number(found.slots_used() as u8)
+        Entry::Number(used)
     }
 
-    fn of_record(found: Record) -> Row
-        ensures { λ r. ⌜ r ≡ rowFor Fine found ⌝ }
+    // What is said of a line of which this is seen.
+    pub fn of(look: Looked) -> Row
+        ensures { λ r. ⌜ r ≡ rowSeen (look .answer) look ⌝ }
     {
-        let body = found.body;
-        let slots = Row::slots_entry(body.count(), found);
-        Row {
-            answer: 0,
-            place: Entry::Dash,
-            category: Entry::Number(body.code()),
-            slots: slots,
-            value: Value::Dash,
-        }
-    }
-
-    // What is said of a line that gave this reading.
-    pub fn of(reading: Reading) -> Row
-        ensures { λ r. ⌜ r ≡ rowOf reading ⌝ }
-    {
-        let answer = reading.answer;
+        let answer = look.answer;
         match answer {
-            Verdict::Fine => {
-                let found = reading.record;
-                Row::of_record(found)
-            }
+            Verdict::Fine => Row {
+                answer: 0,
+                place: Entry::Dash,
+                category: Entry::Number(look.category),
+                slots: Row::slots_entry(look.count, look.used),
+                value: Value::Dash,
+            },
             Verdict::Refused(refusal) => Row::of_refusal(refusal),
         }
     }
@@ -175,12 +162,20 @@ pub fn write_heading(out: &mut [u8]) -> usize
 }
 
 // Puts the row of the line with this number at the start of out, as `write_heading` does.
-pub fn write_row(number: u32, reading: Reading, out: &mut [u8]) -> usize
-    ensures is { λ r. ⌜ filled r (now (out .exit)) ≡ filledBy (rowText number (rowOf reading)) (now (out .entry)) ⌝ }
+pub(crate) fn write_seen(number: u32, look: Looked, out: &mut [u8]) -> usize
+    ensures is { λ r. ⌜ filled r (now (out .exit)) ≡ filledBy (rowText number (rowSeen (look .answer) look)) (now (out .entry)) ⌝ }
     ensures fits { λ r. ⌜ r ≤ length (now (out .entry)) ⌝ }
 {
     if out.len() < LONGEST {
         return 0;
     }
-    put_row(out, 0, number, Row::of(reading))
+    put_row(out, 0, number, Row::of(look))
+}
+
+// The same, of a line that gave this reading.
+pub fn write_row(number: u32, reading: Reading, out: &mut [u8]) -> usize
+    ensures is { λ r. ⌜ filled r (now (out .exit)) ≡ filledBy (rowText number (rowOf reading)) (now (out .entry)) ⌝ }
+    ensures fits { λ r. ⌜ r ≤ length (now (out .entry)) ⌝ }
+{
+    write_seen(number, Looked::of(reading), out)
 }

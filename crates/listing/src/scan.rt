@@ -13,8 +13,8 @@ use crate::row::LONGEST;
 use crate::row::Row;
 use crate::row::put_cut;
 use crate::row::put_row;
-use crate::row::write_row;
-use line::read_line;
+use crate::row::write_seen;
+use line::look_line;
 
 // So many lines are read.
 pub const LIMIT: u32 = 1000000;
@@ -62,7 +62,7 @@ fn scan_lines(lines: u32, chunk: &[u8], from: usize, out: &mut [u8], to: usize) 
                 used: used,
             };
         }
-        let said = Row::of(read_line(&chunk[at..end]));
+        let said = Row::of(look_line(&chunk[at..end]));
         n += 1;
         let next = put_row(out, put, n, said);
         put = next;
@@ -101,7 +101,7 @@ fn scan_first(from: Progress, chunk: &[u8], out: &mut [u8]) -> Step
     }
     let begun = first.begun;
     let length = first.length;
-    let said = Row::of(read_line(&begun[..length]));
+    let said = Row::of(look_line(&begun[..length]));
     let put = put_row(out, 0, lines + 1, said);
     let rest = scan_lines(lines + 1, chunk, end + 1, out, put);
     let progress = rest.progress;
@@ -162,7 +162,7 @@ pub fn finish(from: Progress, out: &mut [u8]) -> usize
     if lines < LIMIT {
         if 0 < length {
             let begun = from.begun;
-            return write_row(lines + 1, read_line(&begun[..length]), out);
+            return write_seen(lines + 1, look_line(&begun[..length]), out);
         }
     }
     0

@@ -18,6 +18,9 @@ read-is-settled κs a x y = beside answer
 pub look-is-settled : Settled report.look.look.ended report.look.look.Reads.Post
 look-is-settled κs a x y = beside answer
 
+pub Looked-refused-is-settled : Settled report.look.Looked.refused.ended report.look.Looked.refused.Reads.Post
+Looked-refused-is-settled κs a x y = answer
+
 pub Looked-of-is-settled : Settled report.look.Looked.of.ended report.look.Looked.of.Reads.Post
 Looked-of-is-settled κs a x y = answer
 

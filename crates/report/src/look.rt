@@ -1,5 +1,7 @@
 // A look at a lent frame: what `read` answers, without the record.
 ghost use mathlib.Core.Path.{_≡_};
+ghost use mathlib.Core.List.{map};
+ghost use Rattle.slots.specs.Slots.{slotParts, usedAmong};
 ghost use Rattle.bits.specs.Frame.{frameIn};
 ghost use Rattle.report.specs.Records.{recordOf};
 ghost use Rattle.report.specs.Runs.Reading.{outerOf, contentAnswer, reading, readOf, readSays, seen, notSeen};
@@ -11,6 +13,7 @@ use crate::read::outer;
 use rows::refusal::Refusal;
 use rows::refusal::Verdict;
 use slots::silence::used;
+use slots::slot::Slot;
 
 // The answer, the category's code, how many slots the category has, and how many of them are used; zeros where the frame
 // is refused.
@@ -18,18 +21,43 @@ pub struct Looked {
     pub answer: Verdict,
     pub category: u8,
     pub count: usize,
-    pub used: usize,
+    pub used: u8,
 }
 
-// Nothing but the answer.
-fn refused(found: Verdict) -> Looked
-    ensures { λ r. ⌜ r ≡ notSeen found ⌝ }
+// How many slots are used, at most sixteen.
+fn used_among(slots: [Slot; 16]) -> u8
+    ensures { λ r. ⌜ r ≡ usedAmong (map slotParts slots) ⌝ }
 {
-    Looked {
-        answer: found,
-        category: 0,
-        count: 0,
-        used: 0,
+    used(slots) as u8
+}
+
+impl Looked {
+    // Nothing but the answer.
+    pub fn refused(answer: Verdict) -> Looked
+        ensures { λ r. ⌜ r ≡ notSeen answer ⌝ }
+    {
+        Looked {
+            answer: answer,
+            category: 0,
+            count: 0,
+            used: 0,
+        }
+    }
+
+    // What is seen of a frame that was read, or refused.
+    pub fn of(reading: Reading) -> Looked
+        ensures { λ r. ⌜ r ≡ seen reading ⌝ }
+    {
+        let answer = reading.answer;
+        let record = reading.record;
+        let body = record.body;
+        let slots = record.slots;
+        Looked {
+            answer: answer,
+            category: body.code(),
+            count: body.count(),
+            used: used_among(slots),
+        }
     }
 }
 
@@ -41,7 +69,7 @@ fn inner(f: &[u8]) -> Looked
     let content = Content::of(f);
     let found = content.found;
     let Verdict::Fine = found else {
-        return refused(found);
+        return Looked::refused(found);
     };
     let body = content.body;
     let slots = content.slots;
@@ -49,7 +77,7 @@ fn inner(f: &[u8]) -> Looked
         answer: Verdict::Fine,
         category: body.code(),
         count: body.count(),
-        used: used(slots),
+        used: used_among(slots),
     }
 }
 
@@ -59,28 +87,11 @@ pub fn look(frame: &[u8]) -> Looked
     ensures { λ r. ⌜ answers (r .answer) ≡ readSays (now (frame .entry)) ⌝ }
 {
     if frame.len() != 32 {
-        return refused(Verdict::Refused(Refusal::Length));
+        return Looked::refused(Verdict::Refused(Refusal::Length));
     }
     let found = outer(frame);
     match found {
         Verdict::Fine => inner(frame),
-        Verdict::Refused(_) => refused(found),
-    }
-}
-
-impl Looked {
-    // What is seen of a frame that was read, or refused.
-    pub fn of(reading: Reading) -> Looked
-        ensures { λ r. ⌜ r ≡ seen reading ⌝ }
-    {
-        let answer = reading.answer;
-        let record = reading.record;
-        let body = record.body;
-        Looked {
-            answer: answer,
-            category: body.code(),
-            count: body.count(),
-            used: record.slots_used(),
-        }
+        Verdict::Refused(_) => Looked::refused(found),
     }
 }

@@ -6,12 +6,13 @@ use native.Mathlib.Numerals.{add-one}
 use native.Mathlib.Omega.{arith}
 use lib.ListN.{length, take, drop, getD, length-append, length-take, length-drop, take-append-drop, drop-of-length-le}
 use lib.Seq.{sets, take-all, getD-take, getD-drop, drop-cons, drop-drop}
-use Rattle.report.specs.declared.read.Reading.{Reading}
+use Rattle.report.specs.declared.look.Looked.{Looked}
+use Rattle.report.specs.Runs.Reading.{seen}
 use Rattle.line.specs.Lines.{lineReading}
 use Rattle.listing.specs.declared.row.Row.{Row}
 use Rattle.listing.specs.declared.progress.Progress.{Progress}
 use Rattle.listing.specs.declared.scan.Step.{Step}
-use Rattle.listing.specs.Rows.{rowOf, rowText, cutText}
+use Rattle.listing.specs.Rows.{rowSeen, rowText, cutText}
 use Rattle.listing.specs.Listing.{lineRow, limit}
 use Rattle.listing.specs.Scanning.{Reach, say, reach, progressOf, begunIn}
 use Rattle.lent.specs.Writing.{Wrote}
@@ -36,10 +37,10 @@ quiet-found c a e f k h g =
     f .quiet (a + k) (omega arith) (omega arith) (sym (getD-take (e - a) (drop a c) k 0 l ∙ getD-drop a c k 0) ∙ g)
 
 -- the row of a line as the code makes it
-pub row-said : {o after : List ℕ} {at next : ℕ} {said : Row} {r : Reading} (n : ℕ) (line : List ℕ) → said ≡ rowOf r → r ≡ lineReading line → Wrote o after at next (rowText n said)
+pub row-said : {o after : List ℕ} {at next : ℕ} {said : Row} {look : Looked} (n : ℕ) (line : List ℕ) → said ≡ rowSeen (look .answer) look → look ≡ seen (lineReading line) → Wrote o after at next (rowText n said)
     → Wrote o after at next (lineRow n line)
 unfolding lineRow
-row-said n line e f w = wrote-as (ap (rowText n) (e ∙ ap rowOf f)) w
+row-said n line e f w = wrote-as (ap (rowText n) (e ∙ ap (λ (l : Looked). rowSeen (l .answer) l) f)) w
 
 -- ---- the loop
 

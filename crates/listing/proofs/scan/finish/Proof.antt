@@ -6,7 +6,8 @@ use native.Mathlib.Nat.{min-le-right}
 use native.Mathlib.Omega.{arith}
 use lib.ListN.{length, take, length-take}
 use lib.Seq.{length-take-le}
-use Rattle.listing.specs.Rows.{rowText, rowOf, filledBy}
+use Rattle.listing.specs.Rows.{rowText, rowSeen, filledBy}
+use Rattle.report.specs.declared.look.Looked.{Looked}
 use Rattle.listing.specs.Listing.{lineRow}
 use Rattle.listing.specs.Scanning.{begunIn, finished}
 use Rattle.bits.proofs.Arrays.{unmapped}
@@ -30,8 +31,8 @@ same c = let s = c .before .before in
 array-share-prefix-begun : tie.Need-array-share-prefix-begun
 array-share-prefix-begun c = fits (c .before .before .before)
 
-slice-aggregate-read-line : tie.Need-slice-aggregate-read-line
-slice-aggregate-read-line c =
+slice-aggregate-look-line : tie.Need-slice-aggregate-look-line
+slice-aggregate-look-line c =
     let l = c .before .before .before .before in
     sym (length-take-le (l .least .result) (l .before .before .args .from .begun) (fits l))
 
@@ -45,7 +46,7 @@ returns c =
     let s = l .before .before in
     let begun : List ℕ = begunIn (s .args .from) in
     let m : 0 < length begun = omega (arith, t .if2 .taken, ap length (same l), length-take-le (l .least .result) (s .args .from .begun) (fits l)) in
-    (w .write-row .ensures .0 ∙ ap (λ (x : List ℕ). filledBy x (s .args .out .now)) (ap (λ x. rowText (s .args .from .lines + 1) (rowOf x)) (r .read-line .ensures .0) ∙ ap (lineRow (s .args .from .lines + 1)) (same l) ∙ last-some (s .args .from .lines) begun (omega (arith, limit-is)) m), w .write-row .ensures .1)
+    (w .write-seen .ensures .0 ∙ ap (λ (x : List ℕ). filledBy x (s .args .out .now)) (ap (λ (l : Looked). rowText (s .args .from .lines + 1) (rowSeen (l .answer) l)) (r .look-line .ensures .0) ∙ ap (lineRow (s .args .from .lines + 1)) (same l) ∙ last-some (s .args .from .lines) begun (omega (arith, limit-is)) m), w .write-seen .ensures .1)
 
 returns-2 : tie.Need-returns-2
 unfolding finished
@@ -62,4 +63,4 @@ returns-3 c =
 
 pub finish-spec : {M : Type 1} → statement M
 finish-spec =
-    tie.close (tie.spec (λ c κs. search needs) (λ c. search needs) array-share-prefix-begun slice-aggregate-read-line (λ c κs. search needs) (λ c κs. search needs) (λ c. search needs) returns returns-2 returns-3)
+    tie.close (tie.spec (λ c κs. search needs) (λ c. search needs) array-share-prefix-begun slice-aggregate-look-line (λ c κs. search needs) (λ c κs. search needs) (λ c. search needs) returns returns-2 returns-3)

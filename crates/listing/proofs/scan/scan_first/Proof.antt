@@ -40,8 +40,8 @@ returns c =
 array-share-prefix-begun : tie.Need-array-share-prefix-begun
 array-share-prefix-begun c = fits (c .before .before)
 
-slice-aggregate-read-line : tie.Need-slice-aggregate-read-line
-slice-aggregate-read-line c =
+slice-aggregate-look-line : tie.Need-slice-aggregate-look-line
+slice-aggregate-look-line c =
     let m = c .before .before .before in
     sym (length-take-le (m .with .result .length) (m .with .result .begun) (fits m))
 
@@ -67,8 +67,8 @@ returns-2 c =
     let s = f .before .before .before in
     let d : List ℕ = s .args .chunk .now in
     let more : f .find .result < length d = omega (arith, f .find .ensures .high, o .before .before .before .before .if1 .left) in
-    first-done (s .args .from .lines) (begunIn (s .args .from)) d _ _ _ (f .find .result) (w .put-row .result) (m .with .result) (b .scan-lines .result) _ (s .pre .0) (short s) (f .find .ensures) more (m .with .ensures) (row-said (s .args .from .lines + 1) (begunIn (m .with .result)) (o .of .ensures) (o .before .read-line .ensures .0) (w .put-row .ensures .0)) (b .scan-lines .ensures) refl refl refl (w .put-row .kept .0)
+    first-done (s .args .from .lines) (begunIn (s .args .from)) d _ _ _ (f .find .result) (w .put-row .result) (m .with .result) (b .scan-lines .result) _ (s .pre .0) (short s) (f .find .ensures) more (m .with .ensures) (row-said (s .args .from .lines + 1) (begunIn (m .with .result)) (o .of .ensures) (o .before .look-line .ensures .0) (w .put-row .ensures .0)) (b .scan-lines .ensures) refl refl refl (w .put-row .kept .0)
 
 pub scan-first-spec : {M : Type 1} → statement M
 scan-first-spec =
-    tie.close (tie.spec (λ c κs. search needs) slice-aggregate-with (λ c κs. search needs) returns array-share-prefix-begun slice-aggregate-read-line (λ c κs. search needs) (λ c κs. search needs) add-put-row (λ c κs. search needs) add-scan-lines add-scan-lines-2 (λ c κs. search needs) (λ c. search needs) returns-2)
+    tie.close (tie.spec (λ c κs. search needs) slice-aggregate-with (λ c κs. search needs) returns array-share-prefix-begun slice-aggregate-look-line (λ c κs. search needs) (λ c κs. search needs) add-put-row (λ c κs. search needs) add-scan-lines add-scan-lines-2 (λ c κs. search needs) (λ c. search needs) returns-2)

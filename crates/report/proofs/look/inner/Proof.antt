@@ -39,12 +39,12 @@ returns-2 c =
     let k = told .before .before in
     let f = frame k in
     let e = k .of .ensures in
-    let same : _≡_ {A = Looked} (record { answer = Fine; category = d .code .result; count = n .count .result; used = c .used .result }) (seen (reading Fine (recordOf f))) =
+    let same : _≡_ {A = Looked} (record { answer = Fine; category = d .code .result; count = n .count .result; used = c .used-among .result }) (seen (reading Fine (recordOf f))) =
     λ i. record {
       answer = Fine;
       category = (d .code .ensures ∙ ap (λ (x : Content). layout (x .body) .code) e) i;
       count = (n .count .ensures ∙ ap (λ (x : Content). layout (x .body) .slots .count) e) i;
-      used = (c .used .ensures ∙ ap (λ (x : Content). usedAmong (map slotParts (x .slots))) e) i;
+      used = (c .used-among .ensures ∙ ap (λ (x : Content). usedAmong (map slotParts (x .slots))) e) i;
     }
     in
     same ∙ ap seen (read-inside _ _ (recordOf f) (answered k) (told .enum-told .given .1))

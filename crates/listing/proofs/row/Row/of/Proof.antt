@@ -7,7 +7,7 @@ enum-told : tie.Need-enum-told
 enum-told c = search needs
 
 returns : tie.Need-returns
-returns c = simp (c .before .before .enum-told .given .1, c .of-record .ensures)
+returns c = simp (c .before .enum-told .given .1, c .slots-entry .ensures)
 
 returns-2 : tie.Need-returns-2
 returns-2 c = simp (c .before .before .answer .given .1, c .of-refusal .ensures)
