@@ -1,5 +1,5 @@
 -- `lent::number::digits` meets its contract: those counted and those of the rest are one more than all.
-use mathlib.Core.Path.{_≡_, refl}
+use mathlib.Core.Path.{_≡_}
 use Prim.Native.Nat.{_+_}
 use native.Mathlib.Omega.{arith}
 use lib.ListN.{length}
