@@ -18,7 +18,7 @@ set-past [] i v h = refl
 set-past (x ∷ l) zero v h = absurd (omega arith)
 set-past (x ∷ l) (suc i) v h = ap (λ (r : List ℕ). x ∷ r) (set-past l i v (omega arith))
 
-sets-past : (t l : List ℕ) (i : ℕ) → length l ≤ i → sets l i t ≡ l
+pub sets-past : (t l : List ℕ) (i : ℕ) → length l ≤ i → sets l i t ≡ l
 sets-past [] l i h = refl
 sets-past (v ∷ t) l i h = ap (λ (r : List ℕ). sets r (suc i) t) (set-past l i v h) ∙ sets-past t l (suc i) (omega arith)
 

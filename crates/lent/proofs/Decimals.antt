@@ -1,5 +1,5 @@
 -- Laws of decimal digits.
-use mathlib.Core.Path.{_≡_, refl}
+use mathlib.Core.Path.{_≡_, refl, ap}
 use mathlib.Core.Bool.{Bool, true, false}
 use mathlib.Core.List.{[], _∷_, _++_}
 use Prim.Native.Nat.{ℕ, zero, suc, _+_, _/_, _%_, _^_, _≤_, _<_}
@@ -7,7 +7,8 @@ use native.Mathlib.Nat.{div-lt-self, div-lt-iff-lt-mul}
 use native.Mathlib.Omega.{arith}
 use borrow.Author.Tests.{lt-ltb, le-ltb, ltb-true, ltb-false}
 use lib.Dec.{ltb}
-use lib.ListN.{length, length-append}
+use lib.ListN.{length, getD, take, length-append}
+use lib.Seq.{getD-at, take-at}
 use Rattle.lent.specs.Numbers.{figures, decimal}
 
 by-size : (f g n : ℕ) (t : Bool) → ltb n 10 ≡ t → (10 ≤ n → figures f (n / 10) ≡ figures g (n / 10)) → figures (suc f) n ≡ figures (suc g) n
@@ -15,7 +16,7 @@ unfolding figures
 by-size f g n true e ih = simp e
 by-size f g n false e ih = simp (e, ih (ltb-false n 10 e))
 
-smaller : (n : ℕ) → 10 ≤ n → n / 10 < n
+pub smaller : (n : ℕ) → 10 ≤ n → n / 10 < n
 smaller n h = div-lt-self {n = n} {k = 10} (omega arith) (omega arith)
 
 -- room for more digits than there are changes nothing
@@ -35,16 +36,44 @@ pub decimal-more : (n : ℕ) → 10 ≤ n → decimal n ≡ decimal (n / 10) ++ 
 unfolding figures decimal
 decimal-more (suc n) h = simp (le-ltb (suc n) 10 h, same-figures n (suc n / 10) (suc n / 10) (omega (arith, smaller (suc n) h)) (omega arith))
 
-length-decimal-more : (n : ℕ) → 10 ≤ n → length (decimal n) ≡ length (decimal (n / 10)) + 1
+pub length-decimal-one : (n : ℕ) → n < 10 → length (decimal n) ≡ 1
+length-decimal-one n h = ap length (decimal-one n h)
+
+pub length-decimal-more : (n : ℕ) → 10 ≤ n → length (decimal n) ≡ length (decimal (n / 10)) + 1
 length-decimal-more n h = simp (decimal-more n h, length-append)
 
 longer : (k n : ℕ) (t : Bool) → ltb n 10 ≡ t → (10 ≤ n → length (decimal (n / 10)) ≤ suc k) → length (decimal n) ≤ suc (suc k)
-longer k n true e ih = simp (decimal-one n (ltb-true n 10 e)) (omega arith)
+longer k n true e ih = omega (arith, length-decimal-one n (ltb-true n 10 e))
 longer k n false e ih = omega (arith, length-decimal-more n (ltb-false n 10 e), ih (ltb-false n 10 e))
+
+-- ---- from the last digit on
+
+by-last : (n k : ℕ) (t : Bool) → ltb n 10 ≡ t → length (decimal n) ≡ suc k → getD (decimal n) k 0 ≡ 48 + n % 10
+by-last n k true e l =
+    let h : n < 10 = ltb-true n 10 e in
+    let z : k ≡ 0 = omega (arith, length-decimal-one n h) in
+    rw (z, decimal-one n h) (omega arith)
+by-last n k false e l =
+    let h : 10 ≤ n = ltb-false n 10 e in
+    rw (decimal-more n h) (getD-at (decimal (n / 10)) (48 + n % 10) [] 0 k (omega (arith, length-decimal-more n h)))
+
+pub last-digit : (n k : ℕ) → length (decimal n) ≡ suc k → getD (decimal n) k 0 ≡ 48 + n % 10
+last-digit n k l = by-last n k (ltb n 10) refl l
+
+pub front-digits : (n k : ℕ) → 0 < k → length (decimal n) ≡ suc k → take k (decimal n) ≡ decimal (n / 10)
+front-digits n k h l = by (ltb n 10) refl
+  where
+    by : (t : Bool) → ltb n 10 ≡ t → take k (decimal n) ≡ decimal (n / 10)
+    by true e = absurd (omega (arith, length-decimal-one n (ltb-true n 10 e)))
+    by false e =
+        let b : 10 ≤ n = ltb-false n 10 e in
+        rw (decimal-more n b) (take-at (decimal (n / 10)) ((48 + n % 10) ∷ []) k (omega (arith, length-decimal-more n b)))
+
+-- ---- how many
 
 -- a number below 10 ^ (k + 1) has at most k + 1 digits
 decimal-length : (k n : ℕ) → n < 10 ^ suc k → length (decimal n) ≤ suc k
-decimal-length zero n h = simp (decimal-one n h) (omega arith)
+decimal-length zero n h = omega (arith, length-decimal-one n h)
 decimal-length (suc k) n h = longer k n (ltb n 10) refl λ b. decimal-length k (n / 10) (div-lt-iff-lt-mul {k = 10} {x = n} {y = 10 ^ suc k} (omega arith) .1 (omega (arith, h)))
 
 -- and room for that many is enough

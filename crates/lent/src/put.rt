@@ -3,6 +3,7 @@ ghost use mathlib.Core.List.{[], _∷_};
 ghost use Rattle.lent.specs.Numbers.{decimal, wide};
 ghost use Rattle.lent.specs.Writing.{Wrote};
 use crate::number::byte_of;
+use crate::number::digits;
 
 pub fn put_byte(out: &mut [u8], at: usize, byte: u8) -> usize
     ensures { λ r. ⌜ Wrote (now (out .entry)) (now (out .exit)) at r (byte ∷ []) ⌝ }
@@ -47,13 +48,29 @@ pub fn put_wide(out: &mut [u8], at: usize, count: usize, value: u64) -> usize
     next
 }
 
-// The number in decimal digits.
+// The number in decimal digits, the last of them first: each is what a division by ten leaves.
 pub fn put_decimal(out: &mut [u8], at: usize, number: u64) -> usize
     ensures { λ r. ⌜ Wrote (now (out .entry)) (now (out .exit)) at r (decimal number) ⌝ }
 {
     if number < 10 {
         return put_byte(out, at, 48 + number as u8);
     }
-    let next = put_decimal(out, at, number / 10);
-    put_byte(out, next, 48 + (number % 10) as u8)
+    if out.len() < at {
+        return at;
+    }
+    let room = out.len() - at;
+    let count = digits(number);
+    let mut rest = number;
+    let mut k = count;
+    while k > 0 {
+        k -= 1;
+        if k < room {
+            out[at + k] = 48 + (rest % 10) as u8;
+        }
+        rest = rest / 10;
+    }
+    if count > room {
+        return out.len() + 1;
+    }
+    at + count
 }

@@ -3,11 +3,11 @@ use mathlib.Core.Path.{_≡_, refl, ap, _∙_}
 use mathlib.Core.Bool.{Bool, true, false, cond}
 use Prim.Native.Nat.{ℕ, zero, suc, _+_, _*_, _/_, _%_, _<_}
 use native.Mathlib.Omega.{arith}
-use mathlib.Core.List.{List, [], _∷_, map}
-use lib.ListN.{length, getD, take, length-map, List·getD-map}
+use mathlib.Core.List.{List, [], _∷_, _++_, map}
+use lib.ListN.{length, getD, take, length-map}
 use lib.Seq.{getD-take, length-take-le}
 use lib.Dec.{eqb}
-use Rattle.line.specs.Lines.{worth, capital, paired, frameOfLine, half, halves, lineOf}
+use Rattle.line.specs.Lines.{capital, paired, frameOfLine, half, halves, lineOf}
 
 even : (i : ℕ) → 2 * suc i ≡ suc (suc (2 * i))
 even i = omega arith
@@ -29,10 +29,13 @@ length-paired [] = refl
 length-paired (a ∷ []) = refl
 length-paired (a ∷ b ∷ ds) = omega (arith, length-paired ds)
 
--- byte i of a line's frame; behind the line stands nothing, which is worth nothing
-pub byte-at : (l : List ℕ) (i : ℕ) → getD (frameOfLine l) i 0 ≡ worth (getD l (2 * i) 0) * 16 + worth (getD l (2 * i + 1) 0)
-unfolding frameOfLine
-byte-at l i = rw (paired-at, List·getD-map worth l (2 * i) 0, List·getD-map worth l (2 * i + 1) 0)
+-- a zero behind an odd number of digits changes nothing
+pub paired-more : (ds : List ℕ) (n : ℕ) → length ds ≡ 2 * n + 1 → paired (ds ++ (0 ∷ [])) ≡ paired ds
+unfolding paired
+paired-more [] n e = absurd (omega arith)
+paired-more (a ∷ []) n e = ap (λ (x : ℕ). x ∷ []) (omega arith)
+paired-more (a ∷ b ∷ ds) zero e = absurd (omega arith)
+paired-more (a ∷ b ∷ ds) (suc n) e = ap (λ (r : List ℕ). (a * 16 + b) ∷ r) (paired-more ds n (omega arith))
 
 pub frame-length : (l : List ℕ) → length l ≡ 63 → length (frameOfLine l) ≡ 32
 unfolding frameOfLine
@@ -59,7 +62,7 @@ unfolding halves
 length-halves [] = refl
 length-halves (b ∷ s) = omega (arith, length-halves s)
 
-map-at : (f : ℕ → ℕ) (l : List ℕ) (k d e : ℕ) → k < length l → getD (map f l) k d ≡ f (getD l k e)
+pub map-at : (f : ℕ → ℕ) (l : List ℕ) (k d e : ℕ) → k < length l → getD (map f l) k d ≡ f (getD l k e)
 map-at f [] k d e h = absurd (omega arith)
 map-at f (x ∷ l) zero d e h = refl
 map-at f (x ∷ l) (suc k) d e h = map-at f l k d e (omega arith)

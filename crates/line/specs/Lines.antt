@@ -29,6 +29,10 @@ digits = 0x30 to 0x39 ∷ 0x41 to 0x46 ∷ 0x61 to 0x66 ∷ []
 abbrev pub worth : ℕ → ℕ
 worth b = cond (ltb b 0x3A) (b - 0x30) (cond (ltb b 0x47) (b - 0x37) (b - 0x57))
 
+-- the same of any byte, 16 where it is no digit
+abbrev pub mark : ℕ → ℕ
+mark b = cond (allowed digits b) (worth b) 16
+
 -- the digit of a number below 16, a capital letter from ten on
 abbrev pub capital : ℕ → ℕ
 capital n = cond (ltb n 10) (0x30 + n) (0x37 + n)

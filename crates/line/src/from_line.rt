@@ -1,9 +1,13 @@
 // From a line to a frame, and to what the frame says.
 ghost use mathlib.Core.Path.{_≡_};
-ghost use Rattle.line.specs.Lines.{noLine, framing, framingSays, lineReading, lineSays};
+ghost use mathlib.Core.Bool.{_&&_};
+ghost use mathlib.Core.List.{[], _∷_, _++_};
+ghost use Prim.Native.Nat.{ℕ, _<_};
+ghost use lib.Dec.{leb};
+ghost use lib.ListN.{length, getD};
+ghost use Rattle.line.specs.Lines.{mark, paired, noLine, framing, framingSays, lineReading, lineSays};
 ghost use Rattle.report.specs.Runs.Reading.{seen};
 ghost use Rattle.rows.specs.Refusals.{answers};
-use crate::digits::DIGITS;
 use report::look::Looked;
 use report::read::Reading;
 use report::record::Record;
@@ -25,7 +29,56 @@ fn no_line() -> Framing
     }
 }
 
-// The frame of a line, whatever it holds. Each byte is looked at once.
+fn between(value: u8, low: u8, high: u8) -> bool
+    ensures { λ r. ⌜ r ≡ leb low value && leb value high ⌝ }
+{
+    (low <= value) & (value <= high)
+}
+
+// The number that a byte stands for as a digit; 16 where it is no digit. A letter with 32 set is the
+// small letter.
+fn digit(byte: u8) -> u8
+    ensures { λ r. ⌜ r ≡ mark byte ⌝ }
+{
+    if between(byte, b'0', b'9') {
+        return byte - b'0';
+    }
+    let small = byte | 32;
+    if between(small, b'a', b'f') {
+        return small - 87;
+    }
+    16
+}
+
+// A line with a digit of zero behind it: two digits a byte.
+fn padded(line: &[u8]) -> [u8; 64]
+    requires { ⌜ length (now line) ≡ 63 ⌝ }
+    ensures { λ r. ⌜ r ≡ now (line .entry) ++ (48 ∷ []) ⌝ }
+{
+    let mut text = [b'0'; 64];
+    let mut i = 0;
+    while i < 63 {
+        text[i] = line[i];
+        i += 1;
+    }
+    text
+}
+
+fn pairs(values: [u8; 64]) -> [u8; 32]
+    requires { ⌜ ((k : ℕ) → getD values k 0 < 16) ⌝ }
+    ensures { λ r. ⌜ r ≡ paired values ⌝ }
+{
+    let mut frame = [0u8; 32];
+    let mut i = 0;
+    while i < 32 {
+        frame[i] = values[2 * i] * 16 + values[2 * i + 1];
+        i += 1;
+    }
+    frame
+}
+
+// The frame of a line, whatever it holds. Its loops make a fixed number of turns and have no way out,
+// so that the compiler takes sixteen bytes at a time.
 pub fn frame_of_line(line: &[u8]) -> Framing
     ensures { λ r. ⌜ r ≡ framing (now (line .entry)) ⌝ }
     ensures { λ r. ⌜ answers (r .answer) ≡ framingSays (now (line .entry)) ⌝ }
@@ -33,29 +86,22 @@ pub fn frame_of_line(line: &[u8]) -> Framing
     if line.len() != 63 {
         return no_line();
     }
-    let digits = DIGITS;
-    let mut frame = [0u8; 32];
+    let text = padded(line);
+    let mut values = [0u8; 64];
+    let mut all = true;
     let mut i = 0;
-    while i < 31 {
-        let high = digits[line[2 * i] as usize];
-        let low = digits[line[2 * i + 1] as usize];
-        if high > 15 {
-            return no_line();
-        }
-        if low > 15 {
-            return no_line();
-        }
-        frame[i] = high * 16 + low;
+    while i < 64 {
+        let value = digit(text[i]);
+        values[i] = value;
+        all = all & (value < 16);
         i += 1;
     }
-    let last = digits[line[62] as usize];
-    if last > 15 {
+    if !all {
         return no_line();
     }
-    frame[31] = last * 16;
     Framing {
         answer: Verdict::Fine,
-        frame,
+        frame: pairs(values),
     }
 }
 

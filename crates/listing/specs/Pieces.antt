@@ -7,11 +7,15 @@ use Rattle.lent.specs.Writing.{Wrote}
 use Rattle.listing.specs.declared.scan.Step.{Step}
 use Rattle.listing.specs.Scanning.{reach, progressOf}
 
+-- no line feed stands from here on and in front of r
+abbrev pub NoFeed : List ℕ → ℕ → ℕ → Type 0
+NoFeed s from r = (k : ℕ) → from ≤ k → k < r → getD s k 0 ≡ 10 → ⊥
+
 -- r is the first index from here on with a line feed, or the length
 pub record Found (s : List ℕ) (from r : ℕ) : Type 0 where
   pub low : from ≤ r
   pub high : r ≤ length s
-  pub quiet : (k : ℕ) → from ≤ k → k < r → getD s k 0 ≡ 10 → ⊥
+  pub quiet : NoFeed s from r
   pub stops : r < length s → getD s r 0 ≡ 10
 
 -- a listing with n lines behind it and one begun has taken these bytes, and put what it said into out from at on

@@ -1,13 +1,14 @@
 -- Laws of a listing byte by byte.
 use mathlib.Core.Path.{_≡_, refl, sym, ap, _∙_}
-use mathlib.Core.Bool.{Bool, true, false}
+use mathlib.Core.Bool.{Bool, true, false, not, _&&_, _||_}
 use mathlib.Core.List.{List, [], _∷_, _++_, append-assoc, append-nil}
 use Prim.Native.Nat.{ℕ, zero, suc, _+_, _≤_, _<_}
 use native.Mathlib.Omega.{arith}
 use borrow.Author.Tests.{lt-ltb, le-ltb, eq-eqb, ne-eqb, ltb-true, ltb-false}
-use lib.Dec.{ltb}
+use lib.Dec.{ltb, eqb}
 use lib.ListN.{length, take, getD, length-take}
 use lib.Seq.{take-all}
+use Rattle.rows.proofs.Rules.Outcomes.{false-not-true, and-both}
 use Rattle.listing.specs.Rows.{cutText}
 use Rattle.listing.specs.Listing.{lineRow, limit}
 use Rattle.listing.specs.Scanning.{say, reach}
@@ -29,6 +30,21 @@ none-more s from i before here k h l e = at-or-before (ltb k i) refl
     at-or-before : (t : Bool) → ltb k i ≡ t → ⊥
     at-or-before true b = before k h (ltb-true k i b) e
     at-or-before false b = let same : k ≡ i = omega (arith, ltb-false k i b) in here (rw same at e)
+
+-- the same of 63 bytes that are looked at without a stop; whatever stands behind them is passed over
+pub no-feed-more : (s : List ℕ) (from i : ℕ) (none : Bool) → (none ≡ true → (k : ℕ) → k < 63 → k < i → getD s (from + k) 0 ≡ 10 → ⊥)
+    → none && (not (eqb (getD s (from + i) 0) 10) || eqb i 63) ≡ true → (k : ℕ) → k < 63 → k < i + 1 → getD s (from + k) 0 ≡ 10 → ⊥
+no-feed-more s from i none before e k h l f = at-or-before (ltb k i) refl
+  where
+    here : k ≡ i → ⊥
+    here same =
+        let feed : getD s (from + i) 0 ≡ 10 = rw same at f in
+        let inside : i ≡ 63 → ⊥ = λ q. omega arith in
+        false-not-true (simp (eq-eqb (getD s (from + i) 0) 10 feed, ne-eqb i 63 inside) at (and-both none _ e .1))
+
+    at-or-before : (t : Bool) → ltb k i ≡ t → ⊥
+    at-or-before true b = before (and-both none _ e .0) k h (ltb-true k i b) f
+    at-or-before false b = here (omega (arith, ltb-false k i b))
 
 pub byte-reach : (r begun : List ℕ) (n b : ℕ) → n < limit → (b ≡ 10 → ⊥) → reach n begun (b ∷ r) ≡ reach n (take 64 (begun ++ (b ∷ []))) r
 unfolding reach
