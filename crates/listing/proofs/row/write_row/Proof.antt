@@ -1,7 +1,5 @@
 -- `listing::row::write_row` meets its contract.
 use mathlib.Core.Path.{ap, _∙_}
-use mathlib.Core.List.{List}
-use Prim.Native.Nat.{ℕ}
 use Rattle.report.specs.declared.look.Looked.{Looked}
 use Rattle.listing.specs.Rows.{filledBy, rowSeen, rowText}
 use borrow.Author.Needs.{needs}
@@ -9,7 +7,11 @@ use Rattle.listing.proofs.row.write_row.Statement.{statement}
 use Rattle.listing.proofs.row.write_row.Tie as tie
 
 returns : tie.Need-returns
-returns c = ?
+returns c =
+    let w = c .before .before in
+    let s = w .before .before .before .before in
+    let same = ap (λ (l : Looked). filledBy (rowText (s .args .number) (rowSeen (l .answer) l)) (s .args .out .now)) (w .before .before .of .ensures) in
+    (w .write-seen .ensures .0 ∙ same, w .write-seen .ensures .1)
 
 pub write-row-spec : {M : Type 1} → statement M
 write-row-spec = tie.close (tie.spec (λ c κs. search needs) (λ c κs. search needs) (λ c. search needs) returns)
