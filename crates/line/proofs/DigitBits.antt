@@ -11,9 +11,9 @@ use lib.Pow.{shr-shr}
 use borrow.Author.Tests.{eqb-true, eqb-false}
 use Rattle.bits.specs.Frame.{Bytes, number, fieldOf}
 use Rattle.bits.proofs.Bytes.{number-shr, number-more}
-use Rattle.line.specs.Lines.{worth, half, lineOf}
+use Rattle.line.specs.Lines.{worth, lineOf}
 use Rattle.line.proofs.DigitValues.{capital-worth}
-use Rattle.line.proofs.Pairs.{digit-at}
+use Rattle.line.proofs.Pairs.{half, digit-at}
 
 high-half : (n b : ℕ) → b < 256 → (n * 256 + b) / 16 % 16 ≡ b / 16
 high-half n b h = omega arith

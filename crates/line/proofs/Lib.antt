@@ -2,6 +2,7 @@ pub mod Claims
 pub mod DigitValues
 pub mod Pairs
 pub mod DigitLoop
+pub mod PairLoop
 pub mod LineEnds
 pub mod ThereAndBack
 pub mod DigitBits

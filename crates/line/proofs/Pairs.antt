@@ -7,7 +7,7 @@ use mathlib.Core.List.{List, [], _∷_, _++_, map}
 use lib.ListN.{length, getD, take, length-map}
 use lib.Seq.{getD-take, length-take-le}
 use lib.Dec.{eqb}
-use Rattle.line.specs.Lines.{capital, paired, frameOfLine, half, halves, lineOf}
+use Rattle.line.specs.Lines.{capital, paired, frameOfLine, halves, lineOf}
 
 even : (i : ℕ) → 2 * suc i ≡ suc (suc (2 * i))
 even i = omega arith
@@ -42,6 +42,10 @@ unfolding frameOfLine
 frame-length l e = rw (length-paired, length-map, e)
 
 -- ---- and back
+
+-- digit k of a line, from the byte that has it
+abbrev pub half : ℕ → ℕ → ℕ
+half k b = cond (eqb (k % 2) 0) (b / 16) (b % 16)
 
 next-half : (k b : ℕ) → half (suc (suc k)) b ≡ half k b
 next-half k b = let e : suc (suc k) % 2 ≡ k % 2 = omega arith in rw e

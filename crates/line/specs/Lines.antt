@@ -83,10 +83,6 @@ lineSays l = answers (unless (isLine l) Line then readAnswer (frameOfLine l))
 
 -- ---- from a frame to a line
 
--- digit k of a line, from the byte that has it
-abbrev pub half : ℕ → ℕ → ℕ
-half k b = cond (eqb (k % 2) 0) (b / 16) (b % 16)
-
 -- the two halves of each byte
 unfoldable pub halves : List ℕ → List ℕ
 halves [] = []

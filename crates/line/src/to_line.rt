@@ -1,8 +1,8 @@
 // From a frame to a line in capitals.
 ghost use mathlib.Core.Path.{_≡_};
-ghost use Prim.Native.Nat.{_<_};
-ghost use lib.ListN.{length};
-ghost use Rattle.line.specs.Lines.{capital, half, lineAnswer, lineInto, lineWriteSays};
+ghost use Prim.Native.Nat.{_+_, _*_, _/_, _%_, _<_};
+ghost use lib.ListN.{length, set};
+ghost use Rattle.line.specs.Lines.{capital, lineAnswer, lineInto, lineWriteSays};
 ghost use Rattle.rows.specs.Refusals.{answers};
 use rows::refusal::Refusal;
 use rows::refusal::Verdict;
@@ -17,14 +17,13 @@ fn capital(n: u8) -> u8
     55 + n
 }
 
-// Digit k of a line, from the byte that has it: the digits of even number are high halves.
-fn digit(byte: u8, k: usize) -> u8
-    ensures { λ r. ⌜ r ≡ capital (half k byte) ⌝ }
+// Byte i of a frame is digits 2 * i and 2 * i + 1 of its line.
+fn put_pair(buffer: &mut [u8], i: usize, byte: u8)
+    requires { ⌜ 2 * i + 1 < length (now buffer) ⌝ }
+    ensures { λ _. ⌜ now (buffer .exit) ≡ set (set (now (buffer .entry)) (2 * i) (capital (byte / 16))) (2 * i + 1) (capital (byte % 16)) ⌝ }
 {
-    if k % 2 == 0 {
-        return capital(byte / 16);
-    }
-    capital(byte % 16)
+    buffer[2 * i] = capital(byte / 16);
+    buffer[2 * i + 1] = capital(byte % 16);
 }
 
 // Writes a lent frame to the first 63 bytes of a lent buffer, and touches no other. A frame with
@@ -42,11 +41,14 @@ pub fn write_line(frame: &[u8], buffer: &mut [u8]) -> Verdict
     if buffer.len() < 63 {
         return Verdict::Refused(Refusal::Short);
     }
-    let mut k = 0;
-    while k < 63 {
-        let byte = frame[k / 2];
-        buffer[k] = digit(byte, k);
-        k += 1;
+    // Bytes 0 to 15, and 15 to 30: a loop of sixteen turns is one that the compiler takes at once, and
+    // byte 15 may be put twice.
+    let mut i = 0;
+    while i < 16 {
+        put_pair(buffer, i, frame[i]);
+        put_pair(buffer, i + 15, frame[i + 15]);
+        i += 1;
     }
+    buffer[62] = capital(frame[31] / 16);
     Verdict::Fine
 }
