@@ -3,6 +3,8 @@ ghost use mathlib.Core.Path.{_≡_};
 ghost use Rattle.rows.specs.Refusals.{answers};
 ghost use Rattle.bulletin.specs.Merges.{joinedStores, mergeVerdict, mergeOf, mergeSays};
 use crate::store::Store;
+use pages::page::Kept;
+use pages::page::Page;
 use rows::refusal::Refusal;
 use rows::refusal::Verdict;
 
@@ -31,8 +33,17 @@ impl Store {
         let mut i = 0;
         while i < Self::PAGES {
             let mine = self.pages[i];
-            let page = mine.join(other.pages[i]);
-            self.pages[i] = page;
+            let theirs = other.pages[i];
+            match mine.kept(theirs) {
+                Kept::Own => {}
+                Kept::Other => {
+                    self.pages[i] = theirs;
+                }
+                Kept::Neither => {
+                    let page = Page::disputed();
+                    self.pages[i] = page;
+                }
+            }
             i += 1;
         }
         self

@@ -1,10 +1,11 @@
 // The text of a store whose pages are all held.
 ghost use mathlib.Core.Path.{_≡_};
 ghost use mathlib.Core.List.{_++_};
-ghost use Prim.Native.Nat.{_<_, _≤_};
-ghost use lib.ListN.{length, getD, take, drop};
+ghost use Prim.Native.Nat.{_+_, _≤_};
+ghost use lib.ListN.{length, take, drop};
+ghost use lib.Seq.{paste};
 ghost use Rattle.rows.specs.Refusals.{answers};
-ghost use Rattle.bulletin.specs.Text.{bytesInOrder, textLengthOf, whyNotHeld, textVerdict, textAnswer, textBuffer, textSays};
+ghost use Rattle.bulletin.specs.Text.{bytesInOrder, textLength, textLengthOf, whyNotHeld, textVerdict, textAnswer, textBuffer, textSays};
 use crate::store::Store;
 use pages::page::Page;
 use rows::refusal::Refusal;
@@ -26,43 +27,72 @@ fn absence(page: Page) -> u8
     2
 }
 
-impl Store {
-    fn byte_at(self, k: usize) -> u8
-        requires { ⌜ k < 1134 ⌝ }
-        ensures { λ r. ⌜ r ≡ getD (bytesInOrder (self .pages)) k 0 ⌝ }
-    {
-        let i = k / Self::BYTES;
-        let j = k % Self::BYTES;
-        let page = self.pages[i];
-        let text = page.text;
-        text[j]
+// The bytes of a page less all zero bytes at its end.
+fn page_length(page: Page) -> usize
+    ensures { λ r. ⌜ r ≡ textLength 18 (page .text) ⌝ }
+{
+    let text = page.text;
+    let mut n = Store::BYTES;
+    while n > 0 {
+        let m = n - 1;
+        if text[m] != 0 {
+            return n;
+        }
+        n = m;
     }
+    0
+}
 
-    // The bytes of the pages of the bulletin, less all zero bytes at their end.
+// The first bytes of a page, of which there are `count`, from the byte `at` on.
+fn put_page(out: &mut [u8], at: usize, page: Page, count: usize)
+    requires { ⌜ (count ≤ 18) × (at + count ≤ length (now out)) ⌝ }
+    ensures { λ _. ⌜ now (out .exit) ≡ paste (now (out .entry)) at (page .text) count ⌝ }
+{
+    let text = page.text;
+    let mut k = 0;
+    while k < count {
+        out[at + k] = text[k];
+        k += 1;
+    }
+}
+
+impl Store {
+    // The bytes of the pages of the bulletin, less all zero bytes at their end: those up to the last
+    // page that has others.
     fn text_length(self) -> usize
         requires { ⌜ self .name .total ≤ 63 ⌝ }
         ensures { λ r. ⌜ r ≡ textLengthOf self ⌝ }
     {
         let name = self.name;
-        let mut n = Self::BYTES * (name.total as usize);
-        while n > 0 {
-            let m = n - 1;
-            if self.byte_at(m) != 0 {
-                return n;
+        let mut i = name.total as usize;
+        while i > 0 {
+            let last = i - 1;
+            let page = self.pages[last];
+            let n = page_length(page);
+            if n > 0 {
+                return Self::BYTES * last + n;
             }
-            n = m;
+            i = last;
         }
         0
     }
 
+    // Whole pages, and then what is left of the next.
     fn copy_text(self, n: usize, out: &mut [u8])
         requires { ⌜ (n ≤ 1134) × (n ≤ length (now out)) ⌝ }
         ensures { λ _. ⌜ now (out .exit) ≡ take n (bytesInOrder (self .pages)) ++ drop n (now (out .entry)) ⌝ }
     {
-        let mut k = 0;
-        while k < n {
-            out[k] = self.byte_at(k);
-            k += 1;
+        let whole = n / Self::BYTES;
+        let rest = n % Self::BYTES;
+        let mut i = 0;
+        while i < whole {
+            let page = self.pages[i];
+            put_page(out, Self::BYTES * i, page, Self::BYTES);
+            i += 1;
+        }
+        if rest > 0 {
+            let page = self.pages[whole];
+            put_page(out, Self::BYTES * whole, page, rest);
         }
     }
 

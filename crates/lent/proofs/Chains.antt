@@ -8,7 +8,7 @@ use native.Mathlib.Omega.{arith}
 use borrow.Author.Tests.{leb-true, leb-false}
 use lib.Dec.{leb}
 use lib.ListN.{length, getD, set, take, drop, length-append, take-append-drop}
-use lib.Seq.{sets, length-sets, sets-eq, take-suc, take-all, drop-length}
+use lib.Seq.{sets, length-sets, sets-eq, take-suc, take-all, drop-length, length-take-le}
 use Rattle.lent.specs.Writing.{Wrote}
 
 -- ---- places past the end
@@ -27,6 +27,13 @@ sets-past (v ∷ t) l i h = ap (λ (r : List ℕ). sets r (suc i) t) (set-past l
 sets-sets : (t u l : List ℕ) (i : ℕ) → sets (sets l i t) (i + length t) u ≡ sets l i (t ++ u)
 sets-sets [] u l i = ap (λ (k : ℕ). sets l k u) (omega arith)
 sets-sets (v ∷ t) u l i = ap (λ (k : ℕ). sets (sets (set l i v) (suc i) t) k u) (omega arith) ∙ sets-sets t u (set l i v) (suc i)
+
+-- one byte more of t, in its place
+pub set-more : (t l : List ℕ) (i k : ℕ) → k < length t → set (sets l i (take k t)) (i + k) (getD t k 0) ≡ sets l i (take (k + 1) t)
+set-more t l i k h =
+    ap (λ (n : ℕ). set (sets l i (take k t)) (i + n) (getD t k 0)) (sym (length-take-le k t (omega arith)))
+    ∙ sets-sets (take k t) (getD t k 0 ∷ []) l i
+    ∙ ap (sets l i) (sym (take-suc t k 0 h) ∙ ap (λ (n : ℕ). take n t) (sym (add-one k)))
 
 -- where t was cut, u finds no place, and it would find none behind the whole of t
 pub sets-next : (t u l : List ℕ) (i j : ℕ) → j ≡ i + min (length t) (length l + 1 - i) → sets (sets l i t) j u ≡ sets l i (t ++ u)

@@ -1,5 +1,9 @@
 // What is put into a lent buffer, from the byte `at` on.
 ghost use mathlib.Core.List.{[], _∷_};
+ghost use mathlib.Core.Path.{_≡_};
+ghost use Prim.Native.Nat.{_+_, _≤_};
+ghost use lib.ListN.{length};
+ghost use lib.Seq.{sets};
 ghost use Rattle.lent.specs.Numbers.{decimal, wide};
 ghost use Rattle.lent.specs.Writing.{Wrote};
 use crate::number::byte_of;
@@ -18,9 +22,27 @@ pub fn put_byte(out: &mut [u8], at: usize, byte: u8) -> usize
     at + 1
 }
 
+// Bytes that all find a place: the buffer's length is not asked for each of them.
+fn copy(out: &mut [u8], at: usize, bytes: &[u8])
+    requires { ⌜ at + length (now bytes) ≤ length (now out) ⌝ }
+    ensures { λ _. ⌜ now (out .exit) ≡ sets (now (out .entry)) at (now (bytes .entry)) ⌝ }
+{
+    let mut k = 0;
+    while k < bytes.len() {
+        out[at + k] = bytes[k];
+        k += 1;
+    }
+}
+
 pub fn put_bytes(out: &mut [u8], at: usize, bytes: &[u8]) -> usize
     ensures { λ r. ⌜ Wrote (now (out .entry)) (now (out .exit)) at r (now (bytes .entry)) ⌝ }
 {
+    if at <= out.len() {
+        if bytes.len() <= out.len() - at {
+            copy(out, at, bytes);
+            return at + bytes.len();
+        }
+    }
     let mut next = at;
     let mut k = 0;
     while k < bytes.len() {

@@ -4,3 +4,4 @@ pub mod Shapes
 pub mod Numbered
 pub mod Ranges
 pub mod Settled
+pub mod KeptPages

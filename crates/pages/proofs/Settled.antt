@@ -9,6 +9,12 @@ Page-absent-is-settled κs a x y = answer
 pub Page-held-is-settled : Settled pages.page.Page.held.ended pages.page.Page.held.Reads.Post
 Page-held-is-settled κs a x y = answer
 
+pub Page-disputed-is-settled : Settled pages.page.Page.disputed.ended pages.page.Page.disputed.Reads.Post
+Page-disputed-is-settled κs a x y = answer
+
+pub Page-kept-is-settled : Settled pages.page.Page.kept.ended pages.page.Page.kept.Reads.Post
+Page-kept-is-settled κs a x y = answer
+
 pub Page-join-is-settled : Settled pages.page.Page.join.ended pages.page.Page.join.Reads.Post
 Page-join-is-settled κs a x y = answer
 

@@ -1,13 +1,22 @@
 -- What makes a page sound, and what a sound page stands for.
 use mathlib.Core.Path.{_≡_, refl}
-use mathlib.Core.Bool.{Bool, true, false}
+use mathlib.Core.Bool.{Bool, true, false, cond}
 use Prim.Native.Nat.{ℕ, _<_, _≤_}
 use native.Mathlib.Omega.{arith}
 use Rattle.pages.specs.declared.page.Page.{Page}
-use lib.Dec.{eqb}
+use lib.Dec.{eqb, ltb}
 use borrow.Author.Tests.{ne-eqb, eqb-true, eqb-false}
-use Rattle.pages.specs.Pages.{noText, soundPage}
+use Rattle.pages.specs.Pages.{noText, soundPage, soundAt}
 use Rattle.rows.specs.Values.{sameBytes}
+
+-- held
+pub held-at : (p : Page) (total i : ℕ) → p .mark ≡ 1 → soundAt total i p ≡ ltb i total
+unfolding soundAt soundPage
+held-at p total i e = simp e (by (ltb i total))
+  where
+    by : (b : Bool) → cond b true false ≡ b
+    by true = refl
+    by false = refl
 
 pub no-state : (p : Page) → 2 < p .mark → soundPage p ≡ false
 unfolding soundPage

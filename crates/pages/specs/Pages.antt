@@ -7,6 +7,8 @@ use lib.ListN.{length, getD, replicate}
 use lib.Dec.{eqb, ltb}
 use Rattle.rows.specs.Values.{sameBytes}
 use Rattle.pages.specs.declared.page.Page.{Page}
+use Rattle.pages.specs.declared.page.Kept.{Kept}
+use Rattle.pages.specs.declared.page.Kept.the-variants.{Own, Other, Neither}
 
 abbrev pub noText : List ℕ
 noText = replicate 18 0
@@ -32,6 +34,15 @@ join p q =
     (cond (eqb (p .mark) 1)
     (cond (eqb (q .mark) 1) (cond (sameBytes (p .text) (q .text)) p disputedPage) disputedPage)
     disputedPage))
+
+-- which of the two that is, the first or the other one; neither where it is disputed
+unfoldable pub keptOf : Page → Page → Kept
+keptOf p q =
+    cond (eqb (p .mark) 0) Other
+    (cond (eqb (q .mark) 0) Own
+    (cond (eqb (p .mark) 1)
+    (cond (eqb (q .mark) 1) (cond (sameBytes (p .text) (q .text)) Own Neither) Neither)
+    Neither))
 
 -- ---- "each page's state is one of the three, absent and disputed pages hold zero bytes, and pages past the total are absent"
 

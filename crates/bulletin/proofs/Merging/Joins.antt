@@ -4,7 +4,7 @@ use mathlib.Core.List.{List, [], _∷_}
 use Prim.Native.Nat.{ℕ, suc, zero, _+_, _<_, _≤_}
 use native.Mathlib.Omega.{arith}
 use lib.ListN.{length, getD, set, length-set}
-use lib.Seq.{ext-getD, getD-set-same, getD-set-other}
+use lib.Seq.{ext-getD, getD-set-same, getD-set-other, set-getD}
 use borrow.Author.Count.{below-more}
 use Rattle.pages.specs.declared.page.Page.{Page}
 use Rattle.pages.specs.Pages.{noPage, join}
@@ -49,6 +49,10 @@ joining-more l m i r p h J e = record {
       (getD-set-same r i p noPage (omega (arith, J .long)) ∙ e ∙ ap (λ (x : Page). join x (getD m i noPage)) (J .left i (omega arith)));
   left = λ k kh. getD-set-other r i k p noPage (λ q. omega arith) ∙ J .left k (omega arith);
 }
+
+-- the same where the page stays as it was
+pub joining-stays : (l m : List Page) (i : ℕ) (r : List Page) → i < length l → Joining l m i r → getD r i noPage ≡ join (getD r i noPage) (getD m i noPage) → Joining l m (i + 1) r
+joining-stays l m i r h J e = rw (set-getD r i noPage) at (joining-more l m i r (getD r i noPage) h J e)
 
 pub joining-all : (l m : List Page) (i : ℕ) (r : List Page) → length l ≡ length m → length l ≤ i → Joining l m i r → r ≡ joins l m
 joining-all l m i r e h J =

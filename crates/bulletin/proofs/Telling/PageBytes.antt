@@ -2,18 +2,15 @@
 use mathlib.Core.Path.{_≡_, refl, ap, sym, _∙_}
 use mathlib.Core.Bool.{Bool, true, false, cond}
 use mathlib.Core.List.{List, [], _∷_, _++_}
-use mathlib.Core.Logic.{⊎-elim}
-use Prim.Native.Nat.{ℕ, zero, suc, _+_, _-_, _*_, _/_, _%_, _<_, _≤_}
+use Prim.Native.Nat.{ℕ, zero, suc, _+_, _-_, _*_, _<_, _≤_}
 use native.Mathlib.Omega.{arith}
-use native.Mathlib.Numerals.{add-one}
-use lib.ListN.{length, getD, set, take, drop, length-append, List·getD-append}
-use lib.Seq.{getD-append-add, drop-cons, take-suc, set-at, append-snoc, length-take-le}
+use lib.ListN.{length, getD, take, drop, length-append, List·getD-append}
+use lib.Seq.{paste, drop-append-add, take-append-le, take-at, take-add, drop-drop, getD-drop, length-take-le}
 use lib.Dec.{eqb}
 use borrow.Author.Tests.{eq-eqb, ne-eqb}
 use Rattle.pages.specs.declared.page.Page.{Page}
 use Rattle.pages.specs.Pages.{noPage}
 use Rattle.bulletin.specs.Text.{bytesInOrder, textLength}
-use Rattle.rows.proofs.Rules.Tests.{below?}
 
 abbrev pub Eighteen : List Page → Type 0
 Eighteen l = (i : ℕ) → i < length l → length (getD l i noPage .text) ≡ 18
@@ -26,36 +23,40 @@ length-flat (p ∷ l) h =
     let r : length (bytesInOrder l) ≡ 18 * length l = length-flat l (λ i k. h (suc i) (omega arith)) in
     length-append (p .text) (bytesInOrder l) ∙ omega arith
 
-pub getD-flat : (l : List Page) (k : ℕ) → Eighteen l → k < 18 * length l → getD (getD l (k / 18) noPage .text) (k % 18) 0 ≡ getD (bytesInOrder l) k 0
+-- behind i pages the next page stands in front of the others
+drop-flat : (l : List Page) (i : ℕ) → Eighteen l → i < length l → drop (18 * i) (bytesInOrder l) ≡ getD l i noPage .text ++ bytesInOrder (drop (suc i) l)
 unfolding bytesInOrder
-getD-flat [] k h b = absurd (no b)
+drop-flat [] i h b = absurd (no b)
   where
-    no : k < 0 → ⊥
+    no : i < 0 → ⊥
     no b = omega arith
-getD-flat (p ∷ l) k h b =
-    ⊎-elim
-    (λ s.
-    let q : k / 18 ≡ 0 = omega arith in
-    let m : k % 18 ≡ k = omega arith in
-    (λ j. getD (getD (p ∷ l) (q j) noPage .text) (m j) 0) ∙ sym (List·getD-append (p .text) (bytesInOrder l) 0 k (omega (arith, h 0 (omega arith)))))
-    (λ s.
-    let q : k / 18 ≡ suc ((k - 18) / 18) = omega arith in
-    let m : k % 18 ≡ (k - 18) % 18 = omega arith in
-    let e : k ≡ length (p .text) + (k - 18) = omega (arith, h 0 (omega arith)) in
-    (λ j. getD (getD (p ∷ l) (q j) noPage .text) (m j) 0)
-    ∙ getD-flat l (k - 18) (λ i z. h (suc i) (omega arith)) (omega arith)
-    ∙ sym (ap (λ (x : ℕ). getD (p .text ++ bytesInOrder l) x 0) e ∙ getD-append-add (p .text) (bytesInOrder l) (k - 18) 0))
-    (below? k 18)
+drop-flat (p ∷ l) zero h b = refl
+drop-flat (p ∷ l) (suc i) h b =
+    let first : length (p .text) ≡ 18 = h 0 (omega arith) in
+    let e : 18 * suc i ≡ length (p .text) + 18 * i = omega arith in
+    ap (λ (n : ℕ). drop n (p .text ++ bytesInOrder l)) e
+    ∙ drop-append-add (p .text) (bytesInOrder l) (18 * i)
+    ∙ drop-flat l i (λ j k. h (suc j) (omega arith)) (omega arith)
 
--- a loop that copies F into D from the front
-pub copy-more : (F D : List ℕ) (k v : ℕ) → k < length F → k < length D → v ≡ getD F k 0 → set (take k F ++ drop k D) k v ≡ take (k + 1) F ++ drop (k + 1) D
-copy-more F D k v hf hd e =
-    ap (λ (l : List ℕ). set (take k F ++ l) k v) (drop-cons D k 0 hd)
-    ∙ set-at (take k F) (getD D k 0) (drop (suc k) D) v k (length-take-le k F (omega arith))
-    ∙ ap (λ (x : ℕ). take k F ++ x ∷ drop (suc k) D) e
-    ∙ sym (append-snoc (take k F) (getD F k 0) (drop (suc k) D))
-    ∙ ap (λ (l : List ℕ). l ++ drop (suc k) D) (sym (take-suc F k 0 hf))
-    ∙ (λ j. take (sym (add-one k) j) F ++ drop (sym (add-one k) j) D)
+-- ---- a loop that copies from the front
+
+module _ (F D t : List ℕ) (a c : ℕ) (all : a ≤ length F) (room : a ≤ length D) (next : take c t ≡ take c (drop a F)) where
+  pub part-copied : paste (take a F ++ drop a D) a t c ≡ take (a + c) F ++ drop (a + c) D
+  part-copied =
+      let front : length (take a F) ≡ a = length-take-le a F all in
+      let behind : drop (a + c) (take a F ++ drop a D) ≡ drop (a + c) D =
+      ap (λ (n : ℕ). drop (n + c) (take a F ++ drop a D)) (sym front) ∙ drop-append-add (take a F) (drop a D) c ∙ drop-drop c a D
+      in (λ j. take-at (take a F) (drop a D) a front j ++ next j ++ behind j)
+      ∙ ap (λ (x : List ℕ). x ++ drop (a + c) D) (sym (take-add a c F))
+
+-- c bytes of the page behind i others are put behind those of the i
+pub page-copied : (l : List Page) (D : List ℕ) (i c : ℕ) → Eighteen l → i < length l → c ≤ 18 → 18 * i ≤ length D
+    → paste (take (18 * i) (bytesInOrder l) ++ drop (18 * i) D) (18 * i) (getD l i noPage .text) c ≡ take (18 * i + c) (bytesInOrder l) ++ drop (18 * i + c) D
+page-copied l D i c h b m room =
+    part-copied (bytesInOrder l) D (getD l i noPage .text) (18 * i) c (omega (arith, length-flat l h)) room
+    (sym (ap (take c) (drop-flat l i h b) ∙ take-append-le c (getD l i noPage .text) (bytesInOrder (drop (suc i) l)) (omega (arith, h i b))))
+
+-- ---- a length
 
 pub len-stop : (n : ℕ) (l : List ℕ) → 0 < n → (getD l (n - 1) 0 ≡ 0 → ⊥) → textLength n l ≡ n
 unfolding textLength
@@ -79,3 +80,48 @@ textLength-most (suc n) l = by (eqb (getD l n 0) 0) (textLength-most n l)
     by : (b : Bool) → textLength n l ≤ n → cond b (textLength n l) (suc n) ≤ suc n
     by true h = omega arith
     by false h = omega arith
+
+-- bytes behind the first n play no part
+length-of-first : (n : ℕ) (l m : List ℕ) → n ≤ length l → textLength n (l ++ m) ≡ textLength n l
+unfolding textLength
+length-of-first zero l m h = refl
+length-of-first (suc n) l m h =
+    λ j. cond (eqb (List·getD-append l m 0 n (omega arith) j) 0) (length-of-first n l m (omega arith) j) (suc n)
+
+-- the last n bytes decide unless they are all zero
+length-in-parts : (n m : ℕ) (l : List ℕ) → textLength (m + n) l ≡ cond (eqb (textLength n (drop m l)) 0) (textLength m l) (m + textLength n (drop m l))
+unfolding textLength
+length-in-parts zero m l =
+    let e : m + 0 ≡ m = omega arith in
+    ap (λ (k : ℕ). textLength k l) e
+length-in-parts (suc n) m l =
+    let e : m + suc n ≡ suc (m + n) = omega arith in
+    ap (λ (k : ℕ). textLength k l) e
+    ∙ turn (eqb (getD l (m + n) 0) 0) (textLength n (drop m l)) (length-in-parts n m l)
+    ∙ ap (λ (v : ℕ). by-last (cond (eqb v 0) (textLength n (drop m l)) (suc n))) (sym (getD-drop m l n 0))
+  where
+    by-last : ℕ → ℕ
+    by-last k = cond (eqb k 0) (textLength m l) (m + k)
+
+    turn : (b : Bool) (k : ℕ) → textLength (m + n) l ≡ by-last k → cond b (textLength (m + n) l) (suc (m + n)) ≡ by-last (cond b k (suc n))
+    turn true k ih = ih
+    turn false k ih =
+        let e : suc (m + n) ≡ m + suc n = omega arith in
+        e ∙ sym (ap (λ (b : Bool). cond b (textLength m l) (m + suc n)) (ne-eqb (suc n) 0 (λ q. omega arith)))
+
+module _ (l : List Page) (i k n : ℕ) (h : Eighteen l) (b : i < length l) (behind : k ≡ i + 1) (e : n ≡ textLength 18 (getD l i noPage .text)) where
+  with-page : textLength (18 * k) (bytesInOrder l) ≡ cond (eqb n 0) (textLength (18 * i) (bytesInOrder l)) (18 * i + n)
+  with-page =
+      let last : textLength 18 (drop (18 * i) (bytesInOrder l)) ≡ n =
+      ap (textLength 18) (drop-flat l i h b) ∙ length-of-first 18 (getD l i noPage .text) (bytesInOrder (drop (suc i) l)) (omega (arith, h i b)) ∙ sym e
+      in let m : 18 * k ≡ 18 * i + 18 = omega arith in
+      ap (λ (x : ℕ). textLength x (bytesInOrder l)) m
+      ∙ length-in-parts 18 (18 * i) (bytesInOrder l)
+      ∙ ap (λ (x : ℕ). cond (eqb x 0) (textLength (18 * i) (bytesInOrder l)) (18 * i + x)) last
+
+  -- a page with other bytes than zeros is the last of the text
+  pub last-page : 0 < n → textLength (18 * k) (bytesInOrder l) ≡ 18 * i + n
+  last-page z = with-page ∙ rw (ne-eqb n 0 (λ q. omega arith))
+
+  pub page-of-zeros : n ≡ 0 → textLength (18 * k) (bytesInOrder l) ≡ textLength (18 * i) (bytesInOrder l)
+  page-of-zeros z = with-page ∙ rw (eq-eqb n 0 z)

@@ -1,55 +1,20 @@
 -- `pages::page::Page::join` meets its contract.
-use mathlib.Core.Path.{_∙_, sym}
+use mathlib.Core.Path.{_∙_}
 use borrow.Author.Needs.{needs}
-use borrow.Author.Tests.{eq-eqb, ne-eqb}
-use Rattle.pages.specs.Pages.{join}
+use Rattle.pages.specs.declared.page.Kept.the-variants.{Own, Other, Neither}
+use Rattle.pages.proofs.KeptPages.{joined-by}
 use Rattle.pages.proofs.page.Page.join.Statement.{statement}
 use Rattle.pages.proofs.page.Page.join.Tie as tie
 
 returns : tie.Need-returns
-unfolding join
-returns c = simp (eq-eqb _ _ (c .if1 .taken))
+returns c = joined-by _ _ Own (c .before .before .kept .ensures) (c .enum-told .given .1)
 
 returns-2 : tie.Need-returns-2
-unfolding join
-returns-2 c = simp (ne-eqb _ _ (c .before .before .if1 .left), eq-eqb _ _ (c .if2 .taken))
+returns-2 c = joined-by _ _ Other (c .before .before .kept .ensures) (c .enum-told2 .given .1)
 
 returns-3 : tie.Need-returns-3
-unfolding join
-returns-3 c =
-    let c3 = c .before in
-    let c2 = c3 .before .before in
-    let c1 = c2 .before .before in
-    simp (ne-eqb _ _ (c1 .if1 .left), ne-eqb _ _ (c2 .if2 .left), ne-eqb _ _ (c3 .if3 .taken)) (c .disputed .ensures)
-
-returns-4 : tie.Need-returns-4
-unfolding join
-returns-4 c =
-    let c4 = c .before in
-    let c3 = c4 .before .before in
-    let c2 = c3 .before .before in
-    let c1 = c2 .before .before in
-    simp (ne-eqb _ _ (c1 .if1 .left), ne-eqb _ _ (c2 .if2 .left), eq-eqb _ _ (c3 .if3 .left), ne-eqb _ _ (c4 .if4 .taken)) (c .disputed2 .ensures)
-
-returns-5 : tie.Need-returns-5
-unfolding join
-returns-5 c =
-    let c4 = c .before .before .before .before in
-    let c3 = c4 .before .before in
-    let c2 = c3 .before .before in
-    let c1 = c2 .before .before in
-    simp (ne-eqb _ _ (c1 .if1 .left), ne-eqb _ _ (c2 .if2 .left), eq-eqb _ _ (c3 .if3 .left), eq-eqb _ _ (c4 .if4 .left), sym (c .before .same-bytes .ensures) ∙ c .if5 .taken)
-
-returns-6 : tie.Need-returns-6
-unfolding join
-returns-6 c =
-    let c5 = c .before in
-    let c4 = c5 .before .before .before .before in
-    let c3 = c4 .before .before in
-    let c2 = c3 .before .before in
-    let c1 = c2 .before .before in
-    simp (ne-eqb _ _ (c1 .if1 .left), ne-eqb _ _ (c2 .if2 .left), eq-eqb _ _ (c3 .if3 .left), eq-eqb _ _ (c4 .if4 .left), sym (c5 .before .same-bytes .ensures) ∙ c5 .if5 .left) (c .disputed3 .ensures)
+returns-3 c = c .disputed .ensures ∙ joined-by _ _ Neither (c .before .before .before .kept .ensures) (c .before .enum-told3 .given .1)
 
 pub join-spec : {M : Type 1} → statement M
 join-spec =
-    tie.close (tie.spec returns returns-2 (λ c κs. search needs) returns-3 (λ c κs. search needs) returns-4 (λ c κs. search needs) returns-5 (λ c κs. search needs) returns-6)
+    tie.close (tie.spec (λ c κs. search needs) (λ c. search needs) (λ c. search needs) (λ c. search needs) (λ c κs. search needs) returns returns-2 returns-3)
