@@ -73,16 +73,17 @@ pub fn read(frame: &Frame, record: &mut RecordBytes) -> Answer {
 
 /// Writes the record of the bytes to a frame, which stays where it is refused.
 pub fn write(record: &RecordBytes, frame: &mut Frame) -> Answer {
-    let mut words = Words::default();
     let seen = written(record, |category| {
-        categories::walk(&mut IntoFrame { from: record, to: &mut words }, category)
+        let mut walk = IntoFrame { from: record, to: Words::default() };
+        categories::walk(&mut walk, category)?;
+        Ok(walk.to)
     });
-    told(seen.map(|()| *frame = sealed(record, words)))
+    told(seen.map(|words| *frame = sealed(record, words)))
 }
 
 /// What writing a record refuses, without writing it.
 fn writable(record: &RecordBytes) -> Result<(), Refusal> {
-    written(record, |category| categories::walk(&mut FromRecord(record), category))
+    written(record, |category| categories::walk(&mut FromRecord(record), category).map(drop))
 }
 
 /// Refusals 2 to 7 of a frame, or its category.
@@ -108,12 +109,13 @@ fn envelope(frame: &Frame, words: &Words) -> Result<u8, Refusal> {
 }
 
 /// The refusals of a writing in their order: what stands in front of the fields,
-/// then the fields by a walk, then Reserved, which lies behind all of them.
+/// then the fields by a walk, then Reserved, which lies behind all of them. Where
+/// there is none, what the walk has come to.
 #[inline(always)]
-fn written(
+fn written<T>(
     record: &RecordBytes,
-    walk: impl FnOnce(u8) -> Result<u8, Refusal>,
-) -> Result<(), Refusal> {
+    walk: impl FnOnce(u8) -> Result<T, Refusal>,
+) -> Result<T, Refusal> {
     let category = record[record_bytes::CATEGORY];
     let reserved = record[record_bytes::RESERVED];
     if !PREAMBLES.contains(&record[record_bytes::PREAMBLE]) {
@@ -125,11 +127,11 @@ fn written(
     if record_bytes::has_something_unused(record, category) {
         return Err(Refusal::plain(11));
     }
-    walk(category)?;
+    let walked = walk(category)?;
     if reserved > 63 {
         return Err(Refusal::out_of_range(220, reserved.into()));
     }
-    Ok(())
+    Ok(walked)
 }
 
 /// The frame of the fields in the words, with what every frame has around them.

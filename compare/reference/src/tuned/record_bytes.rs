@@ -42,7 +42,8 @@ pub fn has_something_unused(record: &RecordBytes, category: u8) -> bool {
         9 => &ASH_FALL,
         _ => &FLOOD,
     };
-    record.iter().zip(unused).fold(0, |met, (byte, unused)| met | (byte & unused)) != 0
+    let bytes = record[OWN..].iter().zip(&unused[OWN..]);
+    bytes.fold(0, |met, (byte, unused)| met | (byte & unused)) != 0
 }
 
 // For each category ones in the bytes where it has nothing. A part of a slot that

@@ -105,10 +105,11 @@ pub struct IntoRecord<'a> {
 pub struct FromRecord<'a>(pub &'a RecordBytes);
 
 /// Writes a record to words that are zero so far. Once a number is too wide for
-/// its bits the words are of no use, but then the walk ends with a refusal.
+/// its bits the words are of no use, but then the walk ends with a refusal. They are
+/// its own, so that they need not be in memory before it ends.
 pub struct IntoFrame<'a> {
     pub from: &'a RecordBytes,
-    pub to: &'a mut Words,
+    pub to: Words,
 }
 
 impl Walk for FromFrame<'_> {
