@@ -12,7 +12,7 @@ pub const RESERVED: usize = 2;
 const OWN: usize = 9;
 pub const SLOTS: usize = 41;
 pub const SLOT_BYTES: usize = 12;
-const PLACE: usize = 4;
+pub const PLACE: usize = 4;
 pub const TEXT: usize = 233;
 
 /// The number in 1, 2, 4 or 8 bytes, the most significant first.

@@ -5,7 +5,7 @@
 //! Everything here is put into its caller, where the field is a constant: a step
 //! then is a few instructions, and what a width already says is not tested.
 
-use super::record_bytes::{get, put, RecordBytes, SLOTS, SLOT_BYTES};
+use super::record_bytes::{get, put, RecordBytes, PLACE, SLOTS, SLOT_BYTES};
 use super::words::Words;
 use crate::record::Refusal;
 
@@ -54,7 +54,7 @@ impl Slots {
     #[inline(always)]
     pub fn place(&self, slot: usize, offset: usize) -> Field {
         let width = self.width - offset;
-        Field { bytes: 8, ..self.part(slot, offset, width, 4) }
+        Field { bytes: 8, ..self.part(slot, offset, width, PLACE) }
     }
 }
 
