@@ -6,6 +6,7 @@ use crate::lent::{only_read, Outcome};
 use crate::packed::{kept, packed, Bytes};
 use crate::reading::{bytes_of, frame_of};
 use crate::spares::note;
+use crate::tuned::{agree_on_taking, TunedStores};
 use crate::writing::with_stray;
 use crate::{door, pattern, values, Count};
 use reference::answer::Answer;
@@ -91,6 +92,7 @@ pub fn spares(count: &mut Count) {
 /// After each step its answer, and the value that was asked for before it.
 pub fn agree(count: &mut Count, steps: &[Step]) {
     let mut ours = Doors([[0; STORE_BYTES]; STORES]);
+    let mut tuned = TunedStores::default();
     let mut theirs = Stores::default();
     for step in steps.iter().map(kept_step) {
         let store = step.store();
@@ -98,6 +100,8 @@ pub fn agree(count: &mut Count, steps: &[Step]) {
         let our_outcome = (asked(&ours, &step), ours.play(&step), ours.bytes(store));
         let played = theirs.play(&step);
         let answer = played.answer;
+        let tuned_outcome = (tuned.play(&step), tuned.bytes(store));
+        count.same_tuned(&input, &tuned_outcome, &(played.clone(), theirs.bytes(store)));
         count.same(&input, &our_outcome, &(answer.value, played, theirs.bytes(store)));
         if let Step::Take { record, .. } = step {
             note(count, &record, answer);
@@ -162,7 +166,9 @@ pub fn stray_records(count: &mut Count) {
         let written = || door::write(&record, &mut [0; 32]);
         let expected = if sound { written() } else { Answer::refused(14) };
         let input = [&store[..], &record].concat();
-        count.same(&input, &ours, &Outcome::new(expected, store.to_vec()));
+        let expected = Outcome::new(expected, store.to_vec());
+        count.same(&input, &ours, &expected);
+        agree_on_taking(count, &store, &record, &expected);
     }
 }
 

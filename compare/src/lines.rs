@@ -6,7 +6,7 @@ use crate::lent::{from_to, refused, Outcome};
 use crate::packed::LENGTH;
 use crate::reading::{agree_on_record, frame_of};
 use crate::values::value_of;
-use crate::{door, pattern, Count};
+use crate::{door, pattern, tuned, Count};
 use reference::answer::Answer;
 use reference::generate::{any_frame, any_line, slices};
 use reference::line::{line_of_frame, read_line, write_line, DIGITS};
@@ -88,6 +88,7 @@ pub fn there_and_back(count: &mut Count) {
 
 /// Answer, value, place and every field of a line.
 pub fn agree(count: &mut Count, line: &[u8]) {
+    tuned::agree_on_line(count, line);
     agree_on_record(count, line, record_of(line, LENGTH), read_line(line));
 }
 

@@ -1,8 +1,9 @@
-//! Compares the proved functions with the reference on many inputs. It prints
-//! how many inputs each comparison had, and how many of them were of a kind that
-//! is told apart, and ends with an error at the first one on which the two
-//! differ. With the word `measure` it compares their speed instead, which is not
-//! part of the tests.
+//! Compares the proved functions with the reference on many inputs, and so the
+//! tuned functions of the reference, which times are measured by. It prints how
+//! many inputs each comparison had, and how many of them were of a kind that is
+//! told apart, and ends with an error at the first one on which the two differ.
+//! With the word `measure` it compares their speed instead, which is not part of
+//! the tests.
 
 mod calls;
 mod door;
@@ -17,6 +18,7 @@ mod parity;
 mod reading;
 mod spares;
 mod store_lengths;
+mod tuned;
 mod values;
 mod writing;
 
@@ -86,6 +88,10 @@ const COMPARISONS: &[(&str, Comparison)] = &[
     ("stores, record bytes of other lengths", store_lengths::records),
     ("stores, record bytes that no record has", histories::stray_records),
     ("stores, document 004", histories::document_004),
+    ("listings by the tuned program, short files", tuned::listings::short_files),
+    ("listings by the tuned program, files of several portions", tuned::listings::long_files),
+    ("listings by the tuned program, random bytes", tuned::listings::random_files),
+    ("listings by the tuned program, most lines", tuned::listings::most_lines),
     ("values, every field of a frame", values::frames),
     ("values, two faults in a frame", values::frame_faults),
     ("values, codes mixed beside a fault in a frame", values::frame_mixtures),
@@ -107,12 +113,22 @@ pub struct Count {
 impl Count {
     /// Both answers on one input must be the same.
     pub fn same<T: PartialEq + Debug>(&mut self, input: &[u8], ours: &T, theirs: &T) {
+        self.must_agree("compared", input, ours, theirs);
+        self.agreed += 1;
+    }
+
+    /// The same of a tuned function, on an input that a proved one is compared on.
+    pub fn same_tuned<T: PartialEq + Debug>(&mut self, input: &[u8], ours: &T, theirs: &T) {
+        self.must_agree("tuned", input, ours, theirs);
+        self.note("also by a tuned function");
+    }
+
+    fn must_agree<T: PartialEq + Debug>(&self, who: &str, input: &[u8], ours: &T, theirs: &T) {
         if ours != theirs {
             let digits: String = input.iter().map(|byte| format!("{byte:02X}")).collect();
-            eprintln!("disagreement on {digits}\n  proved:    {ours:X?}\n  reference: {theirs:X?}");
+            eprintln!("disagreement on {digits}\n  {who}:  {ours:X?}\n  reference: {theirs:X?}");
             std::process::exit(1);
         }
-        self.agreed += 1;
     }
 
     /// Counts an input of a kind that is told apart.

@@ -1,5 +1,5 @@
-//! The parity, against the reference in three ways: by long division as on paper,
-//! one bit at a time and one byte at a time.
+//! The parity, against the reference in four ways: by long division as on paper,
+//! one bit at a time, one byte at a time and, in the tuned reader, sixteen.
 //!
 //! A parity may take the bits of a frame in groups, from the front or from the
 //! back, and look each of them up in one table or in one of many. Wherever a group
@@ -14,7 +14,7 @@ use reference::bits::{set, set_bit, Frame};
 use reference::generate::{plain_frames, random_bytes, slice_of_length};
 use reference::parity::{by_bits, by_table, parity};
 use reference::random::Random;
-use reference::samples;
+use reference::{samples, tuned};
 
 const RANDOM_FRAMES: usize = 200_000;
 const NEIGHBOURED_FRAMES: usize = 200;
@@ -24,16 +24,24 @@ const FRAME_BITS: usize = 256;
 
 const FRAME_LENGTH: usize = 32;
 
+/// The bits that the parity is taken over.
+const COVERED: usize = 226;
+
 /// The bits of a window, of which every value is tried with zeros beside it.
 const WINDOW: usize = 12;
 
 /// The most bits of a pattern that is repeated.
 const LONGEST_PATTERN: usize = 16;
 
-type Parity = fn(&[u8], usize) -> u32;
+type Parity = fn(&Frame) -> u32;
 
 /// The reference's ways to the parity: each has to give what the proved one gives.
-const WAYS: [Parity; 3] = [parity, by_bits::parity, by_table::parity];
+const WAYS: [Parity; 4] = [
+    |frame| parity(frame, COVERED),
+    |frame| by_bits::parity(frame, COVERED),
+    |frame| by_table::parity(frame, COVERED),
+    tuned::parity,
+];
 
 /// Frames of zeros, of ones and with a single one, random frames, and those that
 /// differ from a random frame in one bit.
@@ -164,10 +172,10 @@ fn with_opposite(count: &mut Count, frame: Frame) {
     agree(count, &frame.map(|byte| !byte));
 }
 
-/// Where they differ, it is seen from which of the three ways the proved parity
+/// Where they differ, it is seen from which of the four ways the proved parity
 /// differs.
 fn agree(count: &mut Count, frame: &Frame) {
     let ours = door::parity(frame);
-    let theirs = WAYS.map(|parity| Some(parity(frame, 226)));
+    let theirs = WAYS.map(|parity| Some(parity(frame)));
     count.same(frame, &[ours; WAYS.len()], &theirs);
 }

@@ -7,7 +7,7 @@ use crate::meanings::agree_on_slots;
 use crate::packed::{packed, Bytes, LENGTH, SLOTS, SLOT_LENGTH, TEXT};
 use crate::spares::{note, numbers};
 use crate::values::{self, value_of};
-use crate::{door, pattern, Count};
+use crate::{door, pattern, tuned, Count};
 use reference::answer::Answer;
 use reference::bits::Frame;
 use reference::fields::{self, slot_layout, Field};
@@ -180,7 +180,9 @@ fn silent_slots(count: &mut Count, records: &[Record], used: usize, first_row: u
 
 /// Answer, value, place and every field of a frame.
 pub fn agree(count: &mut Count, frame: &[u8]) {
-    agree_on_record(count, frame, calls::read(frame, &pattern(LENGTH)), read(frame));
+    let theirs = read(frame);
+    tuned::agree_on_reading(count, frame, &theirs);
+    agree_on_record(count, frame, calls::read(frame, &pattern(LENGTH)), theirs);
 }
 
 /// What was read of a frame or of a line into a buffer of the pattern.

@@ -6,7 +6,7 @@ use crate::lent::{resized, Outcome};
 use crate::meanings::agree_on_slots;
 use crate::packed::{kept, packed, size, unused, Bytes, LENGTH};
 use crate::spares::{note, numbers};
-use crate::{lent, pattern, values, Count};
+use crate::{lent, pattern, tuned, values, Count};
 use reference::answer::Answer;
 use reference::fields::{self, Field};
 use reference::generate::{
@@ -147,7 +147,7 @@ pub fn frame_lengths(count: &mut Count) {
             }
             let record = valid_record(&mut random, category);
             let stray = with_stray(&mut random, &record);
-            count.same(&stray, &outcome(&stray, length), &refused(1, length));
+            same(count, &stray, length, &refused(1, length));
         }
     }
 }
@@ -161,7 +161,7 @@ pub fn record_lengths(count: &mut Count) {
             let bytes = resized(&record, length);
             for frame_length in [FRAME_LENGTH, 0, 31, 33, 40] {
                 let expected = expected(&Record::default(), frame_length);
-                count.same(&bytes, &outcome(&bytes, frame_length), &expected);
+                same(count, &bytes, frame_length, &expected);
             }
         }
     }
@@ -176,7 +176,7 @@ pub fn stray_bits(count: &mut Count) {
             for bit in 0..8 {
                 let mut bytes = packed(&record);
                 bytes[place] = 1 << bit;
-                count.same(&bytes, &outcome(&bytes, FRAME_LENGTH), &refused(11, FRAME_LENGTH));
+                same(count, &bytes, FRAME_LENGTH, &refused(11, FRAME_LENGTH));
             }
         }
     }
@@ -193,7 +193,7 @@ pub fn stray_records(count: &mut Count) {
             earlier @ (3 | 7) => earlier,
             _ => 11,
         };
-        count.same(&bytes, &outcome(&bytes, FRAME_LENGTH), &refused(number, FRAME_LENGTH));
+        same(count, &bytes, FRAME_LENGTH, &refused(number, FRAME_LENGTH));
     }
 }
 
@@ -204,9 +204,9 @@ pub fn no_category(count: &mut Count) {
         for code in (0..=255).filter(|&code| Category::of_code(code.into()).is_none()) {
             let mut bytes = packed(&valid_record(&mut random, category));
             bytes[0] = code;
-            count.same(&bytes, &outcome(&bytes, FRAME_LENGTH), &refused(7, FRAME_LENGTH));
+            same(count, &bytes, FRAME_LENGTH, &refused(7, FRAME_LENGTH));
             bytes[1] = 0;
-            count.same(&bytes, &outcome(&bytes, FRAME_LENGTH), &refused(3, FRAME_LENGTH));
+            same(count, &bytes, FRAME_LENGTH, &refused(3, FRAME_LENGTH));
         }
     }
 }
@@ -242,10 +242,16 @@ fn all_boundary_records() -> Vec<Record> {
 pub fn agree(count: &mut Count, record: &Record, length: usize) {
     let bytes = packed(record);
     let expected = expected(record, length);
-    count.same(&bytes, &outcome(&bytes, length), &expected);
+    same(count, &bytes, length, &expected);
     agree_on_slots(count, &bytes, record);
     note(count, record, expected.answer);
     values::note(count, expected.answer);
+}
+
+/// What the proved writer does with record bytes, and the tuned one, is as expected.
+fn same(count: &mut Count, bytes: &[u8], length: usize, expected: &Outcome) {
+    count.same(bytes, &outcome(bytes, length), expected);
+    tuned::agree_on_writing(count, bytes, expected);
 }
 
 /// What the proved writer does.

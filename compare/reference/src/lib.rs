@@ -9,7 +9,8 @@
 //! `store` is the page store, `history` a second account of it, and `player`
 //! drives both, and any other, through the same steps, each with its `answer`.
 //! `generate` builds inputs for all of them, `samples` holds the values of
-//! document 004.
+//! document 004. `tuned` does the same as the plain reader, writer, store and
+//! listing, with speed before plainness, so that times can be compared too.
 
 pub mod answer;
 pub mod bits;
@@ -27,4 +28,5 @@ pub mod read;
 pub mod record;
 pub mod samples;
 pub mod store;
+pub mod tuned;
 pub mod write;

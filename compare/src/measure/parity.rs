@@ -1,20 +1,19 @@
 //! The time of one parity: the proved one through the static library against a
 //! plain Rust version that takes one bit at a time, one that takes a byte at a
-//! time by a table, and RTKLIB's where it is installed. All of them work on the
-//! frames of one file, which is read before any clock starts.
+//! time by a table, the tuned one, which takes sixteen, and RTKLIB's where it is
+//! installed. All of them work on the frames of one file, which is read before any
+//! clock starts.
 
 use super::rtklib::Rtklib;
-use super::{fastest, file_of_frames};
+use super::turns::{compare, Told, Way};
+use super::{file_of_frames, FRAMES, ROUNDS};
 use crate::door;
 use reference::bits::{bit, get, set_bit, Frame};
 use reference::line::frame_of_line;
 use reference::parity::{by_bits, by_table};
+use reference::tuned;
 use std::fs::read;
 use std::hint::black_box;
-use std::time::Instant;
-
-const FRAMES: usize = 100_000;
-const ROUNDS: usize = 20;
 
 /// The bits that the parity is taken over.
 const COVERED: usize = 226;
@@ -26,40 +25,47 @@ const COVERED: usize = 226;
 const ZEROS_IN_FRONT: usize = 6;
 const WHOLE_BYTES: usize = (ZEROS_IN_FRONT + COVERED) / 8;
 
-/// One way to the parity, with the frames as it takes them.
-struct Way {
-    name: &'static str,
-    frames: Vec<Frame>,
-    parity: Box<dyn Fn(&Frame) -> u32>,
-    times: Vec<f64>,
-}
-
-impl Way {
-    fn new(name: &'static str, frames: &[Frame], parity: impl Fn(&Frame) -> u32 + 'static) -> Way {
-        Way { name, frames: frames.to_vec(), parity: Box::new(parity), times: Vec::new() }
-    }
-
-    /// The time of one parity, on average over all frames.
-    fn nanoseconds(&self) -> f64 {
-        let start = Instant::now();
-        for frame in &self.frames {
-            black_box((self.parity)(black_box(frame)));
-        }
-        start.elapsed().as_nanos() as f64 / self.frames.len() as f64
-    }
-}
+type Parity<'a> = Box<dyn Fn(&Frame) -> u32 + 'a>;
 
 pub fn measure() {
     let frames = frames_of_file();
-    let mut ways = ways(&frames);
-    ways.iter().for_each(|way| check(way, &frames));
-    // They take turns, so that a slow time of the machine meets all of them.
-    for _ in 0..ROUNDS {
-        for way in &mut ways {
-            way.times.push(way.nanoseconds());
-        }
+    let laid_out: Vec<Frame> = frames.iter().map(in_whole_bytes).collect();
+    let mut ways = vec![
+        way("proved", &frames, &frames, Box::new(proved)),
+        way("one bit at a time (the yardstick)", &frames, &frames, Box::new(one_bit_at_a_time)),
+        way("one byte at a time by a table", &frames, &frames, Box::new(by_a_table)),
+        way("tuned, sixteen bytes at a time", &frames, &frames, Box::new(tuned)),
+    ];
+    match Rtklib::load() {
+        Err(reason) => println!("RTKLIB is not installed, or cannot be loaded: {reason}"),
+        Ok(rtklib) => ways.push(way(
+            "RTKLIB, on 29 bytes laid out before the clock starts",
+            &frames,
+            &laid_out,
+            Box::new(move |laid_out| by_rtklib(&rtklib, laid_out)),
+        )),
     }
-    print(ways);
+    compare("parity of one frame", Told::OneCall { of: FRAMES }, ROUNDS, ways);
+}
+
+/// One way to the parity, with the frames as it takes them. Each frame of the file
+/// carries its parity, which the reference gave it by long division; every way has
+/// to come to the same.
+fn way<'a>(
+    name: &'static str,
+    frames: &[Frame],
+    taken: &'a [Frame],
+    parity: Parity<'a>,
+) -> Way<'a> {
+    for (frame, taken) in frames.iter().zip(taken) {
+        assert_eq!(u64::from(parity(taken)), get(frame, COVERED, 24), "{name} on {frame:02X?}");
+    }
+    let all = move || {
+        for frame in taken {
+            black_box(parity(black_box(frame)));
+        }
+    };
+    Way::new(name, all)
 }
 
 fn frames_of_file() -> Vec<Frame> {
@@ -69,43 +75,6 @@ fn frames_of_file() -> Vec<Frame> {
     let frames: Vec<Frame> = frames.collect();
     assert_eq!(frames.len(), FRAMES);
     frames
-}
-
-/// The proved parity comes first: every ratio is taken from it.
-fn ways(frames: &[Frame]) -> Vec<Way> {
-    let mut ways = vec![
-        Way::new("proved", frames, proved),
-        Way::new("one bit at a time (the yardstick)", frames, one_bit_at_a_time),
-        Way::new("one byte at a time by a table", frames, by_a_table),
-    ];
-    match Rtklib::load() {
-        Err(reason) => println!("RTKLIB is not installed, or cannot be loaded: {reason}"),
-        Ok(rtklib) => ways.push(Way::new(
-            "RTKLIB, on 29 bytes laid out before the clock starts",
-            &frames.iter().map(in_whole_bytes).collect::<Vec<Frame>>(),
-            move |laid_out| by_rtklib(&rtklib, laid_out),
-        )),
-    }
-    ways
-}
-
-/// Each frame of the file carries its parity, which the reference gave it by long
-/// division. Every way has to come to the same.
-fn check(way: &Way, frames: &[Frame]) {
-    for (frame, own) in frames.iter().zip(&way.frames) {
-        let carried = get(frame, COVERED, 24);
-        assert_eq!(u64::from((way.parity)(own)), carried, "{} on {frame:02X?}", way.name);
-    }
-}
-
-/// The ratio is that of the proved parity to the way of its line.
-fn print(ways: Vec<Way>) {
-    let times = ways.into_iter().map(|way| (way.name, fastest(way.times)));
-    let times: Vec<(&str, f64)> = times.collect();
-    let proved = times[0].1;
-    for (name, time) in times {
-        println!("parity of one frame, {name}: {time:.1} ns, ratio {:.2}", proved / time);
-    }
 }
 
 /// The covered bits behind the zeros, in the first 29 of these bytes.
@@ -133,6 +102,11 @@ fn one_bit_at_a_time(frame: &Frame) -> u32 {
 #[inline(never)]
 fn by_a_table(frame: &Frame) -> u32 {
     by_table::parity(frame, COVERED)
+}
+
+#[inline(never)]
+fn tuned(frame: &Frame) -> u32 {
+    tuned::parity(frame)
 }
 
 #[inline(never)]

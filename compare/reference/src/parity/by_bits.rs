@@ -7,7 +7,7 @@
 const GENERATOR: u32 = 0x86_4CFB;
 
 /// The 24 bits of the register.
-pub(super) const REGISTER: u32 = 0xFF_FFFF;
+pub(crate) const REGISTER: u32 = 0xFF_FFFF;
 
 /// The CRC-24Q of the first `count` bits of `bytes`, most significant first.
 ///

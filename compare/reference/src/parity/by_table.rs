@@ -27,7 +27,8 @@ fn take_byte(register: u32, byte: &u8) -> u32 {
     (register << 8 & REGISTER) ^ TABLE[usize::from(leaving ^ byte)]
 }
 
-const fn table() -> [u32; 256] {
+/// The table, which is also the first of several where bytes go by more at once.
+pub(crate) const fn table() -> [u32; 256] {
     let mut table = [0; 256];
     let mut byte = 0;
     while byte < 256 {

@@ -8,15 +8,19 @@ use reference::line::line_of_frame;
 use reference::listing::{list, MOST_LINES};
 use reference::random::Random;
 use reference::record::Record;
-use reference::samples;
 use reference::write::write;
+use reference::{samples, tuned};
 use std::io::BufReader;
 
 const HEADING: &str = "line answer place dc slots value\n";
 
+/// What the plain program and the tuned one list.
 fn listing(input: &[u8]) -> String {
     let mut output = Vec::new();
     list(input, &mut output).expect("memory can be read and written");
+    let mut tuned = Vec::new();
+    tuned::list(input, &mut tuned).expect("memory can be read and written");
+    assert_eq!(tuned, output);
     String::from_utf8(output).expect("a listing is plain text")
 }
 
