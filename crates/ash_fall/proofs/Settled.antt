@@ -12,6 +12,9 @@ Eruption-check-is-settled κs a x y = answer
 pub Prefecture-of-is-settled : Settled ash_fall.meaning.Prefecture.of.ended ash_fall.meaning.Prefecture.of.Reads.Post
 Prefecture-of-is-settled κs a x y = answer
 
+pub table-is-settled : Settled ash_fall.table.ended ash_fall.table.Reads.Post
+table-is-settled κs a x y = answer
+
 pub spares-is-settled : Settled ash_fall.spares.ended ash_fall.spares.Reads.Post
 spares-is-settled κs a x y = answer
 

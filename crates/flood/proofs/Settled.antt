@@ -3,6 +3,9 @@ use Rattle.flood.proofs as flood
 use Rattle.settled.specs.Settled.{Settled}
 use Rattle.settled.proofs.Law.{answer}
 
+pub table-is-settled : Settled flood.table.ended flood.table.Reads.Post
+table-is-settled κs a x y = answer
+
 pub spares-is-settled : Settled flood.spares.ended flood.spares.Reads.Post
 spares-is-settled κs a x y = answer
 

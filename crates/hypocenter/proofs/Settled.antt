@@ -15,6 +15,9 @@ Depth-of-is-settled κs a x y = answer
 pub Magnitude-of-is-settled : Settled hypocenter.meaning.Magnitude.of.ended hypocenter.meaning.Magnitude.of.Reads.Post
 Magnitude-of-is-settled κs a x y = answer
 
+pub table-is-settled : Settled hypocenter.table.ended hypocenter.table.Reads.Post
+table-is-settled κs a x y = answer
+
 pub spares-is-settled : Settled hypocenter.spares.ended hypocenter.spares.Reads.Post
 spares-is-settled κs a x y = answer
 

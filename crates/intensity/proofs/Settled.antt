@@ -9,6 +9,9 @@ Shaking-of-is-settled κs a x y = answer
 pub Shaking-check-is-settled : Settled intensity.Shaking.check.ended intensity.Shaking.check.Reads.Post
 Shaking-check-is-settled κs a x y = answer
 
+pub table-is-settled : Settled intensity.table.ended intensity.table.Reads.Post
+table-is-settled κs a x y = answer
+
 pub spares-is-settled : Settled intensity.spares.ended intensity.spares.Reads.Post
 spares-is-settled κs a x y = answer
 

@@ -12,6 +12,9 @@ PageNumbers-check-is-settled κs a x y = answer
 pub page-text-is-settled : Settled nankai.page_text.ended nankai.page_text.Reads.Post
 page-text-is-settled κs a x y = answer
 
+pub table-is-settled : Settled nankai.table.ended nankai.table.Reads.Post
+table-is-settled κs a x y = answer
+
 pub spares-is-settled : Settled nankai.spares.ended nankai.spares.Reads.Post
 spares-is-settled κs a x y = answer
 

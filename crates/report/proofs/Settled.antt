@@ -9,9 +9,6 @@ Record-slots-used-is-settled κs a x y = answer
 pub Record-of-zeros-is-settled : Settled report.record.Record.of_zeros.ended report.record.Record.of_zeros.Reads.Post
 Record-of-zeros-is-settled κs a x y = answer
 
-pub Record-told-is-settled : Settled report.record.Record.told.ended report.record.Record.told.Reads.Post
-Record-told-is-settled κs a x y = answer
-
 pub read-is-settled : Settled report.read.read.ended report.read.read.Reads.Post
 read-is-settled κs a x y = beside answer
 
@@ -29,6 +26,9 @@ write-answer-is-settled κs a x y = beside answer
 
 pub write-is-settled : Settled report.write.write.ended report.write.write.Reads.Post
 write-is-settled κs a x y = beside (both second)
+
+pub Body-table-is-settled : Settled report.body.Body.table.ended report.body.Body.table.Reads.Post
+Body-table-is-settled κs a x y = answer
 
 pub Body-fields-is-settled : Settled report.body.Body.fields.ended report.body.Body.fields.Reads.Post
 Body-fields-is-settled κs a x y = answer

@@ -14,7 +14,7 @@ ghost use Rattle.intensity.specs.Intensity.{intensity, shakingFrom};
 ghost use Rattle.nankai.specs.Nankai.{nankai, numbersFrom};
 ghost use Rattle.tsunami.specs.Tsunami.{tsunami, warningFrom};
 ghost use Rattle.volcano.specs.Volcano.{volcano, activityFrom};
-ghost use Rattle.rows.specs.Runs.Fields.{fieldsIn, keptIn};
+ghost use Rattle.rows.specs.Runs.Fields.{fieldsIn, keptIn, tableIn};
 ghost use Rattle.report.specs.Categories.{layout, bodyFrom, sidesOf, pagedOf};
 ghost use Rattle.report.specs.Runs.Told.{toldOf, withSpares};
 ghost use Rattle.rows.specs.Layout.{noCategory};
@@ -52,12 +52,6 @@ pub enum Body {
 pub enum Paged {
     NoPages,
     Numbers(PageNumbers),
-}
-
-// What is told of a body to whoever asks.
-pub struct Told {
-    pub found: Verdict,
-    pub fields: Fields,
 }
 
 // A body, and the spares that stand before and behind its fields.
@@ -221,10 +215,10 @@ fn check_none(found: Verdict, c: Common, spares: Spares) -> Verdict
 }
 
 // The table of no category, which knows nothing of bits 53 to 213.
-fn fields_none(spares: Spares) -> Fields
-    ensures { λ r. ⌜ r ≡ fieldsIn noCategory (sidesOf Body.NoCategory spares) ⌝ }
+fn table_none() -> Table
+    ensures { λ r. ⌜ r ≡ tableIn noCategory ⌝ }
 {
-    let table = Table {
+    Table {
         code: 0,
         count: 0,
         first: 0,
@@ -233,9 +227,14 @@ fn fields_none(spares: Spares) -> Fields
         text: false,
         second: false,
         rest: 53,
-    };
+    }
+}
+
+fn fields_none(spares: Spares) -> Fields
+    ensures { λ r. ⌜ r ≡ fieldsIn noCategory (sidesOf Body.NoCategory spares) ⌝ }
+{
     Fields {
-        table: table,
+        table: table_none(),
         ahead: [10, 0, 0, 0, 0, 0, 0, 0, 0, 0, 0, 0, 0, 0, 0, 0, 0, 0],
         front: [
             spares.first,
@@ -335,7 +334,7 @@ impl Body {
         slots: [Slot; 16],
         spares: Spares,
     ) -> Verdict
-        ensures { λ r. ⌜ r ≡ toldOf self found c slots spares .found ⌝ }
+        ensures { λ r. ⌜ r ≡ toldOf self found c slots spares ⌝ }
     {
         match self {
             Body::NoCategory => check_none(found, c, spares),
@@ -346,6 +345,22 @@ impl Body {
             Body::Volcano(a) => a.check(found, c, slots, spares),
             Body::AshFall(e) => e.check(found, c, slots, spares),
             Body::Flood => flood::check(found, c, slots, spares),
+        }
+    }
+
+    // Its table.
+    pub fn table(self) -> Table
+        ensures { λ r. ⌜ r ≡ tableIn (layout self) ⌝ }
+    {
+        match self {
+            Body::NoCategory => table_none(),
+            Body::Hypocenter(_) => hypocenter::table(),
+            Body::Intensity(_) => intensity::table(),
+            Body::Nankai(_) => nankai::table(),
+            Body::Tsunami(_) => tsunami::table(),
+            Body::Volcano(_) => volcano::table(),
+            Body::AshFall(_) => ash_fall::table(),
+            Body::Flood => flood::table(),
         }
     }
 

@@ -3,14 +3,13 @@
 // the answer.
 ghost use mathlib.Core.Path.{_≡_};
 ghost use Rattle.report.specs.Runs.Told.{recordTold};
-use crate::body::Told;
 use crate::record::Record;
 use rows::refusal::Verdict;
 
 impl Record {
     // What all rules of bits 8 to 225 find.
     pub(crate) fn check(self) -> Verdict
-        ensures { λ v. ⌜ v ≡ recordTold self .found ⌝ }
+        ensures { λ v. ⌜ v ≡ recordTold self ⌝ }
     {
         let common = self.common;
         let body = self.body;
@@ -18,17 +17,5 @@ impl Record {
         let spares = self.spares;
         body.check(Verdict::Fine, common, slots, spares)
             .within(220, self.reserved as u64, 0, 63)
-    }
-
-    // The same, and the record's fields.
-    pub fn told(self) -> Told
-        ensures { λ t. ⌜ t ≡ recordTold self ⌝ }
-    {
-        let body = self.body;
-        let spares = self.spares;
-        Told {
-            found: self.check(),
-            fields: body.fields(spares),
-        }
     }
 }

@@ -1,41 +1,28 @@
 // Writing a record to a lent frame: first whether, then what.
 ghost use mathlib.Core.Path.{_≡_};
 ghost use lib.ListN.{length};
-ghost use Rattle.report.specs.Runs.Writing.{writeAnswer, writeOf, writingTold, writeSays};
+ghost use Rattle.report.specs.Runs.Writing.{writeAnswer, writeOf, writeSays};
 ghost use Rattle.rows.specs.Refusals.{answers};
-use crate::body::Told;
 use crate::codes::is_preamble;
 use crate::encode::encode;
 use crate::record::Record;
 use rows::refusal::Refusal;
 use rows::refusal::Verdict;
 
-// What writing a record to a buffer of this size answers, and the fields that are written.
-fn asked(r: Record, size: usize) -> Told
-    ensures { λ t. ⌜ t ≡ writingTold r size ⌝ }
-{
-    let told = r.told();
-    let found = told.found;
-    let fields = told.fields;
-    let table = fields.table;
-    Told {
-        found: Verdict::Fine
-            .unless(size == 32, Refusal::Length)
-            .unless(is_preamble(r.preamble), Refusal::Preamble)
-            .unless(table.code != 0, Refusal::Category)
-            .unless(r.is_tidy(table), Refusal::Unused)
-            .then(found),
-        fields: fields,
-    }
-}
-
 // What writing a record to a buffer of this size answers.
 pub fn write_answer(r: Record, size: usize) -> Verdict
     ensures { λ v. ⌜ v ≡ writeAnswer r size ⌝ }
     ensures { λ v. ⌜ answers v ≡ writeSays r size ⌝ }
 {
-    let told = asked(r, size);
-    told.found
+    let body = r.body;
+    let table = body.table();
+    let found = r.check();
+    let before = Verdict::Fine
+        .unless(size == 32, Refusal::Length)
+        .unless(is_preamble(r.preamble), Refusal::Preamble)
+        .unless(table.code != 0, Refusal::Category)
+        .unless(r.is_tidy(table), Refusal::Unused);
+    before.then(found)
 }
 
 // Writes a record, whatever it holds, to a lent frame of whatever length. Where that is refused the
@@ -44,12 +31,12 @@ pub fn write(r: Record, frame: &mut [u8]) -> Verdict
     ensures { λ v. ⌜ (v ≡ writeAnswer r (length (now (frame .entry)))) × (now (frame .exit) ≡ writeOf r (now (frame .entry))) ⌝ }
     ensures { λ v. ⌜ answers v ≡ writeSays r (length (now (frame .entry))) ⌝ }
 {
-    let told = asked(r, frame.len());
-    let found = told.found;
-    let fields = told.fields;
+    let found = write_answer(r, frame.len());
     match found {
         Verdict::Fine => {
-            bits::copy_to(encode(r, fields), frame);
+            let body = r.body;
+            let spares = r.spares;
+            bits::copy_to(encode(r, body.fields(spares)), frame);
             found
         }
         Verdict::Refused(_) => found,

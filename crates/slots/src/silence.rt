@@ -1,7 +1,7 @@
 // Silence in slots: which are used, and what must be zero.
 ghost use mathlib.Core.Path.{_≡_};
 ghost use mathlib.Core.List.{map};
-ghost use Rattle.slots.specs.Slots.{slotParts, tidySlots, usedAmong};
+ghost use Rattle.slots.specs.Slots.{slotParts, tidySlots, usedAmong, vacant};
 ghost use Rattle.slots.specs.Runs.{widthsIn};
 use crate::slot::Slot;
 use crate::slot::is_vacant;
@@ -21,14 +21,18 @@ pub fn used(slots: [Slot; 16]) -> usize
     k
 }
 
-// The widths of what slot i has: past the category's slots, nothing.
-fn widths_in(i: usize, count: usize, widths: [u8; 5]) -> [u8; 5]
-    ensures { λ r. ⌜ r ≡ widthsIn i count widths ⌝ }
+// Nothing stands in slot i where it has no bits: past the category's slots, nothing at all. Most slots are empty, so
+// that is asked first.
+fn is_tidy(i: usize, count: usize, widths: [u8; 5], s: Slot) -> bool
+    ensures { λ r. ⌜ r ≡ vacant (widthsIn i count widths) (slotParts s) ⌝ }
 {
-    if i < count {
-        return widths;
+    if s.is_empty() {
+        return true;
     }
-    [0u8; 5]
+    if i < count {
+        return is_vacant(widths, s.values());
+    }
+    false
 }
 
 // Nothing stands in what a category with so many slots of these fields does not use: neither in its slots
@@ -39,8 +43,7 @@ pub fn are_tidy(count: usize, widths: [u8; 5], slots: [Slot; 16]) -> bool
     let mut i = 0;
     while i < 16 {
         let s = slots[i];
-        let held = widths_in(i, count, widths);
-        if !is_vacant(held, s.values()) {
+        if !is_tidy(i, count, widths, s) {
             return false;
         }
         i += 1;

@@ -66,10 +66,17 @@ impl Slot {
         ]
     }
 
-    // "An empty slot is never named".
+    // "An empty slot is never named". The four bytes are one number, since they are then read at once.
     pub fn is_empty(self) -> bool
         ensures { λ r. ⌜ r ≡ empty (slotParts self) ⌝ }
     {
-        is_vacant([0u8; 5], self.values())
+        if self.place != 0 {
+            return false;
+        }
+        self.day as u32
+            + self.hour as u32 * 0x100
+            + self.minute as u32 * 0x1_0000
+            + self.strength as u32 * 0x100_0000
+            == 0
     }
 }

@@ -3,6 +3,9 @@ use Rattle.tsunami.proofs as tsunami
 use Rattle.settled.specs.Settled.{Settled}
 use Rattle.settled.proofs.Law.{answer}
 
+pub table-is-settled : Settled tsunami.table.ended tsunami.table.Reads.Post
+table-is-settled κs a x y = answer
+
 pub spares-is-settled : Settled tsunami.spares.ended tsunami.spares.Reads.Post
 spares-is-settled κs a x y = answer
 

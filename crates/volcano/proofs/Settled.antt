@@ -15,6 +15,9 @@ ActivityTime-of-is-settled κs a x y = answer
 pub Validity-of-is-settled : Settled volcano.meaning.Validity.of.ended volcano.meaning.Validity.of.Reads.Post
 Validity-of-is-settled κs a x y = answer
 
+pub table-is-settled : Settled volcano.table.ended volcano.table.Reads.Post
+table-is-settled κs a x y = answer
+
 pub spares-is-settled : Settled volcano.spares.ended volcano.spares.Reads.Post
 spares-is-settled κs a x y = answer
 

@@ -27,8 +27,6 @@ use Rattle.slots.specs.declared.slot.Slot.{Slot}
 use Rattle.report.specs.Categories.{layout, preambles}
 use Rattle.nankai.specs.Nankai.{nankai}
 use Rattle.slots.specs.Runs.{slotsLaid}
-use Rattle.report.specs.declared.body.Told.{Told}
-use Rattle.report.specs.Runs.Told.{recordTold}
 
 -- ---- what is refused
 
@@ -54,10 +52,6 @@ writeAnswer r size =
 -- what writing says, in the paper's numbers
 abbrev pub writeSays : Record → ℕ → Said
 writeSays r size = answers (writeAnswer r size)
-
--- with the fields that are written
-unfoldable pub writingTold : Record → ℕ → Told
-writingTold r size = record { found = writeAnswer r size; fields = recordTold r .fields }
 
 -- ---- the frame
 

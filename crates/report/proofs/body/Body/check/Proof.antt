@@ -9,7 +9,7 @@ use Rattle.report.proofs.body.Body.check.Tie as tie
 
 -- what all rules find of a body
 abbrev says : tie.Start → Body → Verdict
-says c b = toldOf b (c .args .found) (c .args .c) (c .args .slots) (c .args .spares) .found
+says c b = toldOf b (c .args .found) (c .args .c) (c .args .slots) (c .args .spares)
 
 returns : tie.Need-returns
 unfolding toldOf
