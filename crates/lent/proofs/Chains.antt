@@ -24,7 +24,7 @@ sets-past (v ∷ t) l i h = ap (λ (r : List ℕ). sets r (suc i) t) (set-past l
 
 -- ---- a chain
 
-sets-sets : (t u l : List ℕ) (i : ℕ) → sets (sets l i t) (i + length t) u ≡ sets l i (t ++ u)
+pub sets-sets : (t u l : List ℕ) (i : ℕ) → sets (sets l i t) (i + length t) u ≡ sets l i (t ++ u)
 sets-sets [] u l i = ap (λ (k : ℕ). sets l k u) (omega arith)
 sets-sets (v ∷ t) u l i = ap (λ (k : ℕ). sets (sets (set l i v) (suc i) t) k u) (omega arith) ∙ sets-sets t u (set l i v) (suc i)
 
@@ -101,7 +101,10 @@ pub placed : {l m t : List ℕ} {i j : ℕ} → j ≤ length l → m ≡ sets l 
 placed h e p = record { bytes = e; place = omega arith }
 
 -- as many bytes as the buffer has
-pub whole : {l m t : List ℕ} {j : ℕ} → length t ≡ length l → Wrote l m 0 j t → m ≡ t
-whole {l} {m} {t} n x =
+pub sets-whole : (t l : List ℕ) → length t ≡ length l → sets l 0 t ≡ t
+sets-whole t l n =
     let e : 0 + length t ≡ length l = omega arith in
-    x .bytes ∙ sets-eq t l 0 (omega arith) ∙ ap (λ (k : ℕ). t ++ drop k l) e ∙ ap (λ (d : List ℕ). t ++ d) (drop-length l) ∙ append-nil t
+    sets-eq t l 0 (omega arith) ∙ ap (λ (k : ℕ). t ++ drop k l) e ∙ ap (λ (d : List ℕ). t ++ d) (drop-length l) ∙ append-nil t
+
+pub whole : {l m t : List ℕ} {j : ℕ} → length t ≡ length l → Wrote l m 0 j t → m ≡ t
+whole {l} {m} {t} n x = x .bytes ∙ sets-whole t l n

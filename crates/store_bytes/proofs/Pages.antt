@@ -5,15 +5,14 @@ use native.Mathlib.Omega.{arith}
 use native.Mathlib.Numerals.{add-one}
 use mathlib.Core.List.{List, [], _∷_, _++_, append-nil, append-assoc}
 use lib.ListN.{length, getD, take, length-append}
-use lib.Seq.{take-suc, take-all}
+use lib.Seq.{sets, take-suc, take-all}
 use borrow.Author.Tests.{eq-eqb, ne-eqb}
 use Rattle.pages.specs.declared.page.Page.{Page}
 use Rattle.bulletin.specs.declared.store.Store.{Store}
 use Rattle.pages.specs.Pages.{noPage}
 use Rattle.bulletin.proofs.Telling.PageBytes.{Eighteen}
 use Rattle.store_bytes.specs.Stores.{nameBytes, pageBytes, pagesBytes, storeBytes, storeInto}
-use Rattle.lent.specs.Writing.{Wrote}
-use Rattle.lent.proofs.Chains.{_then_, whole}
+use Rattle.lent.proofs.Chains.{sets-sets, sets-whole}
 
 pub length-pages : (k : ℕ) (ps : List Page) → k ≤ length ps → Eighteen ps → length (pagesBytes (take k ps)) ≡ 19 * k
 unfolding pagesBytes
@@ -40,10 +39,13 @@ pages-suc ps k h =
     ∙ pages-append (take k ps) (getD ps k noPage ∷ [])
     ∙ ap (λ (t : List ℕ). pagesBytes (take k ps) ++ t) (one-page (getD ps k noPage))
 
--- one page more
-pub page-more : {l m r : List ℕ} {i j n : ℕ} (k : ℕ) (ps : List Page) → k < length ps → Wrote l m i j (pagesBytes (take k ps))
-    → Wrote m r j n (pageBytes (getD ps k noPage)) → Wrote l r i n (pagesBytes (take (k + 1) ps))
-page-more k ps h x y = rw (pages-suc ps k h) (x then y)
+-- one page more, behind k others
+pub page-more : (l : List ℕ) (k : ℕ) (ps : List Page) → k < length ps → Eighteen ps
+    → sets (sets l 8 (pagesBytes (take k ps))) (8 + 19 * k) (pageBytes (getD ps k noPage)) ≡ sets l 8 (pagesBytes (take (k + 1) ps))
+page-more l k ps h e =
+    ap (λ (n : ℕ). sets (sets l 8 (pagesBytes (take k ps))) (8 + n) (pageBytes (getD ps k noPage))) (sym (length-pages k ps (omega arith) e))
+    ∙ sets-sets (pagesBytes (take k ps)) (pageBytes (getD ps k noPage)) l 8
+    ∙ ap (sets l 8) (sym (pages-suc ps k h))
 
 -- ---- the whole store
 
@@ -53,10 +55,15 @@ length-store s n e =
     let pages : length (pagesBytes (take 63 (s .pages))) ≡ 19 * 63 = length-pages 63 (s .pages) (omega (arith, n)) e in
     length-append (nameBytes (s .name)) (pagesBytes (s .pages)) ∙ ap (λ (k : ℕ). 8 + k) (ap (λ (ps : List Page). length (pagesBytes ps)) (sym all) ∙ pages)
 
-pub store-in-parts : {l a b : List ℕ} {i j : ℕ} (s : Store) → length (s .pages) ≡ 63 → Eighteen (s .pages) → length l ≡ 1205 → Wrote l a 0 i (nameBytes (s .name))
-    → Wrote a b i j (pagesBytes (s .pages)) → b ≡ storeInto s l
+pub store-in-parts : {a b : List ℕ} (l : List ℕ) (s : Store) → length (s .pages) ≡ 63 → Eighteen (s .pages) → length l ≡ 1205 → a ≡ sets l 0 (nameBytes (s .name))
+    → b ≡ sets a 8 (pagesBytes (s .pages)) → b ≡ storeInto s l
 unfolding storeInto
-store-in-parts s n e long x y = whole (length-store s n e ∙ sym long) (x then y) ∙ rw (eq-eqb _ 1205 long)
+store-in-parts l s n e long x y =
+    y
+    ∙ ap (λ (d : List ℕ). sets d 8 (pagesBytes (s .pages))) x
+    ∙ sets-sets (nameBytes (s .name)) (pagesBytes (s .pages)) l 0
+    ∙ sets-whole (storeBytes s) l (length-store s n e ∙ sym long)
+    ∙ rw (eq-eqb _ 1205 long)
 
 pub other-length : (s : Store) (l : List ℕ) → (length l ≡ 1205 → ⊥) → l ≡ storeInto s l
 unfolding storeInto

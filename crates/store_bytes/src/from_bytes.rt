@@ -2,7 +2,7 @@
 ghost use mathlib.Core.Path.{_≡_};
 ghost use Prim.Native.Nat.{_+_, _≤_};
 ghost use lib.ListN.{length};
-ghost use Rattle.store_bytes.specs.Stores.{nameFrom, pageAt, pagesFrom, nameOrZeros, storeOrZeros};
+ghost use Rattle.store_bytes.specs.Stores.{nameFrom, pageAt, nameOrZeros, storeOrZeros};
 use crate::sizes::NAME_SIZE;
 use crate::sizes::PAGE_SIZE;
 use crate::sizes::PAGES_AT;
@@ -22,21 +22,6 @@ fn page_at(bytes: &[u8], at: usize) -> Page
         mark: bytes[at],
         text: text,
     }
-}
-
-fn pages_of(bytes: &[u8]) -> [Page; Store::PAGES]
-    requires { ⌜ length (now bytes) ≡ 1205 ⌝ }
-    ensures { λ r. ⌜ r ≡ pagesFrom (now (bytes .entry)) ⌝ }
-{
-    let none = Page::absent();
-    let mut pages = [none; Store::PAGES];
-    let mut k = 0;
-    while k < Store::PAGES {
-        let page = page_at(bytes, PAGES_AT + PAGE_SIZE * k);
-        pages[k] = page;
-        k += 1;
-    }
-    pages
 }
 
 fn name_of(bytes: &[u8]) -> Name
@@ -65,11 +50,16 @@ pub fn unpack_store(bytes: &[u8]) -> Store
     if bytes.len() != STORE_SIZE {
         return Store::of_zeros();
     }
-    let pages = pages_of(bytes);
-    Store {
-        name: name_of(bytes),
-        pages: pages,
+    let name = name_of(bytes);
+    let mut store = Store::of_zeros();
+    store.name = name;
+    let mut k = 0;
+    while k < Store::PAGES {
+        let page = page_at(bytes, PAGES_AT + PAGE_SIZE * k);
+        store.pages[k] = page;
+        k += 1;
     }
+    store
 }
 
 // The name that 8 lent bytes are. Bytes of another length are a name of zeros, which is out of range.

@@ -1,16 +1,19 @@
 // From a store to its bytes, front to back.
 ghost use mathlib.Core.Path.{_≡_};
-ghost use Rattle.lent.specs.Writing.{Wrote};
+ghost use Prim.Native.Nat.{_+_, _≤_};
+ghost use lib.ListN.{length};
+ghost use lib.Seq.{sets};
 ghost use Rattle.store_bytes.specs.Stores.{nameBytes, pageBytes, pagesBytes, storeInto};
+use crate::sizes::PAGE_SIZE;
+use crate::sizes::PAGES_AT;
 use crate::sizes::STORE_SIZE;
 use bulletin::store::Store;
-use lent::put_byte;
 use lent::put_bytes;
 use pages::name::Name;
 use pages::page::Page;
 
-fn put_name(out: &mut [u8], name: Name) -> usize
-    ensures { λ next. ⌜ Wrote (now (out .entry)) (now (out .exit)) 0 next (nameBytes name) ⌝ }
+fn put_name(out: &mut [u8], name: Name)
+    ensures { λ _. ⌜ now (out .exit) ≡ sets (now (out .entry)) 0 (nameBytes name) ⌝ }
 {
     let common = name.common;
     put_bytes(
@@ -26,29 +29,33 @@ fn put_name(out: &mut [u8], name: Name) -> usize
             name.serial,
             name.total,
         ],
-    )
+    );
 }
 
-fn put_page(out: &mut [u8], at: usize, page: Page) -> usize
-    ensures { λ next. ⌜ Wrote (now (out .entry)) (now (out .exit)) at next (pageBytes page) ⌝ }
+// A page that finds its place: the buffer's length is not asked for each byte of it.
+fn put_page(out: &mut [u8], at: usize, page: Page)
+    requires { ⌜ at + 19 ≤ length (now out) ⌝ }
+    ensures { λ _. ⌜ now (out .exit) ≡ sets (now (out .entry)) at (pageBytes page) ⌝ }
 {
     let text = page.text;
-    let text_at = put_byte(out, at, page.mark);
-    put_bytes(out, text_at, &text)
+    out[at] = page.mark;
+    let mut k = 0;
+    while k < Store::BYTES {
+        out[at + 1 + k] = text[k];
+        k += 1;
+    }
 }
 
-fn put_pages(out: &mut [u8], at: usize, store: Store) -> usize
-    ensures { λ next. ⌜ Wrote (now (out .entry)) (now (out .exit)) at next (pagesBytes (store .pages)) ⌝ }
+fn put_pages(out: &mut [u8], store: Store)
+    requires { ⌜ length (now out) ≡ 1205 ⌝ }
+    ensures { λ _. ⌜ now (out .exit) ≡ sets (now (out .entry)) 8 (pagesBytes (store .pages)) ⌝ }
 {
-    let mut next = at;
     let mut k = 0;
     while k < Store::PAGES {
         let page = store.pages[k];
-        let behind = put_page(out, next, page);
-        next = behind;
+        put_page(out, PAGES_AT + PAGE_SIZE * k, page);
         k += 1;
     }
-    next
 }
 
 // The store, into a lent buffer of 1205 bytes. A buffer of another length stays as it was.
@@ -57,7 +64,7 @@ pub fn pack_store(store: Store, out: &mut [u8])
 {
     if out.len() == STORE_SIZE {
         let name = store.name;
-        let pages_at = put_name(out, name);
-        put_pages(out, pages_at, store);
+        put_name(out, name);
+        put_pages(out, store);
     }
 }

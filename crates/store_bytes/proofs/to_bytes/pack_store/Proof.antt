@@ -18,7 +18,7 @@ returns c =
     let a = s .good .0 .1 .1 .1 .0 .1 in
     let n : length (s .args .store .pages) ≡ 63 = unmapped _ (s .args .store .pages) 63 (a .0 .1) in
     let e : Eighteen (s .args .store .pages) = λ i h. shapes (s .args .store .pages) _ (a .1) i h .long in
-    store-in-parts (s .args .store) n e (t .if1 .taken) (name .put-name .ensures) (pages .put-pages .ensures)
+    store-in-parts (s .args .out .now) (s .args .store) n e (t .if1 .taken) (name .put-name .ensures) (pages .put-pages .ensures)
 
 returns-2 : tie.Need-returns-2
 returns-2 c = other-length _ _ (c .if1 .left)
