@@ -1,6 +1,6 @@
 -- A number put from its last digit on.
 use mathlib.Core.Path.{_≡_, refl, sym, ap, _∙_}
-use mathlib.Core.List.{List, [], _∷_}
+use mathlib.Core.List.{List, [], _∷_, _++_}
 use Prim.Native.Nat.{ℕ, suc, _+_, _-_, _/_, _%_, _≤_, _<_}
 use native.Mathlib.Omega.{arith}
 use lib.ListN.{length, getD, set, take, drop}
@@ -14,6 +14,13 @@ sets-front [] l i j v h = refl
 sets-front (w ∷ t) l i j v h =
     sets-front t (set l j w) i (suc j) v (omega arith)
     ∙ ap (λ (m : List ℕ). sets m (suc j) t) (set-comm l j i w v (λ e. omega arith))
+
+-- bytes in front of those that are put
+pub sets-before : (t p l : List ℕ) (at : ℕ) → sets (sets l (at + length t) p) at t ≡ sets l at (t ++ p)
+sets-before [] p l at = ap (λ (j : ℕ). sets l j p) (omega arith)
+sets-before (v ∷ t) p l at =
+    ap (λ (m : List ℕ). sets m (suc at) t) (sets-front p l at (at + suc (length t)) v (omega arith) ∙ ap (λ (j : ℕ). sets (set l at v) j p) (omega arith))
+    ∙ sets-before t p (set l at v) (suc at)
 
 one-before : (t l : List ℕ) (at k : ℕ) → k < length t → set (sets l (at + suc k) (drop (suc k) t)) (at + k) (getD t k 0) ≡ sets l (at + k) (drop k t)
 one-before t l at k h =

@@ -5,7 +5,7 @@ use mathlib.Core.List.{List}
 use Rattle.lent.specs.Writing.{Wrote}
 use Rattle.lent.proofs as lent
 use Rattle.settled.specs.Settled.{Settled}
-use Rattle.settled.proofs.Law.{both}
+use Rattle.settled.proofs.Law.{answer, both}
 
 -- the contracts speak of the place behind and of the lent buffer
 place-and-buffer : {U : Type 0} (in-place : List ℕ → U) {l b c t : List ℕ} {i x y : ℕ} → Wrote l b i x t → Wrote l c i y t → _≡_ {A = ℕ × U} (x, in-place b) (y, in-place c)
@@ -29,3 +29,6 @@ put-wide-is-settled κs a x y = place-and-buffer of-four
 
 pub put-decimal-is-settled : Settled lent.put_decimal.ended lent.put_decimal.Reads.Post
 put-decimal-is-settled κs a x y = place-and-buffer of-three
+
+pub byte-of-is-settled : Settled lent.number.byte_of.ended lent.number.byte_of.Reads.Post
+byte-of-is-settled κs a x y = answer

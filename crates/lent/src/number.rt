@@ -5,7 +5,7 @@ ghost use lib.ListN.{length};
 ghost use Rattle.lent.specs.Numbers.{decimal};
 
 // The byte with so many bytes behind it.
-pub(crate) fn byte_of(value: u64, behind: usize) -> u8
+pub fn byte_of(value: u64, behind: usize) -> u8
     ensures { λ r. ⌜ r ≡ value / 2 ^ (8 * behind) % 256 ⌝ }
 {
     if behind > 7 {

@@ -1,11 +1,17 @@
 // From a record to its bytes, front to back.
 ghost use mathlib.Core.Path.{_≡_};
+ghost use Prim.Native.Nat.{_+_, _≤_};
+ghost use lib.ListN.{length};
+ghost use lib.Seq.{sets};
+ghost use Rattle.lent.specs.Numbers.{wide};
 ghost use Rattle.record_bytes.specs.Packed.{headBytes, cells, bodyBytes, slotBytes, slotsBytes, packedInto};
 ghost use Rattle.lent.specs.Writing.{Wrote};
 use crate::sizes::FIELDS_SIZE;
 use crate::sizes::RECORD_SIZE;
 use crate::sizes::SLOT_COUNT;
+use crate::sizes::SLOT_SIZE;
 use crate::sizes::bytes_for;
+use lent::byte_of;
 use lent::put_bytes;
 use lent::put_wide;
 use report::body::Body;
@@ -74,25 +80,38 @@ pub(crate) fn own_bytes(body: Body, spares: Spares) -> [u8; FIELDS_SIZE]
 
 // ---- 41 to 232
 
-fn put_slot(out: &mut [u8], at: usize, s: Slot) -> usize
-    ensures { λ next. ⌜ Wrote (now (out .entry)) (now (out .exit)) at next (slotBytes s) ⌝ }
+// A place in eight bytes, the most significant first, all of which find room.
+fn put_place(out: &mut [u8], at: usize, place: u64)
+    requires { ⌜ at + 8 ≤ length (now out) ⌝ }
+    ensures { λ _. ⌜ now (out .exit) ≡ sets (now (out .entry)) at (wide 8 place) ⌝ }
 {
-    let place = put_bytes(out, at, &[s.day, s.hour, s.minute, s.strength]);
-    put_wide(out, place, 8, s.place)
+    let mut k = 0;
+    while k < 8 {
+        out[at + k] = byte_of(place, 7 - k);
+        k += 1;
+    }
+}
+
+// The place goes first: behind the four bytes in front of it the compiler would put its bytes one by one.
+fn put_slot(out: &mut [u8], at: usize, s: Slot)
+    requires { ⌜ at + 12 ≤ length (now out) ⌝ }
+    ensures { λ _. ⌜ now (out .exit) ≡ sets (now (out .entry)) at (slotBytes s) ⌝ }
+{
+    put_place(out, at + 4, s.place);
+    put_bytes(out, at, &[s.day, s.hour, s.minute, s.strength]);
 }
 
 fn put_slots(out: &mut [u8], at: usize, slots: [Slot; SLOT_COUNT]) -> usize
+    requires { ⌜ at + 192 ≤ length (now out) ⌝ }
     ensures { λ next. ⌜ Wrote (now (out .entry)) (now (out .exit)) at next (slotsBytes slots) ⌝ }
 {
-    let mut next = at;
     let mut k = 0;
     while k < SLOT_COUNT {
         let s = slots[k];
-        let behind = put_slot(out, next, s);
-        next = behind;
+        put_slot(out, at + SLOT_SIZE * k, s);
         k += 1;
     }
-    next
+    at + SLOT_SIZE * SLOT_COUNT
 }
 
 // The record, into a lent buffer of 251 bytes. A buffer of another length stays as it was.

@@ -17,7 +17,7 @@ use Rattle.report.proofs.Categories.{sides-filled}
 use Rattle.record_bytes.specs.Packed.{bodyBytes, cells, headBytes, packed, packedInto, sidesBytes, slotsBytes, zeroFilled}
 use Rattle.record_bytes.specs.Unpacked.{size}
 use Rattle.lent.specs.Writing.{Wrote}
-use Rattle.lent.proofs.Chains.{_then_, whole}
+use Rattle.lent.proofs.Chains.{_then_, whole, wrote-length, wrote-within}
 use Rattle.record_bytes.proofs.Cells.{cells-padded, length-cells}
 use Rattle.record_bytes.proofs.FromBytes.Read.{fields-fit}
 use Rattle.record_bytes.proofs.ToBytes.Slots.{length-slots}
@@ -85,6 +85,10 @@ module _ (r : Record) where
   pub length-packed : length (r .slots) ≡ 16 → length (r .text) ≡ 18 → length (packed r) ≡ 251
   unfolding packed
   length-packed n m = length-append most (r .text) ∙ rw (length-most n, m)
+
+  -- behind the head and the body there is room for the slots
+  pub room-for-slots : {l a b : List ℕ} {i j : ℕ} → length l ≡ 251 → Wrote l a 0 i (headBytes r) → Wrote a b i j (bodyBytes (r .body) (r .spares)) → j + 192 ≤ length b
+  room-for-slots e x y = omega (arith, wrote-within {k = 41} (x then y) (omega (arith, length-front)), wrote-length (x then y), e)
 
   -- each part written where the one before it ends
   pub packed-in-parts : {l a b c d : List ℕ} {i j k n : ℕ} → length (r .slots) ≡ 16 → length (r .text) ≡ 18 → length l ≡ 251 → Wrote l a 0 i (headBytes r)
