@@ -5,8 +5,8 @@ pub mod Windows
 pub mod Frames
 pub mod Inside
 pub mod Laid
+pub mod Pushing
 pub mod ByteLoops
 pub mod Arrays
-pub mod LayLoop
 pub mod Settled
 pub mod Held

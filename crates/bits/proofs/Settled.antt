@@ -24,5 +24,14 @@ blank-is-settled κs a x y = answer
 pub copy-to-is-settled : Settled bits.copy_to.ended bits.copy_to.Reads.Post
 copy-to-is-settled κs a x y = buffer second
 
-pub lay-is-settled : Settled bits.lay.ended bits.lay.Reads.Post
-lay-is-settled κs a x y = answer
+pub Words-of-is-settled : Settled bits.words.Words.of.ended bits.words.Words.of.Reads.Post
+Words-of-is-settled κs a x y = answer
+
+pub Words-push-is-settled : Settled bits.words.Words.push.ended bits.words.Words.push.Reads.Post
+Words-push-is-settled κs a x y = answer
+
+pub Words-bytes-is-settled : Settled bits.words.Words.bytes.ended bits.words.Words.bytes.Reads.Post
+Words-bytes-is-settled κs a x y = answer
+
+pub push-all-is-settled : Settled bits.words.push_all.ended bits.words.push_all.Reads.Post
+push-all-is-settled κs a x y = answer

@@ -1,3 +1,3 @@
 pub mod Walks
-pub mod Laying
+pub mod Pushing
 pub mod Settled

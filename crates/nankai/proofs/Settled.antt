@@ -21,8 +21,8 @@ spares-is-settled κs a x y = answer
 pub PageNumbers-fields-is-settled : Settled nankai.PageNumbers.fields.ended nankai.PageNumbers.fields.Reads.Post
 PageNumbers-fields-is-settled κs a x y = answer
 
-pub lay-text-is-settled : Settled nankai.lay_text.ended nankai.lay_text.Reads.Post
-lay-text-is-settled κs a x y = answer
+pub push-text-is-settled : Settled nankai.push_text.ended nankai.push_text.Reads.Post
+push-text-is-settled κs a x y = answer
 
 pub PageNumbers-of-values-is-settled : Settled nankai.PageNumbers.of_values.ended nankai.PageNumbers.of_values.Reads.Post
 PageNumbers-of-values-is-settled κs a x y = answer

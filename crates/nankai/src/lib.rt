@@ -2,12 +2,14 @@
 // the pages of a bulletin is for the crates above.
 ghost use mathlib.Core.Path.{_≡_};
 ghost use mathlib.Core.List.{[]};
-ghost use Rattle.bits.specs.Frame.{laid, frameIn};
+ghost use Rattle.bits.specs.Frame.{frameIn};
+ghost use Rattle.bits.specs.Words.{pushedAll};
 ghost use Rattle.rows.specs.Values.{widths, headValues, sidesAt, sparesAt};
 ghost use Rattle.rows.specs.Runs.Fields.{keptIn, fieldsIn, tableIn};
 ghost use Rattle.rows.specs.Runs.Questions.{_then_};
 ghost use Rattle.rows.specs.Runs.Verdict.{bodyVerdict};
 ghost use Rattle.nankai.specs.Nankai.{nankai, pageText, numberValues, numbersFrom};
+use bits::words::Words;
 use rows::codes::is_two_or_seven;
 use rows::codes::is_uncorrected;
 use rows::common::Common;
@@ -122,14 +124,14 @@ impl PageNumbers {
     }
 }
 
-// The frame with a page's text laid on it.
-pub fn lay_text(f: [u8; 32], text: [u8; 18]) -> [u8; 32]
-    ensures { λ r. ⌜ r ≡ laid f 57 (widths (nankai .text)) text ⌝ }
+// A page's text, behind what stands before it.
+pub fn push_text(n: Words, text: [u8; 18]) -> Words
+    ensures { λ r. ⌜ r ≡ pushedAll n (widths (nankai .text)) text ⌝ }
 {
-    let mut next = f;
+    let mut next = n;
     let mut k = 0;
     while k < 18 {
-        let more = bits::put(next, 57 + 8 * k, 8, text[k] as u64);
+        let more = next.push(8, text[k] as u64);
         next = more;
         k += 1;
     }

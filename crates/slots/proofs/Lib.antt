@@ -3,7 +3,7 @@ pub mod Loops
 pub mod Parts
 pub mod Tables
 pub mod Judged
-pub mod Laying
+pub mod Pushing
 pub mod Used
 pub mod Tidy
 pub mod Settled

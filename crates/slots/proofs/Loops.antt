@@ -7,9 +7,9 @@ use native.Mathlib.Numerals.{add-one}
 use native.Mathlib.Omega.{arith}
 use lib.ListN.{drop, drop-of-length-le, getD, length, length-take, take, replicate}
 use lib.Seq.{drop-cons, getD-take}
-use Rattle.bits.specs.Frame.{laidIn}
+use Rattle.bits.specs.declared.words.Words.{Words}
 use Rattle.slots.specs.Slots.{noSlot, slotParts, tidySlots, usedAmong, vacant}
-use Rattle.slots.specs.Runs.{slotsLaid, widthsIn}
+use Rattle.slots.specs.Runs.{slotPushed, slotsPushed, widthsIn}
 use mathlib.Core.Bool.{Bool, _&&_, cond, false, true}
 use Rattle.rows.specs.Runs.Verdict.{empty}
 use lib.Dec.{ltb}
@@ -30,17 +30,16 @@ module _ (n : ℕ) (ss : List Slot) (i : ℕ) where
   pub none-behind : length ss ≤ i → drop i (take n ss) ≡ []
   none-behind h = let l : length (take n ss) ≤ i = simp length-take (omega arith) in drop-of-length-le (take n ss) l
 
--- ---- slots laid on a frame
+-- ---- slots pushed one behind the other
 
-module _ (bits : ℕ) (ws : List ℕ) where
-  pub one-laid : (f r : List ℕ) (at : ℕ) (s : Slot) (ss : List Slot) → r ≡ laidIn f at ws (slotParts s)
-      → slotsLaid r (at + bits) bits ws ss ≡ slotsLaid f at bits ws (s ∷ ss)
-  unfolding slotsLaid
-  one-laid f r at s ss e = ap (λ (x : List ℕ). slotsLaid x (at + bits) bits ws ss) e
+module _ (x : Words) (ws : List ℕ) where
+  pub one-pushed : (r : Words) (s : Slot) (ss : List Slot) → r ≡ slotPushed x ws s → slotsPushed r ws ss ≡ slotsPushed x ws (s ∷ ss)
+  unfolding slotsPushed
+  one-pushed r s ss e = ap (λ (y : Words). slotsPushed y ws ss) e
 
-  pub all-laid : (f : List ℕ) (at : ℕ) → slotsLaid f at bits ws [] ≡ f
-  unfolding slotsLaid
-  all-laid f at = refl
+  pub all-pushed : slotsPushed x ws [] ≡ x
+  unfolding slotsPushed
+  all-pushed = refl
 
 -- ---- looking for something where nothing may be
 

@@ -1,20 +1,19 @@
 -- Which of its fields a slot has in a category: its values are those fields, and what is not among them is zero.
 use mathlib.Core.Bool.{Bool, _&&_, cond, false, true}
-use Rattle.bits.proofs.LayLoop.{Fieldlike}
+use Rattle.bits.proofs.Pushing.{Fieldlike, pushed-none}
 use mathlib.Core.List.{List, [], _∷_}
-use Prim.Native.Nat.{_+_, _≤_, suc, ℕ}
-use mathlib.Core.Path.{_≡_, ap, ap₂, refl, sym}
+use Prim.Native.Nat.{suc, ℕ}
+use mathlib.Core.Path.{_≡_, _∙_, ap, ap₂, refl, sym}
 use Rattle.rows.proofs.Rules.Outcomes.{and-both}
 use native.Mathlib.Omega.{arith}
 use Rattle.rows.specs.Runs.Verdict.{empty}
 use lib.Dec.{eqb, leb, ltb}
-use borrow.Author.Tests.{eqb-true, le-ltb, leb-true, ltb-true, ne-eqb}
-use Rattle.bits.specs.Frame.{laid, laidIn, placed}
+use borrow.Author.Tests.{eqb-true, leb-true, ltb-true, ne-eqb}
+use Rattle.bits.specs.declared.words.Words.{Words}
+use Rattle.bits.specs.Words.{pushed, pushedAll}
 use lib.ListN.{length}
-use Rattle.bits.proofs.Inside.{placed-in}
 use Rattle.slots.specs.Slots.{sift, vacant}
 use native.Mathlib.Nat.{suc-inj, suc-ne-zero}
-use Rattle.bits.specs.Layout.{total}
 use Rattle.rows.specs.Values.{spread}
 
 -- ---- flags and values
@@ -91,22 +90,11 @@ vacant-again (true ∷ bs) [] (v ∷ vs) l m h = absurd (suc-ne-zero (trues bs) 
 vacant-again (true ∷ bs) (w ∷ ws) (v ∷ vs) l m h =
     ap (λ (y : List ℕ). v ∷ y) (vacant-again bs ws vs (suc-inj l) (suc-inj m) (and-both (cond (eqb w 0) (eqb v 0) true) (vacant (spread bs ws) vs) h .1))
 
--- fields without bits are passed over where values are laid
-pub spread-laid : (s : List ℕ) (bs : List Bool) (ws vs : List ℕ) (a : ℕ) → length ws ≡ trues bs → length vs ≡ length bs → allWide ws ≡ true → a + total ws ≤ 256
-    → laidIn s a (spread bs ws) vs ≡ laid s a ws (sift bs vs)
-unfolding laidIn
-spread-laid s [] [] vs a l m h i = refl
-spread-laid s [] (w ∷ ws) vs a l m h i = absurd (suc-ne-zero (length ws) l)
-spread-laid s (b ∷ bs) ws [] a l m h i = absurd (suc-ne-zero (length bs) (sym m))
-spread-laid s (false ∷ bs) ws (v ∷ vs) a l m h i =
-    let j : a ≤ 256 = omega arith in
-    let z : a + 0 ≡ a = omega arith in
-    simp (le-ltb 256 a j, z) (spread-laid s bs ws vs a l (suc-inj m) h i)
-spread-laid s (true ∷ bs) [] (v ∷ vs) a l m h i = absurd (suc-ne-zero (trues bs) (sym l))
-spread-laid s (true ∷ bs) (w ∷ ws) (v ∷ vs) a l m h i =
-    let f = fieldlike (w ∷ ws) h in
-    let j : a ≤ 256 = omega arith in
-    let k : a + w ≤ 256 = omega arith in
-    let z : w ≡ 0 → ⊥ = λ e. omega (arith, f .0 .0, e) in
-    simp (le-ltb 256 a j, ne-eqb w 0 z, placed-in s a w v k (f .0 .1))
-    (spread-laid (placed s a w v) bs ws vs (a + w) (suc-inj l) (suc-inj m) (and-both (leb w 57) _ (and-both (ltb 0 w) _ h .1) .1) (omega arith))
+-- fields without bits are passed over where values are pushed
+pub spread-pushed : (x : Words) (bs : List Bool) (ws vs : List ℕ) → length ws ≡ trues bs → length vs ≡ length bs → pushedAll x (spread bs ws) vs ≡ pushedAll x ws (sift bs vs)
+spread-pushed x [] [] vs l m = refl
+spread-pushed x [] (w ∷ ws) vs l m = absurd (suc-ne-zero (length ws) l)
+spread-pushed x (b ∷ bs) ws [] l m = absurd (suc-ne-zero (length bs) (sym m))
+spread-pushed x (false ∷ bs) ws (v ∷ vs) l m = ap (λ (y : Words). pushedAll y (spread bs ws) vs) (pushed-none x v) ∙ spread-pushed x bs ws vs l (suc-inj m)
+spread-pushed x (true ∷ bs) [] (v ∷ vs) l m = absurd (suc-ne-zero (trues bs) (sym l))
+spread-pushed x (true ∷ bs) (w ∷ ws) (v ∷ vs) l m = spread-pushed (pushed x w v) bs ws vs (suc-inj l) (suc-inj m)

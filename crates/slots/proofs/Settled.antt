@@ -3,8 +3,8 @@ use Rattle.slots.proofs as slots
 use Rattle.settled.specs.Settled.{Settled}
 use Rattle.settled.proofs.Law.{answer}
 
-pub lay-slots-is-settled : Settled slots.encode.lay_slots.ended slots.encode.lay_slots.Reads.Post
-lay-slots-is-settled κs a x y = answer
+pub push-slots-is-settled : Settled slots.encode.push_slots.ended slots.encode.push_slots.Reads.Post
+push-slots-is-settled κs a x y = answer
 
 pub used-is-settled : Settled slots.silence.used.ended slots.silence.used.Reads.Post
 used-is-settled κs a x y = answer

@@ -7,7 +7,9 @@ use mathlib.Core.List.{List, _∷_}
 use lib.ListN.{length, drop, take}
 use lib.Dec.{eqb, ltb}
 use Rattle.bits.specs.Layout.{encode}
-use Rattle.bits.specs.Frame.{bytesOf, laid, laidIn}
+use Rattle.bits.specs.Frame.{bytesOf}
+use Rattle.bits.specs.declared.words.Words.{Words}
+use Rattle.bits.specs.Words.{pushedAll, pushedUntil}
 use Rattle.parity.specs.Parity.{parityOfFront}
 use Rattle.rows.specs.declared.refusal.Verdict.{Verdict}
 use Rattle.rows.specs.declared.refusal.Verdict.the-variants.{Fine, Refused}
@@ -26,7 +28,7 @@ use Rattle.rows.specs.declared.fields.Fields.{Fields}
 use Rattle.slots.specs.declared.slot.Slot.{Slot}
 use Rattle.report.specs.Categories.{layout, preambles}
 use Rattle.nankai.specs.Nankai.{nankai}
-use Rattle.slots.specs.Runs.{slotsLaid}
+use Rattle.slots.specs.Runs.{slotsPushed}
 
 -- ---- what is refused
 
@@ -84,10 +86,10 @@ Valid r = writeAnswer r 32 ≡ Fine
 
 -- ---- how it is written
 
--- the rows in front, the slots, the text, and the rows behind, laid one behind the other
-unfoldable pub bodyLaid : List ℕ → Fields → List Slot → List ℕ → List ℕ
-bodyLaid f v ss text =
-    let start = laidIn f 43 (v .ahead) (v .front) in
-    let places = slotsLaid start (v .table .first) (v .table .bits) (v .table .widths) (take (v .table .count) ss) in
-    let page = cond (v .table .text) (laid places 57 (widths (nankai .text)) text) places in
-    laidIn page (v .table .rest) (v .after) (v .behind)
+-- the rows in front, the slots, the text, and the rows behind, one behind the other
+unfoldable pub bodyPushed : Words → Fields → List Slot → List ℕ → Words
+bodyPushed x v ss text =
+    let start = pushedUntil x (v .ahead) (v .front) in
+    let places = slotsPushed start (v .table .widths) (take (v .table .count) ss) in
+    let page = cond (v .table .text) (pushedAll places (widths (nankai .text)) text) places in
+    pushedUntil page (v .after) (v .behind)

@@ -1,0 +1,238 @@
+-- Fields put behind each other in four words make the number of their layout.
+use mathlib.Core.Path.{_≡_, refl, sym, ap, _∙_, subst}
+use mathlib.Core.List.{List, [], _∷_, _++_}
+use Prim.Native.Nat.{ℕ, zero, suc, _+_, _-_, _*_, _/_, _%_, _^_, _<_, _≤_}
+use native.Mathlib.Nat.{lt-of-lt-of-le, add-mul, mul-assoc, mul-right-comm, mul-mod-left, mod-lt, mod-eq-of-lt, div-eq-of-lt, zero-add, mul-one, zero-div, zero-mod, add-mul-mod-self-right, suc-ne-zero, suc-inj}
+use native.Mathlib.Omega.{arith}
+use lib.Arith.{digits-lt}
+use lib.Bits.{bitOr, or-shifted}
+use lib.ListN.{length, replicate, getD, drop, drop-of-length-le}
+use lib.Pow.{pow-mono, pow-add, pow-pos, mod-pow-add, mod-mod-pow, field, shl-shr, shr-lt, shr-shr, split, high}
+use borrow.Author.Tests.{eq-eqb, ne-eqb}
+use native.Mathlib.Numerals.{add-one}
+use lib.Seq.{drop-cons}
+use Rattle.bits.proofs.Layouts.{encode-lt}
+use Rattle.bits.specs.declared.words.Words.{Words}
+use Rattle.bits.specs.Layout.{total, encode, Fit}
+use Rattle.bits.specs.Words.{moved, pushed, pushedAll, pushedUntil, valueOf, wordsOf}
+
+-- ---- one word, moved up by w bits
+
+module _ (w : ℕ) (h : w < 64) where
+  up : (64 - w) + w ≡ 64
+  up = omega arith
+
+  lifted : (x : ℕ) → x * 2 ^ w % 2 ^ 64 ≡ x % 2 ^ (64 - w) * 2 ^ w
+  lifted x =
+      ap (λ (k : ℕ). x * 2 ^ w % 2 ^ k) (sym up)
+      ∙ mod-pow-add (x * 2 ^ w) (64 - w) w
+      ∙ rw (shl-shr x w, mul-mod-left x (2 ^ w)) (omega arith)
+
+  leaving : {x : ℕ} → x < 2 ^ 64 → x / 2 ^ (64 - w) < 2 ^ w
+  leaving {x} l = let e : 64 ≡ w + (64 - w) = omega arith in shr-lt w (64 - w) (subst (λ (k : ℕ). x < 2 ^ k) e l)
+
+  -- what is put behind fits
+  behind : (x : ℕ) {c : ℕ} → c < 2 ^ w → bitOr (x * 2 ^ w % 2 ^ 64) c ≡ x % 2 ^ (64 - w) * 2 ^ w + c
+  behind x {c} l = ap (λ (y : ℕ). bitOr y c) (lifted x) ∙ or-shifted (x % 2 ^ (64 - w)) w c l
+
+  behind-lt : (x : ℕ) {c : ℕ} → c < 2 ^ w → x % 2 ^ (64 - w) * 2 ^ w + c < 2 ^ 64
+  behind-lt x {c} l =
+      subst (λ (k : ℕ). x % 2 ^ (64 - w) * 2 ^ w + c < k) (sym (pow-add 2 (64 - w) w) ∙ ap (λ (k : ℕ). 2 ^ k) up)
+      (digits-lt (mod-lt x (pow-pos (64 - w))) l)
+
+  -- a word behind others: what leaves it goes to them
+  one-word : (o x c : ℕ) → (o * 2 ^ 64 + x) * 2 ^ w + c ≡ (o * 2 ^ w + x / 2 ^ (64 - w)) * 2 ^ 64 + (x % 2 ^ (64 - w) * 2 ^ w + c)
+  one-word o x c =
+      let whole : 2 ^ (64 - w) * 2 ^ w ≡ 2 ^ 64 = sym (pow-add 2 (64 - w) w) ∙ ap (λ (k : ℕ). 2 ^ k) up in
+      let two : x * 2 ^ w ≡ x / 2 ^ (64 - w) * 2 ^ 64 + x % 2 ^ (64 - w) * 2 ^ w =
+      ap (λ (y : ℕ). y * 2 ^ w) (sym (split x (64 - w)))
+      ∙ add-mul (x / 2 ^ (64 - w) * 2 ^ (64 - w)) (x % 2 ^ (64 - w)) (2 ^ w)
+      ∙ ap (λ (y : ℕ). y + x % 2 ^ (64 - w) * 2 ^ w) (mul-assoc (x / 2 ^ (64 - w)) (2 ^ (64 - w)) (2 ^ w) ∙ ap (λ (y : ℕ). x / 2 ^ (64 - w) * y) whole)
+      in
+      omega (arith, add-mul (o * 2 ^ 64) x (2 ^ w), two, mul-right-comm o (2 ^ 64) (2 ^ w), add-mul (o * 2 ^ w) (x / 2 ^ (64 - w)) (2 ^ 64))
+
+-- ---- four words
+
+-- the number of the words, with o in front of them
+abbrev full : ℕ → Words → ℕ
+full o x = (((o * 2 ^ 64 + x .first) * 2 ^ 64 + x .second) * 2 ^ 64 + x .third) * 2 ^ 64 + x .last
+
+-- the words hold a number, but for what has left them in front
+pub record Held (x : Words) (n : ℕ) : Type 0 where
+  pub lost : ℕ
+  pub is : n ≡ full lost x
+  pub first : x .first < 2 ^ 64
+  pub second : x .second < 2 ^ 64
+  pub third : x .third < 2 ^ 64
+  pub last : x .last < 2 ^ 64
+
+pub held-none : Held (wordsOf 0) 0
+held-none = record { lost = 0; is = refl; first = omega arith; second = omega arith; third = omega arith; last = omega arith }
+
+-- the words moved up, each as a sum
+module _ (x : Words) (n w v : ℕ) (h : w < 64) (f : v < 2 ^ w) (s : Held x n) where
+  abbrev plain : Words
+  plain = record {
+    first = x .first % 2 ^ (64 - w) * 2 ^ w + x .second / 2 ^ (64 - w);
+    second = x .second % 2 ^ (64 - w) * 2 ^ w + x .third / 2 ^ (64 - w);
+    third = x .third % 2 ^ (64 - w) * 2 ^ w + x .last / 2 ^ (64 - w);
+    last = x .last % 2 ^ (64 - w) * 2 ^ w + v;
+  }
+
+  moved-plain : moved x w v ≡ plain
+  moved-plain = λ i. record {
+    first = behind w h (x .first) (leaving w h (s .second)) i;
+    second = behind w h (x .second) (leaving w h (s .third)) i;
+    third = behind w h (x .third) (leaving w h (s .last)) i;
+    last = behind w h (x .last) f i;
+  }
+
+  held-plain : Held plain (n * 2 ^ w + v)
+  held-plain =
+      let a = s .lost * 2 ^ 64 + x .first in
+      let b = a * 2 ^ 64 + x .second in
+      let c = b * 2 ^ 64 + x .third in
+      record {
+        lost = s .lost * 2 ^ w + x .first / 2 ^ (64 - w);
+        is =
+            ap (λ (y : ℕ). y * 2 ^ w + v) (s .is)
+            ∙ one-word w h c (x .last) v
+            ∙ ap (λ (y : ℕ). y * 2 ^ 64 + plain .last) (one-word w h b (x .third) (x .last / 2 ^ (64 - w)))
+            ∙ ap (λ (y : ℕ). (y * 2 ^ 64 + plain .third) * 2 ^ 64 + plain .last) (one-word w h a (x .second) (x .third / 2 ^ (64 - w)))
+            ∙ ap (λ (y : ℕ). ((y * 2 ^ 64 + plain .second) * 2 ^ 64 + plain .third) * 2 ^ 64 + plain .last) (one-word w h (s .lost) (x .first) (x .second / 2 ^ (64 - w)));
+        first = behind-lt w h (x .first) (leaving w h (s .second));
+        second = behind-lt w h (x .second) (leaving w h (s .third));
+        third = behind-lt w h (x .third) (leaving w h (s .last));
+        last = behind-lt w h (x .last) f;
+      }
+
+  held-moved : Held (moved x w v) (n * 2 ^ w + v)
+  held-moved = subst (λ (y : Words). Held y (n * 2 ^ w + v)) (sym moved-plain) held-plain
+
+-- ---- fields
+
+-- each width is that of a field: at least one bit, and at most 57
+abbrev pub Fieldlike : List ℕ → Type 0
+Fieldlike [] = Unit
+Fieldlike (w ∷ ws) = ((0 < w) × (w ≤ 57)) × Fieldlike ws
+
+all-count : (w : ℕ) → w ≤ 57 → w % 64 ≡ w
+all-count w h = mod-eq-of-lt (omega arith)
+
+pushed-moved : (x : Words) (w v : ℕ) → 0 < w → w ≤ 57 → pushed x w v ≡ moved x w v
+unfolding pushed
+pushed-moved x w v p h = rw (all-count w h, ne-eqb w 0 (λ z. omega arith))
+
+pub held-all : (ws vs : List ℕ) (x : Words) (n : ℕ) → Fieldlike ws → Fit ws vs → Held x n → Held (pushedAll x ws vs) (n * 2 ^ total ws + encode ws vs)
+held-all [] [] x n h f s = let e : n ≡ n * 1 + 0 = omega arith in subst (Held x) e s
+held-all [] (v ∷ vs) x n h f s = absurd f
+held-all (w ∷ ws) [] x n h f s = absurd f
+held-all (w ∷ ws) (v ∷ vs) x n h f s =
+    let e : (n * 2 ^ w + v) * 2 ^ total ws + encode ws vs ≡ n * 2 ^ (w + total ws) + (v * 2 ^ total ws + encode ws vs) =
+    rw (pow-add 2 w (total ws), ← mul-assoc n (2 ^ w) (2 ^ total ws), add-mul (n * 2 ^ w) v (2 ^ total ws)) (omega arith)
+    in
+    let t : Held (pushed x w v) (n * 2 ^ w + v) = subst (λ (y : Words). Held y (n * 2 ^ w + v)) (sym (pushed-moved x w v (h .0 .0) (h .0 .1))) (held-moved x n w v (omega (arith, h .0 .1)) (f .0) s) in
+    subst (Held (pushedAll (pushed x w v) ws vs)) e (held-all ws vs (pushed x w v) (n * 2 ^ w + v) (h .1) (f .1) t)
+
+-- they are pushed piece by piece
+pub pushed-append : (x : Words) (ws vs xs us : List ℕ) → length ws ≡ length vs → pushedAll x (ws ++ xs) (vs ++ us) ≡ pushedAll (pushedAll x ws vs) xs us
+pushed-append x [] [] xs us e = refl
+pushed-append x [] (v ∷ vs) xs us e = absurd (suc-ne-zero (length vs) (sym e))
+pushed-append x (w ∷ ws) [] xs us e = absurd (suc-ne-zero (length ws) e)
+pushed-append x (w ∷ ws) (v ∷ vs) xs us e = pushed-append (pushed x w v) ws vs xs us (suc-inj e)
+
+-- a field without bits leaves the words as they are
+pub pushed-none : (x : Words) (v : ℕ) → pushed x 0 v ≡ x
+unfolding pushed
+pushed-none x v = refl
+
+pub until-padded : (x : Words) (ws vs us : List ℕ) (k : ℕ) → length ws ≡ length vs → Fieldlike ws → pushedUntil x (ws ++ replicate k 0) (vs ++ us) ≡ pushedAll x ws vs
+unfolding pushedUntil
+until-padded x [] [] us zero e h = refl
+until-padded x [] [] [] (suc k) e h = refl
+until-padded x [] [] (u ∷ us) (suc k) e h = refl
+until-padded x [] (v ∷ vs) us k e h = absurd (suc-ne-zero (length vs) (sym e))
+until-padded x (w ∷ ws) [] us k e h = absurd (suc-ne-zero (length ws) e)
+until-padded x (w ∷ ws) (v ∷ vs) us k e h =
+    rw (all-count w (h .0 .1), ne-eqb w 0 (λ z. omega (arith, h .0 .0))) (until-padded (pushed x w v) ws vs us k (suc-inj e) (h .1))
+
+-- ---- all 256 bits
+
+word-off : (o : ℕ) {x : ℕ} → x < 2 ^ 64 → (o * 2 ^ 64 + x) / 2 ^ 64 ≡ o
+word-off o l = high o 64 l
+
+-- nothing is lost of a number of 256 bits
+pub held-whole : (x : Words) (n : ℕ) → Held x n → n < 2 ^ 256 → valueOf x ≡ n
+held-whole x n s l =
+    let a = s .lost * 2 ^ 64 + x .first in
+    let b = a * 2 ^ 64 + x .second in
+    let c = b * 2 ^ 64 + x .third in
+    let third : n / 2 ^ 64 ≡ c = ap (λ (y : ℕ). y / 2 ^ 64) (s .is) ∙ word-off c (s .last) in
+    let second : n / 2 ^ 128 ≡ b = sym (shr-shr n 64 64) ∙ ap (λ (y : ℕ). y / 2 ^ 64) third ∙ word-off b (s .third) in
+    let first : n / 2 ^ 192 ≡ a = sym (shr-shr n 128 64) ∙ ap (λ (y : ℕ). y / 2 ^ 64) second ∙ word-off a (s .second) in
+    let none : s .lost ≡ 0 = sym (word-off (s .lost) (s .first)) ∙ ap (λ (y : ℕ). y / 2 ^ 64) (sym first) ∙ shr-shr n 192 64 ∙ div-eq-of-lt l in
+    sym (s .is ∙ ap (λ (o : ℕ). full o x) none ∙ ap (λ (y : ℕ). ((y * 2 ^ 64 + x .second) * 2 ^ 64 + x .third) * 2 ^ 64 + x .last) (zero-add (x .first)))
+
+-- ---- the bytes of four words
+
+-- a word put where nothing stands, with p bits behind it
+module _ (n p : ℕ) (free : n % 2 ^ (64 + p) ≡ 0) where
+  word-put : (r v : ℕ) → r + n / 2 ^ p % 2 ^ 64 * 2 ^ p ≡ n + v * 2 ^ p → r ≡ n + v * 2 ^ p
+  word-put r v e =
+      let none : n / 2 ^ p % 2 ^ 64 ≡ 0 = sym (field n 64 p) ∙ ap (λ (y : ℕ). y / 2 ^ p) free ∙ zero-div (2 ^ p) in
+      omega (arith, rw none at e)
+
+  still-free : (v : ℕ) → (n + v * 2 ^ p) % 2 ^ p ≡ 0
+  still-free v = add-mul-mod-self-right n v (2 ^ p) ∙ sym (mod-mod-pow n 64 p) ∙ ap (λ (y : ℕ). y % 2 ^ p) free ∙ zero-mod (2 ^ p)
+
+-- two runs of bits, in front of n
+joined : (n x y k m p : ℕ) → k ≡ m + p → n + x * 2 ^ k + y * 2 ^ p ≡ n + (x * 2 ^ m + y) * 2 ^ p
+joined n x y k m p e = rw (e, pow-add 2 m p, ← mul-assoc x (2 ^ m) (2 ^ p), add-mul (x * 2 ^ m) y (2 ^ p)) (omega arith)
+
+pub four-words : (x : Words) (a b c d : ℕ)
+    → a + 0 / 2 ^ 192 % 2 ^ 64 * 2 ^ 192 ≡ 0 + x .first * 2 ^ 192
+    → b + a / 2 ^ 128 % 2 ^ 64 * 2 ^ 128 ≡ a + x .second * 2 ^ 128
+    → c + b / 2 ^ 64 % 2 ^ 64 * 2 ^ 64 ≡ b + x .third * 2 ^ 64
+    → d + c / 2 ^ 0 % 2 ^ 64 * 2 ^ 0 ≡ c + x .last * 2 ^ 0
+    → d ≡ valueOf x
+four-words x a b c d ea eb ec ed =
+    let one = word-put 0 192 refl a (x .first) ea in
+    let free₁ : a % 2 ^ 192 ≡ 0 = ap (λ (y : ℕ). y % 2 ^ 192) one ∙ still-free 0 192 refl (x .first) in
+    let two = word-put a 128 free₁ b (x .second) eb in
+    let free₂ : b % 2 ^ 128 ≡ 0 = ap (λ (y : ℕ). y % 2 ^ 128) two ∙ still-free a 128 free₁ (x .second) in
+    let three = word-put b 64 free₂ c (x .third) ec in
+    let free₃ : c % 2 ^ 64 ≡ 0 = ap (λ (y : ℕ). y % 2 ^ 64) three ∙ still-free b 64 free₂ (x .third) in
+    let four = word-put c 0 free₃ d (x .last) ed in
+    four
+    ∙ ap (λ (y : ℕ). y + x .last * 2 ^ 0) (three ∙ ap (λ (y : ℕ). y + x .third * 2 ^ 64) (two ∙ ap (λ (y : ℕ). y + x .second * 2 ^ 128) one ∙ joined 0 (x .first) (x .second) 192 64 128 refl) ∙ joined 0 (x .first * 2 ^ 64 + x .second) (x .third) 128 64 64 refl)
+    ∙ joined 0 ((x .first * 2 ^ 64 + x .second) * 2 ^ 64 + x .third) (x .last) 64 64 0 refl
+    ∙ zero-add _
+    ∙ mul-one _
+
+-- ---- one turn of the loop that pushes fields
+
+module _ (x : Words) (ws vs : List ℕ) (k : ℕ) where
+  pub push-more : k < length ws → k < length vs → (getD ws k 0 % 64 ≡ 0 → ⊥)
+      → pushedUntil (pushed x (getD ws k 0 % 64) (getD vs k 0)) (drop (k + 1) ws) (drop (k + 1) vs) ≡ pushedUntil x (drop k ws) (drop k vs)
+  unfolding pushedUntil
+  push-more h l z = rw (add-one k, drop-cons ws k 0 h, drop-cons vs k 0 l, ne-eqb (getD ws k 0 % 64) 0 z)
+
+  pub push-short : k < length ws → length vs ≤ k → x ≡ pushedUntil x (drop k ws) (drop k vs)
+  unfolding pushedUntil
+  push-short h l = rw (drop-cons ws k 0 h, drop-of-length-le vs l)
+
+  pub push-none : k < length ws → k < length vs → getD ws k 0 % 64 ≡ 0 → x ≡ pushedUntil x (drop k ws) (drop k vs)
+  unfolding pushedUntil
+  push-none h l z = rw (drop-cons ws k 0 h, drop-cons vs k 0 l, eq-eqb (getD ws k 0 % 64) 0 z)
+
+  pub push-done : length ws ≤ k → x ≡ pushedUntil x (drop k ws) (drop k vs)
+  unfolding pushedUntil
+  push-done h = rw (drop-of-length-le ws h)
+
+-- ---- a whole layout
+
+pub pushed-whole : (ws vs : List ℕ) → Fieldlike ws → Fit ws vs → total ws ≤ 256 → valueOf (pushedAll (wordsOf 0) ws vs) ≡ encode ws vs
+pushed-whole ws vs h f l =
+    let e : 0 * 2 ^ total ws + encode ws vs ≡ encode ws vs = omega arith in
+    held-whole (pushedAll (wordsOf 0) ws vs) (encode ws vs) (subst (Held (pushedAll (wordsOf 0) ws vs)) e (held-all ws vs (wordsOf 0) 0 h f held-none))
+    (lt-of-lt-of-le (encode-lt ws vs f) (pow-mono {i = total ws} {j = 256} l))
