@@ -1,10 +1,9 @@
 // From a line to a frame, and to what the frame says.
 ghost use mathlib.Core.Path.{_≡_};
 ghost use mathlib.Core.Bool.{_&&_};
-ghost use mathlib.Core.List.{[], _∷_, _++_};
 ghost use Prim.Native.Nat.{ℕ, _<_};
 ghost use lib.Dec.{leb};
-ghost use lib.ListN.{length, getD};
+ghost use lib.ListN.{getD};
 ghost use Rattle.line.specs.Lines.{mark, paired, noLine, framing, framingSays, lineReading, lineSays};
 ghost use Rattle.report.specs.Runs.Reading.{seen};
 ghost use Rattle.rows.specs.Refusals.{answers};
@@ -50,20 +49,6 @@ fn digit(byte: u8) -> u8
     16
 }
 
-// A line with a digit of zero behind it: two digits a byte.
-fn padded(line: &[u8]) -> [u8; 64]
-    requires { ⌜ length (now line) ≡ 63 ⌝ }
-    ensures { λ r. ⌜ r ≡ now (line .entry) ++ (48 ∷ []) ⌝ }
-{
-    let mut text = [b'0'; 64];
-    let mut i = 0;
-    while i < 63 {
-        text[i] = line[i];
-        i += 1;
-    }
-    text
-}
-
 fn pairs(values: [u8; 64]) -> [u8; 32]
     requires { ⌜ ((k : ℕ) → getD values k 0 < 16) ⌝ }
     ensures { λ r. ⌜ r ≡ paired values ⌝ }
@@ -86,7 +71,13 @@ pub fn frame_of_line(line: &[u8]) -> Framing
     if line.len() != 63 {
         return no_line();
     }
-    let text = padded(line);
+    // The line with a digit of zero behind it, so that each byte has two.
+    let mut text = [b'0'; 64];
+    let mut k = 0;
+    while k < 63 {
+        text[k] = line[k];
+        k += 1;
+    }
     let mut values = [0u8; 64];
     let mut all = true;
     let mut i = 0;
