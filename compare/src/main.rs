@@ -3,7 +3,8 @@
 //! many inputs each comparison had, and how many of them were of a kind that is
 //! told apart, and ends with an error at the first one on which the two differ.
 //! With the word `measure` it compares their speed instead, which is not part of
-//! the tests.
+//! the tests, and with `count` it calls one of them for its instructions to be
+//! counted.
 
 mod calls;
 mod door;
@@ -145,8 +146,10 @@ fn run(name: &str, compare: Comparison) {
 }
 
 fn main() {
-    if std::env::args().nth(1).as_deref() == Some("measure") {
-        return measure::measure();
+    let words: Vec<String> = std::env::args().skip(1).collect();
+    match words.first().map(String::as_str) {
+        Some("measure") => measure::measure(),
+        Some("count") => measure::count::count(&words[1..]),
+        _ => COMPARISONS.iter().for_each(|(name, compare)| run(name, *compare)),
     }
-    COMPARISONS.iter().for_each(|(name, compare)| run(name, *compare));
 }

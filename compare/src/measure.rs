@@ -2,6 +2,8 @@
 //! the parity also to RTKLIB, on the same inputs in the same run. No test rests on
 //! it.
 
+mod bulletin;
+pub mod count;
 mod listing;
 mod parity;
 mod reading;

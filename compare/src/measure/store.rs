@@ -3,26 +3,22 @@
 //! reference, over a bulletin of 63 full pages. The plain store keeps its pages as
 //! values, the other two are bytes.
 
+use super::bulletin::{halves, holding, opened, pages, TEXT_MOST};
 use super::turns::{compare, Told, Way};
 use super::ROUNDS;
 use crate::door;
 use crate::packed::{packed, Bytes};
 use reference::answer::Answer;
 use reference::record::Record;
-use reference::store::{Name, Store, StoreBytes, PAGES, PAGE_LENGTH};
+use reference::store::{StoreBytes, PAGES};
 use reference::tuned;
 use std::hint::black_box;
 
 /// How often a bulletin is taken, merged or put together in a run.
 const BULLETINS: usize = 1_000;
-const TEXT_MOST: usize = PAGES * PAGE_LENGTH;
-
-const NAME: Name =
-    Name { rc: 2, month: 3, day: 10, hour: 7, minute: 30, it: 0, serial: 1, total: 63 };
 
 pub fn measure() {
-    let pages: Vec<Record> =
-        (1..=NAME.total).map(|page| NAME.page(page, [0x40 + page; PAGE_LENGTH])).collect();
+    let pages = pages();
     measure_taking(&pages);
     measure_merging(&pages);
     measure_text(&pages);
@@ -57,9 +53,7 @@ fn measure_taking(pages: &[Record]) {
 
 /// A store that holds the odd pages, and one that holds the others.
 fn measure_merging(pages: &[Record]) {
-    let [odd, even] = [0, 1].map(|first| {
-        holding(&pages.iter().copied().skip(first).step_by(2).collect::<Vec<Record>>())
-    });
+    let [odd, even] = halves(pages);
     let (odd_bytes, even_bytes) = (odd.to_bytes(), even.to_bytes());
     let merged_by = |merge: fn(&mut StoreBytes, &StoreBytes) -> Answer| {
         move || {
@@ -112,19 +106,4 @@ fn measure_text(pages: &[Record]) {
         Way::new("tuned", put_by(tuned::text)),
     ];
     compare("the text of 63 pages", Told::OneCall { of: BULLETINS }, ROUNDS, ways);
-}
-
-fn opened() -> Store {
-    let (answer, store) = Store::open(NAME);
-    answer.expect("the name is in range");
-    store
-}
-
-/// A store that has taken these pages.
-fn holding(pages: &[Record]) -> Store {
-    let mut store = opened();
-    for page in pages {
-        black_box(&mut store).take(black_box(page)).expect("it is a page of the bulletin");
-    }
-    store
 }
