@@ -1,2 +1,3 @@
 pub mod LineLoop
+pub mod SeenRows
 pub mod WrongLines

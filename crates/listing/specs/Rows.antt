@@ -12,13 +12,14 @@ use Rattle.report.specs.declared.record.Record.{Record}
 use Rattle.report.specs.declared.read.Reading.{Reading}
 use Rattle.rows.specs.Refusals.{says}
 use Rattle.report.specs.declared.look.Looked.{Looked}
-use Rattle.report.specs.Runs.Reading.{seen}
+use Rattle.report.specs.Meaning.{usedOf}
 use Rattle.listing.specs.declared.row.Entry.{Entry}
 use Rattle.listing.specs.declared.row.Entry.the-variants.{Dash, Number}
 use Rattle.listing.specs.declared.row.Row.{Row}
 use Rattle.listing.specs.declared.row.Value.{Value}
 use Rattle.listing.specs.declared.row.Value.the-variants.{Dash as NoValue, Number as Found}
 use Rattle.lent.specs.Numbers.{decimal}
+use Rattle.report.specs.Categories.{layout}
 
 -- ---- what is said of a line
 
@@ -38,15 +39,17 @@ abbrev pub refusedRow : Said → Row
 refusedRow a = record { answer = a .number; place = placeEntry a; category = Dash; slots = Dash; value = valueEntry a }
 
 -- "Category and slots are given only for a frame that was read"
-abbrev pub rowSeen : Verdict → Looked → Row
-rowSeen Fine l = record { answer = 0; place = Dash; category = Number (l .category); slots = slotsEntry (l .count) (l .used); value = NoValue }
-rowSeen (Refused x) l = refusedRow (says x)
-
 abbrev pub rowFor : Verdict → Record → Row
-rowFor v r = rowSeen v (seen (record { answer = v; «record» = r }))
+rowFor Fine r = record { answer = 0; place = Dash; category = Number (layout (r .body) .code); slots = slotsEntry (layout (r .body) .slots .count) (usedOf r); value = NoValue }
+rowFor (Refused x) r = refusedRow (says x)
 
 abbrev pub rowOf : Reading → Row
 rowOf r = rowFor (r .answer) (r .«record»)
+
+-- the same from what a look tells, as code makes it
+abbrev pub rowSeen : Verdict → Looked → Row
+rowSeen Fine l = record { answer = 0; place = Dash; category = Number (l .category); slots = slotsEntry (l .count) (l .used); value = NoValue }
+rowSeen (Refused x) l = refusedRow (says x)
 
 -- ---- as text
 

@@ -19,6 +19,7 @@ use Rattle.lent.specs.Writing.{Wrote}
 use Rattle.lent.proofs.Chains.{sets-next, wrote-as, all-placed, placed}
 use Rattle.listing.specs.Pieces.{Found, Scanned}
 use Rattle.listing.proofs.Chunks.ByteByByte.{Quiet, line-reach, quiet-reach, cut-reach}
+use Rattle.listing.proofs.Lines.SeenRows.{row-seen}
 use Rattle.listing.proofs.Lines.WrongLines.{kept-row}
 
 -- ---- what a search found
@@ -40,7 +41,7 @@ quiet-found c a e f k h g =
 pub row-said : {o after : List ℕ} {at next : ℕ} {said : Row} {look : Looked} (n : ℕ) (line : List ℕ) → said ≡ rowSeen (look .answer) look → look ≡ seen (lineReading line) → Wrote o after at next (rowText n said)
     → Wrote o after at next (lineRow n line)
 unfolding lineRow
-row-said n line e f w = wrote-as (ap (rowText n) (e ∙ ap (λ (l : Looked). rowSeen (l .answer) l) f)) w
+row-said n line e f w = wrote-as (ap (rowText n) (e ∙ ap (λ (l : Looked). rowSeen (l .answer) l) f ∙ row-seen (lineReading line))) w
 
 -- ---- the loop
 

@@ -11,6 +11,8 @@ use Rattle.report.specs.declared.look.Looked.{Looked}
 use Rattle.listing.specs.Listing.{lineRow}
 use Rattle.listing.specs.Scanning.{begunIn, finished}
 use Rattle.bits.proofs.Arrays.{unmapped}
+use Rattle.line.specs.Lines.{lineReading}
+use Rattle.listing.proofs.Lines.SeenRows.{row-seen}
 use Rattle.listing.proofs.Texts.KeptBytes.{take-least}
 use Rattle.listing.proofs.Chunks.ByteByByte.{limit-is}
 use Rattle.listing.proofs.Chunks.Chunks.{last-some, last-none, last-over, nothing-laid}
@@ -46,7 +48,7 @@ returns c =
     let s = l .before .before in
     let begun : List ℕ = begunIn (s .args .from) in
     let m : 0 < length begun = omega (arith, t .if2 .taken, ap length (same l), length-take-le (l .least .result) (s .args .from .begun) (fits l)) in
-    (w .write-seen .ensures .0 ∙ ap (λ (x : List ℕ). filledBy x (s .args .out .now)) (ap (λ (l : Looked). rowText (s .args .from .lines + 1) (rowSeen (l .answer) l)) (r .look-line .ensures .0) ∙ ap (lineRow (s .args .from .lines + 1)) (same l) ∙ last-some (s .args .from .lines) begun (omega (arith, limit-is)) m), w .write-seen .ensures .1)
+    (w .write-seen .ensures .0 ∙ ap (λ (x : List ℕ). filledBy x (s .args .out .now)) (ap (λ (l : Looked). rowText (s .args .from .lines + 1) (rowSeen (l .answer) l)) (r .look-line .ensures .0) ∙ ap (rowText (s .args .from .lines + 1)) (row-seen (lineReading (take (l .least .result) (s .args .from .begun)))) ∙ ap (lineRow (s .args .from .lines + 1)) (same l) ∙ last-some (s .args .from .lines) begun (omega (arith, limit-is)) m), w .write-seen .ensures .1)
 
 returns-2 : tie.Need-returns-2
 unfolding finished
