@@ -23,7 +23,7 @@ use Rattle.report.specs.declared.body.Body.the-variants.{Nankai}
 use Rattle.report.proofs.FoundValues.{frame-field, frame-found, frame-total, record-found, record-total}
 use Rattle.rows.specs.Runs.Verdict.{allowed, empty, walk}
 use Rattle.report.specs.Meaning.{usedOf}
-use Rattle.report.specs.Runs.Reading.{readAnswer, readSays, reading, readOf}
+use Rattle.report.specs.Runs.Reading.{readAnswer, readSays, reading, readOf, seen}
 use Rattle.report.specs.Conforms.{Conforms}
 use Rattle.rows.specs.Faults.{Fault, Lowest, Met}
 use Rattle.report.specs.Reasons.{readQuestions, WhyNotRead, writeQuestions, WhyNotWritten}
@@ -34,7 +34,9 @@ use Rattle.rows.proofs.Layouts.Lengths.{Filled, frame-filled}
 use Rattle.slots.proofs.Used.{counted-used}
 use Rattle.report.proofs.Reading.Used.{InPrefecture, others-empty, told-activity, used-area, used-flood-area, used-place, used-prefecture, used-slot-kept, used-volcano-place}
 use Rattle.rows.proofs.Rules.Numbers.{answered-value, answers-not-nine, not-nine, says-apart, says-numbered, zero-fine}
+use Rattle.report.proofs.Reading.Looks.{read-look, refused-look}
 use Rattle.report.proofs.Reading.ReadNumbers.{read-ten, refused-zeros}
+use Rattle.report.proofs.Reading.ReadSteps.{answer-found}
 use Rattle.report.proofs.PaperValues.{found, expected, paperValues, every-row}
 use Rattle.report.proofs.Writing.WriteNumbers.{writeNumbers, write-numbered}
 use Rattle.report.proofs.RoundTrips.ReadThenWritten.{valid-written, written-again}
@@ -291,6 +293,19 @@ no-answer-is-9 v e = answers-not-nine v e
 -- "A refused reading gives a record of zeros."
 pub a-refused-reading-gives-zeros : (s : List ℕ) (x : Refusal) → readOf s .answer ≡ Refused x → readOf s .«record» ≡ zeros
 a-refused-reading-gives-zeros s x e = refused-zeros (readAnswer s) (recordOf s) x e
+
+-- A look, of which a listing is made, says what reading says: whatever the bytes are, the answer is that of reading ..
+pub a-look-answers-as-reading-does : (s : List ℕ) → seen (readOf s) .answer ≡ readAnswer s
+a-look-answers-as-reading-does s = answer-found (readAnswer s) (recordOf s)
+
+-- .. where that is a refusal there is nothing else to see ..
+pub nothing-else-is-seen-of-a-refused-frame : (s : List ℕ) (x : Refusal) → readAnswer s ≡ Refused x → seen (readOf s) ≡ record { answer = Refused x; category = 0; count = 0; used = 0 }
+nothing-else-is-seen-of-a-refused-frame = refused-look
+
+-- .. and of a frame that is read, the category that stands in it, how many slots that has, and "slots used".
+pub a-look-sees-category-and-slots : (s : List ℕ) → readAnswer s ≡ Fine
+    → seen (readOf s) ≡ record { answer = Fine; category = fieldOf s 17 4; count = layout (bodyOf s) .slots .count; used = usedOf (recordOf s) }
+a-look-sees-category-and-slots = read-look
 
 -- "All of these stand in one table over the definitions, with a single proved claim": P1 to P12.
 pub paper-values-hold : map found paperValues ≡ map expected paperValues
