@@ -42,12 +42,9 @@ pub fn table() -> Table
     Table {
         code: 9,
         count: 4,
-        first: 83,
-        bits: 29,
         widths: [0, 3, 0, 3, 23],
         text: false,
         second: true,
-        rest: 199,
     }
 }
 

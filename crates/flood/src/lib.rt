@@ -37,12 +37,9 @@ pub fn table() -> Table
     Table {
         code: 11,
         count: 3,
-        first: 53,
-        bits: 44,
         widths: [0, 0, 0, 4, 40],
         text: false,
         second: true,
-        rest: 185,
     }
 }
 

@@ -43,12 +43,9 @@ pub fn table() -> Table
     Table {
         code: 2,
         count: 0,
-        first: 0,
-        bits: 0,
         widths: [0, 0, 0, 0, 0],
         text: false,
         second: true,
-        rest: 163,
     }
 }
 

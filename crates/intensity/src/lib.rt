@@ -39,12 +39,9 @@ pub fn table() -> Table
     Table {
         code: 3,
         count: 16,
-        first: 69,
-        bits: 9,
         widths: [0, 0, 0, 3, 6],
         text: false,
         second: true,
-        rest: 213,
     }
 }
 

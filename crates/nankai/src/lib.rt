@@ -36,12 +36,9 @@ pub fn table() -> Table
     Table {
         code: 4,
         count: 0,
-        first: 0,
-        bits: 0,
         widths: [0, 0, 0, 0, 0],
         text: true,
         second: true,
-        rest: 201,
     }
 }
 

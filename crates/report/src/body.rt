@@ -221,12 +221,9 @@ fn table_none() -> Table
     Table {
         code: 0,
         count: 0,
-        first: 0,
-        bits: 0,
         widths: [0u8; 5],
         text: false,
         second: false,
-        rest: 53,
     }
 }
 

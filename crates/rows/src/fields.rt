@@ -3,18 +3,14 @@ ghost use mathlib.Core.Path.{_≡_};
 ghost use Prim.Native.Nat.{_%_, _^_};
 ghost use Rattle.rows.specs.Values.{noSpares};
 
-// The category's code, 0 for none; how many slots it has, the first bit of the first one, how many bits each
-// has, and how many of them its day, hour, minute, strength and place have; whether it has text, and a second
-// spare; and the first bit behind the slots and the text.
+// The category's code, 0 for none; how many slots it has, and how many bits the day, hour, minute, strength and
+// place of one have; whether it has text, and a second spare.
 pub struct Table {
     pub code: u8,
     pub count: usize,
-    pub first: u8,
-    pub bits: u8,
     pub widths: [u8; 5],
     pub text: bool,
     pub second: bool,
-    pub rest: u8,
 }
 
 // The fields in front of the slots and behind them, spares among them, one behind the other, each list with

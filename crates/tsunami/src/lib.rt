@@ -40,12 +40,9 @@ pub fn table() -> Table
     Table {
         code: 5,
         count: 5,
-        first: 84,
-        bits: 26,
         widths: [1, 5, 6, 4, 10],
         text: false,
         second: false,
-        rest: 214,
     }
 }
 

@@ -43,12 +43,9 @@ pub fn table() -> Table
     Table {
         code: 8,
         count: 5,
-        first: 88,
-        bits: 23,
         widths: [0, 0, 0, 0, 23],
         text: false,
         second: true,
-        rest: 203,
     }
 }
 

@@ -1,8 +1,8 @@
 -- A category's table and the values of its rows as code hands them on.
 use mathlib.Core.Bool.{Bool, cond, false, true}
 use Rattle.rows.specs.declared.fields.Fields.{Fields}
-use Rattle.rows.specs.Layout.{Layout, Row, ending}
-use mathlib.Core.List.{List, [], _++_, _∷_}
+use Rattle.rows.specs.Layout.{Layout, Row}
+use mathlib.Core.List.{List, [], _∷_}
 use Rattle.rows.specs.Values.{Sides, filled, hasSpare, partWidths, widths}
 use Rattle.rows.specs.declared.fields.Table.{Table}
 use Prim.Native.Nat.{ℕ, suc, _*_, _%_, _^_}
@@ -14,22 +14,14 @@ abbrev pub hasRows : List Row → Bool
 hasRows [] = false
 hasRows (r ∷ rs) = true
 
--- the first bit of the first row, 0 where there is none
-abbrev pub firstBit : List Row → ℕ
-firstBit [] = 0
-firstBit (r ∷ rs) = r .first
-
 -- what a category's table says in numbers
 abbrev pub tableIn : Layout → Table
 tableIn l = record {
   code = l .code;
   count = l .slots .count;
-  first = l .slots .first;
-  bits = l .slots .bits;
   widths = partWidths (l .slots);
   text = hasRows (l .text);
   second = hasSpare (l .behind);
-  rest = firstBit (l .behind ++ ending);
 }
 
 -- and the values of its rows with their widths; behind the last row there are no bits
