@@ -1,6 +1,6 @@
 -- Fields one behind the other, each in the bytes that its width asks for: put, and read back.
 use mathlib.Core.Path.{_≡_, refl, sym, ap, _∙_}
-use Prim.Native.Nat.{ℕ, zero, suc, _+_, _*_, _/_, _%_, _^_, _≤_, _<_}
+use Prim.Native.Nat.{ℕ, zero, suc, _+_, _-_, _*_, _/_, _%_, _^_, _≤_, _<_}
 use mathlib.Core.Bool.{Bool, cond, false, true}
 use lib.Dec.{eqb, leb}
 use borrow.Author.Tests.{eqb-true, leb-true}
@@ -8,22 +8,20 @@ use native.Mathlib.Nat.{mod-eq-of-lt, mod-lt}
 use native.Mathlib.Numerals.{add-one}
 use native.Mathlib.Omega.{arith}
 use mathlib.Core.List.{List, [], _∷_, _++_, append-assoc, append-nil, map}
-use lib.ListN.{length, getD, take, drop, replicate, length-append, length-drop}
-use lib.Seq.{drop-at, drop-drop, getD-drop, length-take-le, take-at}
+use lib.ListN.{length, getD, set, take, drop, replicate, length-append, length-drop, take-append-drop}
+use lib.Seq.{append-snoc, drop-at, drop-cons, drop-drop, getD-drop, length-take-le, set-at, take-add, take-at, take-suc, take-take}
 use Rattle.bits.specs.Frame.{Bytes, eights, number}
 use Rattle.bits.specs.Layout.{Fit, decode, encode, total}
-use Rattle.bits.proofs.Bytes.{number-inj, number-lt, number-more}
+use Rattle.bits.proofs.Bytes.{number-inj, number-lt, number-more, number-shr}
 use Rattle.bits.proofs.Windows.{narrower}
 use Rattle.bits.proofs.Claims.{decoded-then-encoded}
 use Rattle.lent.specs.Numbers.{wide}
 use Rattle.lent.specs.Writing.{Wrote}
 use Rattle.lent.proofs.Wide.{length-wide}
 use Rattle.lent.proofs.Chains.{_then_}
-use Rattle.rows.specs.Values.{each}
 use Rattle.rows.specs.Runs.Fields.{bytesFor}
 use Rattle.record_bytes.specs.Packed.{cells}
 use Rattle.record_bytes.specs.Unpacked.{cellsAt, numberAt, size}
-use Rattle.record_bytes.proofs.FromBytes.Places.{each-same}
 
 -- ---- a number in its bytes
 
@@ -131,38 +129,70 @@ cells-append l k (w ∷ ws) us =
     sum : (a b c : ℕ) → a + b + c ≡ a + (b + c)
     sum a b c = omega arith
 
--- by their index, as a loop reads them
-abbrev pub cell : List ℕ → ℕ → List ℕ → ℕ → ℕ
-cell l k ws i = numberAt l (k + size (take i ws)) (bytesFor (getD ws i 0))
-
-pub cells-each : (l : List ℕ) (k : ℕ) (ws : List ℕ) → cellsAt l k ws ≡ each (length ws) (cell l k ws)
+pub length-cells-at : (l : List ℕ) (k : ℕ) (ws : List ℕ) → length (cellsAt l k ws) ≡ length ws
 unfolding cellsAt
-cells-each l k [] = refl
-cells-each l k (w ∷ ws) =
-    let n : ℕ = bytesFor w in
-    let others : cellsAt l (k + n) ws ≡ each (length ws) (λ i. numberAt l (k + (n + size (take i ws))) (bytesFor (getD ws i 0))) =
-    cells-each l (k + n) ws
-    ∙ each-same (length ws) (λ i. numberAt l (k + n + size (take i ws)) (bytesFor (getD ws i 0))) (λ i. numberAt l (k + (n + size (take i ws))) (bytesFor (getD ws i 0)))
-    (λ i. ap (λ (j : ℕ). numberAt l j (bytesFor (getD ws i 0))) (sum k n (size (take i ws))))
+length-cells-at l k [] = refl
+length-cells-at l k (w ∷ ws) = ap suc (length-cells-at l (k + bytesFor w) ws)
+
+-- one more, as a loop reads them into zeros
+pub cell-set : (l : List ℕ) (at : ℕ) (ws vs : List ℕ) (k v : ℕ) → k < length ws → vs ≡ cellsAt l at (take k ws) ++ replicate (length ws - k) 0
+    → v ≡ numberAt l (at + size (take k ws)) (bytesFor (getD ws k 0)) → set vs k v ≡ cellsAt l at (take (k + 1) ws) ++ replicate (length ws - (k + 1)) 0
+unfolding cellsAt
+cell-set l at ws vs k v h e p =
+    let own : List ℕ = cellsAt l at (take k ws) in
+    let rest : List ℕ = replicate (length ws - (k + 1)) 0 in
+    let left : length ws - k ≡ suc (length ws - (k + 1)) = omega arith in
+    let long : length own ≡ k = length-cells-at l at (take k ws) ∙ length-take-le k ws (omega arith) in
+    let more : own ++ (v ∷ []) ≡ cellsAt l at (take (k + 1) ws) =
+    ap (λ (x : ℕ). own ++ (x ∷ [])) p
+    ∙ sym (cells-append l at (take k ws) (getD ws k 0 ∷ []))
+    ∙ ap (cellsAt l at) (sym (take-suc ws k 0 h) ∙ ap (λ (n : ℕ). take n ws) (sym (add-one k)))
     in
-    λ i. numberAt l (zeros k i) n ∷ others i
-  where
-    sum : (a b c : ℕ) → a + b + c ≡ a + (b + c)
-    sum a b c = omega arith
+    ap (λ (s : List ℕ). set s k v) (e ∙ ap (λ (m : ℕ). own ++ replicate m 0) left)
+    ∙ set-at own 0 rest v k long
+    ∙ sym (append-snoc own v rest)
+    ∙ ap (λ (s : List ℕ). s ++ rest) more
 
-    zeros : (a : ℕ) → a ≡ a + 0
-    zeros a = omega arith
-
-pub size-at : (ws : List ℕ) (k : ℕ) → k < length ws → size ws ≡ size (take k ws) + (bytesFor (getD ws k 0) + size (drop (suc k) ws))
-size-at [] k h = absurd (omega arith)
-size-at (w ∷ ws) zero h = zeros (bytesFor w + size ws)
+pub size-split : (ws : List ℕ) (k : ℕ) → size ws ≡ size (take k ws) + size (drop k ws)
+size-split [] zero = refl
+size-split [] (suc k) = refl
+size-split (w ∷ ws) zero = zeros (bytesFor w + size ws)
   where
     zeros : (a : ℕ) → a ≡ 0 + a
     zeros a = omega arith
-size-at (w ∷ ws) (suc k) h = shuffle (bytesFor w) _ _ _ (size-at ws k (omega arith))
+size-split (w ∷ ws) (suc k) = shuffle (bytesFor w) _ _ _ (size-split ws k)
   where
     shuffle : (n a b c : ℕ) → a ≡ b + c → n + a ≡ n + b + c
     shuffle n a b c e = omega arith
+
+pub size-at : (ws : List ℕ) (k : ℕ) → k < length ws → size ws ≡ size (take k ws) + (bytesFor (getD ws k 0) + size (drop (suc k) ws))
+size-at ws k h = size-split ws k ∙ ap (λ (us : List ℕ). size (take k ws) + size us) (drop-cons ws k 0 h)
+
+-- fields without bytes are zeros
+zero-cells : (l : List ℕ) (k : ℕ) (ws : List ℕ) → size ws ≡ 0 → cellsAt l k ws ≡ replicate (length ws) 0
+unfolding cellsAt
+zero-cells l k [] e = refl
+zero-cells l k (w ∷ ws) e =
+    let none = nothing (bytesFor w) (size ws) e in
+    λ i. numberAt l k (none .0 i) ∷ zero-cells l (k + bytesFor w) ws (none .1) i
+  where
+    nothing : (a b : ℕ) → a + b ≡ 0 → (a ≡ 0) × (b ≡ 0)
+    nothing a b e = (omega arith, omega arith)
+
+-- so all are read where none of those that are left has bytes
+pub cells-read : (l : List ℕ) (at : ℕ) (ws : List ℕ) (k : ℕ) → size (drop k ws) ≡ 0 → cellsAt l at (take k ws) ++ replicate (length ws - k) 0 ≡ cellsAt l at ws
+cells-read l at ws k e =
+    let rest : List ℕ = drop k ws in
+    ap (λ (n : ℕ). cellsAt l at (take k ws) ++ replicate n 0) (sym (length-drop k ws))
+    ∙ ap (λ (t : List ℕ). cellsAt l at (take k ws) ++ t) (sym (zero-cells l (at + size (take k ws)) rest e))
+    ∙ sym (cells-append l at (take k ws) rest)
+    ∙ ap (cellsAt l at) (take-append-drop k ws)
+
+pub size-read : (at : ℕ) (ws : List ℕ) (k : ℕ) → size (drop k ws) ≡ 0 → at + size (take k ws) ≡ at + size ws
+size-read at ws k e = ap (λ (n : ℕ). at + n) (sym (size-split ws k ∙ zeros (size (take k ws)) _ e))
+  where
+    zeros : (a b : ℕ) → b ≡ 0 → a + b ≡ a
+    zeros a b e = omega arith
 
 size-suc : (ws : List ℕ) (k : ℕ) → k < length ws → size (take (suc k) ws) ≡ size (take k ws) + bytesFor (getD ws k 0)
 size-suc [] k h = absurd (omega arith)
@@ -214,6 +244,17 @@ cells-fit l k (w ∷ ws) b h =
     behind : (a b c d : ℕ) → a + (b + c) ≤ d → a + b + c ≤ d
     behind a b c d h = omega arith
 
+-- the front of eight bytes
+pub front-of-eight : (l : List ℕ) (k n : ℕ) → Bytes l → k + 8 ≤ length l → n ≤ 8 → numberAt l k 8 / 2 ^ (64 - 8 * n) ≡ numberAt l k n
+front-of-eight l k n b h s =
+    let eight : List ℕ = take 8 (drop k l) in
+    let long : length eight ≡ 8 = length-take-le 8 (drop k l) (rw (length-drop k l) (omega arith)) in
+    let own : Bytes eight = bytes-taken 8 (drop k l) (λ i. rw (getD-drop k l i 0) (b (k + i))) in
+    let bits : 64 - 8 * n ≡ 8 * (length eight - n) = omega arith in
+    ap (λ (m : ℕ). number eight / 2 ^ m) bits
+    ∙ number-shr eight n (omega arith) own
+    ∙ ap number (take-take n 8 (drop k l) s)
+
 -- ---- and its bytes are given back
 
 wide-bytes : (n v : ℕ) → Bytes (wide n v)
@@ -228,6 +269,21 @@ wide-number n l b h =
     let small : number (take n l) < 2 ^ (8 * n) = rw long at (number-lt (take n l) own) in
     number-inj (wide n (number (take n l))) (take n l) (length-wide n (number (take n l)) ∙ sym long) (wide-bytes n (number (take n l))) own
     (number-wide n (number (take n l)) ∙ mod-eq-of-lt small)
+
+pub cells-again : (l : List ℕ) (k : ℕ) (ws : List ℕ) → Bytes l → k + size ws ≤ length l → cells ws (cellsAt l k ws) ≡ take (size ws) (drop k l)
+unfolding cells cellsAt
+cells-again l k [] b h = refl
+cells-again l k (w ∷ ws) b h =
+    let n : ℕ = bytesFor w in
+    let room = both k n (size ws) (length l) h in
+    let first : wide n (numberAt l k n) ≡ take n (drop k l) = wide-number n (drop k l) (λ i. rw (getD-drop k l i 0) (b (k + i))) (rw (length-drop k l) (room .0)) in
+    let others : cells ws (cellsAt l (k + n) ws) ≡ take (size ws) (drop n (drop k l)) =
+    cells-again l (k + n) ws b (room .1) ∙ ap (take (size ws)) (sym (drop-drop n k l))
+    in
+    (λ i. first i ++ others i) ∙ sym (take-add n (size ws) (drop k l))
+  where
+    both : (a b c d : ℕ) → a + (b + c) ≤ d → (b ≤ d - a) × (a + b + c ≤ d)
+    both a b c d h = (omega arith, omega arith)
 
 -- ---- one byte more
 

@@ -1,3 +1,4 @@
 pub mod Places
 pub mod Read
 pub mod Refused
+pub mod Stray

@@ -1,12 +1,14 @@
 // From any 251 bytes back to a record.
 ghost use mathlib.Core.Path.{_≡_};
 ghost use mathlib.Core.Bool.{not};
-ghost use Prim.Native.Nat.{_+_, _≤_};
-ghost use lib.ListN.{length, set, take, drop, replicate};
+ghost use Prim.Native.Nat.{ℕ, _+_, _≤_};
+ghost use lib.ListN.{length, getD, take, drop, replicate};
+ghost use lib.Seq.{slice};
 ghost use Rattle.rows.specs.Values.{sameBytes};
-ghost use Rattle.record_bytes.specs.Unpacked.{numberAt, slotAt, commonInBytes, size, cellsAt, bothInBytes, strayAs, slotsFrom, misplaced, slotsOrMisplaced, recordFrom};
+ghost use Rattle.rows.specs.Runs.Fields.{bytesFor};
+ghost use Rattle.record_bytes.specs.Packed.{bodyBytes, zeroFilled};
+ghost use Rattle.record_bytes.specs.Unpacked.{numberAt, slotAt, commonInBytes, size, cellsAt, bothInBytes, slotsFrom, slotsOrMisplaced, recordFrom};
 use crate::sizes::FIELDS_AT;
-use crate::sizes::FIELDS_SIZE;
 use crate::sizes::RECORD_SIZE;
 use crate::sizes::SLOT_COUNT;
 use crate::sizes::SLOT_SIZE;
@@ -14,7 +16,6 @@ use crate::sizes::SLOTS_AT;
 use crate::sizes::TEXT_AT;
 use crate::sizes::bytes_for;
 use crate::text::text_at;
-use crate::to_bytes::own_bytes;
 use report::body::Body;
 use report::body::BodyAndSpares;
 use report::record::Record;
@@ -75,59 +76,75 @@ fn common_of(bytes: &[u8]) -> Common
 
 // ---- 9 to 40
 
-// The values of fields of these widths from the byte `at` on, into zeros; and the place behind them.
+// The values of fields of these widths from the byte `at` on, into zeros; and the place behind them. Behind a width that asks
+// for no byte there is none that does. A number is the front of the eight bytes at its place: the compiler makes one load of
+// eight bytes, and a loop of a count that it does not know.
 fn read_cells(bytes: &[u8], at: usize, widths: &[u8], values: &mut [u64]) -> usize
-    requires { ⌜ (at + size (now widths) ≤ length (now bytes)) × (now values ≡ replicate (length (now widths)) 0) ⌝ }
+    requires { ⌜ (at + size (now widths) + 8 ≤ length (now bytes)) × ((now values ≡ replicate (length (now widths)) 0) × ((k : ℕ) → bytesFor (getD (now widths) k 0) ≡ 0 → size (drop k (now widths)) ≡ 0)) ⌝ }
     ensures { λ r. ⌜ (r ≡ at + size (now (widths .entry))) × (now (values .exit) ≡ cellsAt (now (bytes .entry)) at (now (widths .entry))) ⌝ }
 {
     let mut next = at;
     let mut k = 0;
     while k < widths.len() {
         let count = bytes_for(widths[k]);
-        values[k] = number_at(bytes, next, count);
+        if count == 0 {
+            return next;
+        }
+        values[k] = number_at(bytes, next, 8) >> (64 - 8 * count);
         next += count;
         k += 1;
     }
     next
 }
 
-// The body of the category's code, whose table says the widths, and its spares.
-fn body_of(bytes: &[u8]) -> BodyAndSpares
+// A body and its spares, and the place behind the bytes that they were read from.
+struct BodyAndEnd {
+    both: BodyAndSpares,
+    end: usize,
+}
+
+// The body of the category's code, whose table says the widths, and its spares. Without a category nothing keeps what stands
+// behind the first spare, so the bytes end there.
+fn body_of(bytes: &[u8]) -> BodyAndEnd
     requires { ⌜ length (now bytes) ≡ 251 ⌝ }
-    ensures { λ r. ⌜ r ≡ bothInBytes (now (bytes .entry)) ⌝ }
+    ensures { λ r. ⌜ (r .both ≡ bothInBytes (now (bytes .entry))) × ((9 ≤ r .end) × ((r .end ≤ 41) × (bodyBytes (r .both .body) (r .both .spares) ≡ zeroFilled 32 (slice 9 (r .end) (now (bytes .entry)))))) ⌝ }
 {
     let mut front = [0u64; 18];
     let mut behind = [0u64; 3];
     let blank = Body::of_values(bytes[0], front, behind);
     let none = blank.body;
     let fields = none.fields(Spares::none());
+    let table = fields.table;
     let ahead = fields.ahead;
     let after = fields.after;
     let middle = read_cells(bytes, FIELDS_AT, &ahead, &mut front);
-    read_cells(bytes, middle, &after, &mut behind);
-    Body::of_values(bytes[0], front, behind)
+    let last = read_cells(bytes, middle, &after, &mut behind);
+    let end = if table.code == 0 { middle } else { last };
+    let both = Body::of_values(bytes[0], front, behind);
+    BodyAndEnd { both, end }
 }
 
-// Whether bytes 9 to 40 are others.
-fn has_stray(bytes: &[u8], own: [u8; FIELDS_SIZE]) -> bool
-    requires { ⌜ length (now bytes) ≡ 251 ⌝ }
-    ensures { λ r. ⌜ r ≡ not (sameBytes (take 32 (drop 9 (now (bytes .entry)))) own) ⌝ }
+// Whether something stands behind the fields, from the place where they end up to byte 40.
+fn has_stray(bytes: &[u8], end: usize) -> bool
+    requires { ⌜ (length (now bytes) ≡ 251) × ((9 ≤ end) × (end ≤ 41)) ⌝ }
+    ensures { λ r. ⌜ r ≡ not (sameBytes (take 32 (drop 9 (now (bytes .entry)))) (zeroFilled 32 (slice 9 end (now (bytes .entry))))) ⌝ }
 {
-    let mut k = 0;
-    while k < FIELDS_SIZE {
-        if bytes[FIELDS_AT + k] != own[k] {
+    let mut at = end;
+    while at < SLOTS_AT {
+        if bytes[at] != 0 {
             return true;
         }
-        k += 1;
+        at += 1;
     }
     false
 }
 
 // ---- 41 to 232
 
-fn slots_of(bytes: &[u8]) -> [Slot; SLOT_COUNT]
+// The slots, and where something is stray one that no category allows.
+fn slots_of(bytes: &[u8], stray: bool) -> [Slot; SLOT_COUNT]
     requires { ⌜ length (now bytes) ≡ 251 ⌝ }
-    ensures { λ r. ⌜ r ≡ slotsFrom (now (bytes .entry)) ⌝ }
+    ensures { λ r. ⌜ r ≡ slotsOrMisplaced stray (slotsFrom (now (bytes .entry))) ⌝ }
 {
     let none = Slot::none();
     let mut slots = [none; SLOT_COUNT];
@@ -137,32 +154,15 @@ fn slots_of(bytes: &[u8]) -> [Slot; SLOT_COUNT]
         slots[k] = s;
         k += 1;
     }
-    slots
-}
-
-// Slots that no category allows.
-fn with_misplaced(slots: [Slot; SLOT_COUNT]) -> [Slot; SLOT_COUNT]
-    ensures { λ r. ⌜ r ≡ set slots 15 misplaced ⌝ }
-{
-    let mut next = slots;
-    let s = Slot {
-        day: 0,
-        hour: 1,
-        minute: 0,
-        strength: 0,
-        place: 0,
-    };
-    next[15] = s;
-    next
-}
-
-fn marked_slots_of(bytes: &[u8], body: Body, spares: Spares) -> [Slot; SLOT_COUNT]
-    requires { ⌜ length (now bytes) ≡ 251 ⌝ }
-    ensures { λ r. ⌜ r ≡ slotsOrMisplaced (strayAs body spares (now (bytes .entry))) (slotsFrom (now (bytes .entry))) ⌝ }
-{
-    let slots = slots_of(bytes);
-    if has_stray(bytes, own_bytes(body, spares)) {
-        return with_misplaced(slots);
+    if stray {
+        let misplaced = Slot {
+            day: 0,
+            hour: 1,
+            minute: 0,
+            strength: 0,
+            place: 0,
+        };
+        slots[15] = misplaced;
     }
     slots
 }
@@ -174,10 +174,11 @@ pub fn unpack(bytes: &[u8]) -> Record
     if bytes.len() != RECORD_SIZE {
         return Record::of_zeros();
     }
-    let both = body_of(bytes);
+    let own = body_of(bytes);
+    let both = own.both;
     let body = both.body;
     let spares = both.spares;
-    let slots = marked_slots_of(bytes, body, spares);
+    let slots = slots_of(bytes, has_stray(bytes, own.end));
     let text = text_at(bytes, TEXT_AT);
     Record {
         preamble: bytes[1],

@@ -15,7 +15,7 @@ use Rattle.rows.specs.Kept.{In}
 use Rattle.rows.specs.Layout.{Layout, noCategory}
 use mathlib.Core.List.{List, [], _∷_, _++_}
 use Rattle.rows.specs.declared.fields.Spares.{Spares}
-use Rattle.rows.specs.Values.{Sides, hasSpare, noSpares, sidesAt, sparesAt, sparesFrom}
+use Rattle.rows.specs.Values.{Sides, each, hasSpare, noSpares, sidesAt, sparesAt, sparesFrom}
 use mathlib.Core.Path.{_∙_, _≡_, ap, refl, subst, sym}
 use Prim.Native.Nat.{_≤_, _-_, _^_, suc, zero, ℕ}
 use mathlib.Core.Logic.{_⊎_, inl, inr, ⊎-elim}
@@ -222,6 +222,17 @@ same-body v w = by-code (λ (dc : ℕ). v (layout (bodyFrom v dc)) ≡ w (layout
     (λ e. ap (λ (s : Sides). AshFall (eruptionFrom s)) e)
     (λ e. refl)
     (λ dc h e. no-category v dc h ∙ sym (no-category w dc h))
+
+-- its values are those that it was made from, but that without a category there is no field to keep one behind the slots
+abbrev MadeFrom : (Layout → Sides) → Body → Type 0
+MadeFrom v b =
+    let l = layout b in
+    sidesOf b (sparesFrom l (v l))
+    ≡ record { front = each (length (l .front)) (λ i. getD (v l .front) i 0); behind = each (length (l .behind)) (λ i. cond (eqb (l .code) 0) 0 (getD (v l .behind) i 0)) }
+
+pub values-again : (v : Layout → Sides) (dc : ℕ) → MadeFrom v (bodyFrom v dc)
+unfolding bodyFrom
+values-again v = by-code (λ (dc : ℕ). MadeFrom v (bodyFrom v dc)) refl refl refl refl refl refl refl (λ dc h. subst (MadeFrom v) (sym (no-category v dc h)) refl)
 
 -- ---- the same from a frame
 

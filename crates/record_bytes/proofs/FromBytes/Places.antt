@@ -1,10 +1,10 @@
 -- A byte behind others is a byte of what stands behind them.
 use mathlib.Core.Path.{_≡_, refl, sym, ap, _∙_}
-use Prim.Native.Nat.{ℕ, zero, suc, _+_, _<_, _≤_}
+use Prim.Native.Nat.{ℕ, zero, suc, _+_, _≤_}
 use native.Mathlib.Omega.{arith}
 use mathlib.Core.List.{List, [], _∷_}
-use lib.ListN.{length, getD, drop, take, length-drop}
-use lib.Seq.{getD-drop, getD-take, drop-drop, length-take-le}
+use lib.ListN.{length, getD, drop, take}
+use lib.Seq.{getD-drop, drop-drop}
 use Rattle.rows.specs.Values.{each}
 use Rattle.bits.specs.Frame.{number}
 use Rattle.record_bytes.specs.Unpacked.{numberAt}
@@ -23,11 +23,3 @@ pub first-bytes : (n : ℕ) (l : List ℕ) → n ≤ length l → each n (λ i. 
 first-bytes zero l h = refl
 first-bytes (suc n) [] h = absurd (omega arith)
 first-bytes (suc n) (x ∷ l) h = ap (λ (t : List ℕ). x ∷ t) (first-bytes n l (omega arith))
-
--- ---- bytes 9 to 40
-
-pub own-byte : (l : List ℕ) (k : ℕ) → k < 32 → getD (take 32 (drop 9 l)) k 0 ≡ getD l (9 + k) 0
-own-byte l k h = getD-take 32 (drop 9 l) k 0 h ∙ getD-drop 9 l k 0
-
-pub own-long : (l : List ℕ) → length l ≡ 251 → length (take 32 (drop 9 l)) ≡ 32
-own-long l n = length-take-le 32 (drop 9 l) (rw (length-drop 9 l) (omega (arith, n)))

@@ -1,27 +1,28 @@
 -- What a body and its spares are read from: the numbers in their bytes, each as its field keeps it.
-use mathlib.Core.Path.{_≡_, refl, sym, ap, _∙_}
-use Prim.Native.Nat.{ℕ, suc, _+_, _-_, _*_, _%_, _^_, _≤_}
+use mathlib.Core.Path.{_≡_, refl, sym, ap, subst, _∙_}
+use Prim.Native.Nat.{ℕ, zero, suc, _+_, _-_, _*_, _%_, _^_, _≤_}
 use native.Mathlib.Nat.{mod-eq-of-lt}
 use native.Mathlib.Numerals.{add-one}
 use native.Mathlib.Omega.{arith}
-use mathlib.Core.Bool.{Bool, true, cond}
+use mathlib.Core.Bool.{Bool, true, cond, _&&_}
 use mathlib.Core.List.{List, [], _∷_, _++_}
-use lib.Dec.{leb}
+use lib.Dec.{leb, ltb}
 use lib.ListN.{length, length-map, getD, List·getD-append, drop, replicate}
 use lib.Seq.{drop-drop, getD-drop}
-use borrow.Author.Tests.{leb-true}
+use borrow.Author.Tests.{leb-true, ltb-true}
 use Rattle.bits.specs.Frame.{Bytes}
 use Rattle.rows.specs.Layout.{Layout, Row}
 use Rattle.rows.specs.declared.fields.Spares.{Spares}
 use Rattle.rows.specs.Values.{Sides, filled, isSpare, spareAmong, sparesFrom, widths}
 use Rattle.rows.specs.Runs.Fields.{bytesFor, fieldsIn, keptFrom, keptIn}
 use Rattle.rows.specs.declared.fields.Fields.{Fields}
+use Rattle.rows.proofs.Rules.Outcomes.{and-both}
 use Rattle.report.specs.declared.body.Body.{Body}
 use Rattle.report.specs.Categories.{bodyFrom, layout, sidesOf}
 use Rattle.report.proofs.Categories.{all, layouts, listed, made-alike, same-body}
 use Rattle.record_bytes.specs.Unpacked.{bodyInBytes, bothInBytes, cellsAt, sidesInBytes, size, sparesInBytes}
 use Rattle.report.specs.Runs.Told.{withSpares}
-use Rattle.record_bytes.proofs.Cells.{FitBytes, cells-append, cells-fit, size-padded}
+use Rattle.record_bytes.proofs.Cells.{FitBytes, cells-append, cells-fit, length-cells-at, size-padded}
 
 -- computed of all tables: the fields have room in bytes 9 to 40
 abbrev fieldsFit : Layout → Bool
@@ -51,11 +52,6 @@ kept-same (r ∷ rs) vs (u ∷ us) more k e h =
 spare-before : (rs : List Row) (us more : List ℕ) (k : ℕ) → k + length rs ≤ length us → spareAmong rs (us ++ more) k ≡ spareAmong rs us k
 spare-before [] us more k h = refl
 spare-before (r ∷ rs) us more k h = λ i. cond (isSpare (r .rule)) (List·getD-append us more 0 k (omega arith) i) (spare-before rs us more (suc k) (omega arith) i)
-
-length-cells-at : (l : List ℕ) (k : ℕ) (ws : List ℕ) → length (cellsAt l k ws) ≡ length ws
-unfolding cellsAt
-length-cells-at l k [] = refl
-length-cells-at l k (w ∷ ws) = ap suc (length-cells-at l (k + bytesFor w) ws)
 
 module _ (l : List ℕ) (bytes : Bytes l) where
   kept-cells : (rs : List Row) (k n : ℕ) → k + size (widths rs) ≤ length l → keptFrom rs (cellsAt l k (widths rs ++ replicate n 0)) 0 ≡ cellsAt l k (widths rs)
@@ -121,3 +117,35 @@ room b z v e =
     ap (λ (x : Fields). size (x .ahead) + size (x .after)) e ∙ (λ i. size-padded (widths (layout b .front)) (18 - length (widths (layout b .front))) i + size-padded (widths (layout b .behind)) (3 - length (widths (layout b .behind))) i)
     in
     rw same (fields-fit b)
+
+-- ---- a field without bytes has none behind it
+
+abbrev haveBytes : List Row → Bool
+haveBytes [] = true
+haveBytes (r ∷ rs) = ltb 0 (bytesFor (r .width)) && haveBytes rs
+
+-- computed of all tables
+abbrev fieldsHaveBytes : Layout → Bool
+fieldsHaveBytes l = haveBytes (l .front) && haveBytes (l .behind)
+
+all-have-bytes : all fieldsHaveBytes layouts ≡ true
+all-have-bytes = refl
+
+abbrev EndsAtZero : List ℕ → Type 0
+EndsAtZero ws = (k : ℕ) → bytesFor (getD ws k 0) ≡ 0 → size (drop k ws) ≡ 0
+
+zeros-end : (n : ℕ) → EndsAtZero (replicate n 0)
+zeros-end zero zero e = refl
+zeros-end zero (suc k) e = refl
+zeros-end (suc n) zero e = size-padded [] (suc n)
+zeros-end (suc n) (suc k) e = zeros-end n k e
+
+rows-end : (rs : List Row) (n : ℕ) → haveBytes rs ≡ true → EndsAtZero (widths rs ++ replicate n 0)
+rows-end [] n h k e = zeros-end n k e
+rows-end (r ∷ rs) n h zero e = absurd (omega (arith, e, ltb-true 0 (bytesFor (r .width)) (and-both _ (haveBytes rs) h .0)))
+rows-end (r ∷ rs) n h (suc k) e = rows-end rs n (and-both (ltb 0 (bytesFor (r .width))) (haveBytes rs) h .1) k e
+
+pub fields-end : (b : Body) (z : Spares) (v : Fields) → v ≡ fieldsIn (layout b) (sidesOf b z) → EndsAtZero (v .ahead) × EndsAtZero (v .after)
+fields-end b z v e =
+    let h = and-both (haveBytes (layout b .front)) (haveBytes (layout b .behind)) (listed fieldsHaveBytes all-have-bytes b) in
+    subst (λ (x : Fields). EndsAtZero (x .ahead) × EndsAtZero (x .after)) (sym e) (rows-end (layout b .front) (18 - length (widths (layout b .front))) (h .0), rows-end (layout b .behind) (3 - length (widths (layout b .behind))) (h .1))

@@ -1,4 +1,5 @@
 -- `record_bytes::from_bytes::unpack` meets its contract.
+use mathlib.Core.Path.{sym}
 use native.Mathlib.Omega.{arith}
 use borrow.Author.Tests.{eq-eqb, ne-eqb}
 use Rattle.record_bytes.specs.Unpacked.{unpackedAs, recordFrom}
@@ -13,15 +14,20 @@ returns c = simp (ne-eqb _ 251 (c .before .if1 .taken), c .of-zeros .ensures)
 
 returns-2 : tie.Need-returns-2
 unfolding unpackedAs recordFrom
-returns-2 c = simp (
-  eq-eqb _ 251 (c .before .before .before .before .before .before .before .if1 .left),
-  c .common-of .ensures,
-  c .before .before .before .text-at .ensures,
-  text-found (c .before .before .before .before .before .before .before .before .before .args .bytes .now) 233 (omega arith),
-  c .before .before .before .before .marked-slots-of .ensures,
-  c .before .before .before .before .before .before .body-of .ensures,
-)
+returns-2 c =
+    let stray = c .before .before .before .before .before in
+    let own = stray .before .before .before in
+    simp (
+      eq-eqb _ 251 (own .before .if1 .left),
+      c .common-of .ensures,
+      c .before .before .before .text-at .ensures,
+      text-found (own .before .before .before .args .bytes .now) 233 (omega arith),
+      c .before .before .before .before .slots-of .ensures,
+      stray .has-stray .ensures,
+      sym (own .body-of .ensures .1 .1 .1),
+      own .body-of .ensures .0,
+    )
 
 pub unpack-spec : {M : Type 1} → statement M
 unpack-spec =
-    tie.close (tie.spec (λ c κs. search needs) returns (λ c κs. search needs) (λ c κs. search needs) (λ c κs. search needs) (λ c. search needs) (λ c. search needs) (λ c κs. search needs) returns-2)
+    tie.close (tie.spec (λ c κs. search needs) returns (λ c κs. search needs) (λ c κs. search needs) (λ c κs. search needs) (λ c κs. search needs) (λ c. search needs) (λ c. search needs) (λ c κs. search needs) returns-2)
