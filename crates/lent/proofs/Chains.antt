@@ -7,7 +7,7 @@ use native.Mathlib.Numerals.{add-one}
 use native.Mathlib.Omega.{arith}
 use borrow.Author.Tests.{leb-true, leb-false}
 use lib.Dec.{leb}
-use lib.ListN.{length, getD, set, take, drop, length-append, take-append-drop}
+use lib.ListN.{length, getD, set, take, drop, length-append}
 use lib.Seq.{sets, length-sets, sets-eq, take-suc, take-all, drop-length, length-take-le}
 use Rattle.lent.specs.Writing.{Wrote}
 
@@ -72,20 +72,6 @@ one-more t k h e x y = rw (add-one k, take-suc t k 0 h, ← e) (x then y)
 
 pub all-put : {l m : List ℕ} {i j : ℕ} (t : List ℕ) (k : ℕ) → length t ≤ k → Wrote l m i j (take k t) → Wrote l m i j t
 all-put t k h x = rw (take-all k t h) at x
-
--- what is past the end stays so, whatever follows
-pub past-end : {l m : List ℕ} {i j : ℕ} (t : List ℕ) (k : ℕ) → length l < j → Wrote l m i j (take k t) → Wrote l m i j t
-past-end {l} {m} {i} {j} t k h x =
-    let n : length (take k t) + length (drop k t) ≡ length t = sym (length-append (take k t) (drop k t)) ∙ ap length (take-append-drop k t) in
-    let p : j ≡ i + min (length (take k t)) (length l + 1 - i) = x .place in
-    record {
-      bytes =
-          x .bytes
-          ∙ sym (sets-past (drop k t) (sets l i (take k t)) (i + length (take k t)) (omega (arith, length-sets l i (take k t))))
-          ∙ sets-sets (take k t) (drop k t) l i
-          ∙ ap (sets l i) (take-append-drop k t);
-      place = omega arith;
-    }
 
 -- the answer is not further on than t is long
 pub wrote-within : {l m t : List ℕ} {i j k : ℕ} → Wrote l m i j t → length t ≤ k → j ≤ i + k

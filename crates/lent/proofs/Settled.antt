@@ -11,21 +11,15 @@ use Rattle.settled.proofs.Law.{answer, both}
 place-and-buffer : {U : Type 0} (in-place : List ℕ → U) {l b c t : List ℕ} {i x y : ℕ} → Wrote l b i x t → Wrote l c i y t → _≡_ {A = ℕ × U} (x, in-place b) (y, in-place c)
 place-and-buffer in-place v w = both in-place (v .place, v .bytes) (w .place, w .bytes)
 
--- the lent buffer is the first parameter, of three or of four
+-- the lent buffer is the first parameter of three
 abbrev of-three : List ℕ → List ℕ × (Unit {0} × (Unit {0} × Unit {0}))
 of-three b = (b, (tt, (tt, tt)))
-
-abbrev of-four : List ℕ → List ℕ × (Unit {0} × (Unit {0} × (Unit {0} × Unit {0})))
-of-four b = (b, (tt, (tt, (tt, tt))))
 
 pub put-byte-is-settled : Settled lent.put_byte.ended lent.put_byte.Reads.Post
 put-byte-is-settled κs a x y = place-and-buffer of-three
 
 pub put-bytes-is-settled : Settled lent.put_bytes.ended lent.put_bytes.Reads.Post
 put-bytes-is-settled κs a x y = place-and-buffer of-three
-
-pub put-wide-is-settled : Settled lent.put_wide.ended lent.put_wide.Reads.Post
-put-wide-is-settled κs a x y = place-and-buffer of-four
 
 pub put-decimal-is-settled : Settled lent.put_decimal.ended lent.put_decimal.Reads.Post
 put-decimal-is-settled κs a x y = place-and-buffer of-three

@@ -7,4 +7,3 @@ pub use number::byte_of;
 pub use put::put_byte;
 pub use put::put_bytes;
 pub use put::put_decimal;
-pub use put::put_wide;

@@ -4,9 +4,8 @@ ghost use mathlib.Core.Path.{_≡_};
 ghost use Prim.Native.Nat.{_+_, _≤_};
 ghost use lib.ListN.{length};
 ghost use lib.Seq.{sets};
-ghost use Rattle.lent.specs.Numbers.{decimal, wide};
+ghost use Rattle.lent.specs.Numbers.{decimal};
 ghost use Rattle.lent.specs.Writing.{Wrote};
-use crate::number::byte_of;
 use crate::number::digits;
 
 pub fn put_byte(out: &mut [u8], at: usize, byte: u8) -> usize
@@ -47,23 +46,6 @@ pub fn put_bytes(out: &mut [u8], at: usize, bytes: &[u8]) -> usize
     let mut k = 0;
     while k < bytes.len() {
         let behind = put_byte(out, next, bytes[k]);
-        next = behind;
-        k += 1;
-    }
-    next
-}
-
-// The number in `count` bytes, the most significant first.
-pub fn put_wide(out: &mut [u8], at: usize, count: usize, value: u64) -> usize
-    ensures { λ r. ⌜ Wrote (now (out .entry)) (now (out .exit)) at r (wide count value) ⌝ }
-{
-    let mut next = at;
-    let mut k = 0;
-    while k < count {
-        if next > out.len() {
-            return next;
-        }
-        let behind = put_byte(out, next, byte_of(value, count - 1 - k));
         next = behind;
         k += 1;
     }

@@ -16,9 +16,7 @@ use Rattle.bits.proofs.Bytes.{number-inj, number-lt, number-more, number-shr}
 use Rattle.bits.proofs.Windows.{narrower}
 use Rattle.bits.proofs.Claims.{decoded-then-encoded}
 use Rattle.lent.specs.Numbers.{wide}
-use Rattle.lent.specs.Writing.{Wrote}
 use Rattle.lent.proofs.Wide.{length-wide}
-use Rattle.lent.proofs.Chains.{_then_}
 use Rattle.rows.specs.Runs.Fields.{bytesFor}
 use Rattle.record_bytes.specs.Packed.{cells}
 use Rattle.record_bytes.specs.Unpacked.{cellsAt, numberAt, size}
@@ -53,7 +51,7 @@ length-cells (w ∷ ws) [] e = absurd (omega arith)
 length-cells (w ∷ ws) (v ∷ vs) e =
     length-append (wide (bytesFor w) v) (cells ws vs) ∙ (λ i. length-wide (bytesFor w) v i + length-cells ws vs (omega arith) i)
 
-cells-suc : (ws vs : List ℕ) (k : ℕ) → k < length ws → k < length vs
+pub cells-suc : (ws vs : List ℕ) (k : ℕ) → k < length ws → k < length vs
     → cells (take (suc k) ws) (take (suc k) vs) ≡ cells (take k ws) (take k vs) ++ wide (bytesFor (getD ws k 0)) (getD vs k 0)
 unfolding cells
 cells-suc [] vs k h g = absurd (omega arith)
@@ -63,20 +61,17 @@ cells-suc (w ∷ ws) (v ∷ vs) (suc k) h g =
     ap (λ (t : List ℕ). wide (bytesFor w) v ++ t) (cells-suc ws vs k (omega arith) (omega arith))
     ∙ sym (append-assoc (wide (bytesFor w) v) (cells (take k ws) (take k vs)) (wide (bytesFor (getD ws k 0)) (getD vs k 0)))
 
-pub cell-more : {l m r : List ℕ} {i j n : ℕ} (ws vs : List ℕ) (k : ℕ) → k < length ws → k < length vs → Wrote l m i j (cells (take k ws) (take k vs))
-    → Wrote m r j n (wide (bytesFor (getD ws k 0)) (getD vs k 0)) → Wrote l r i n (cells (take (k + 1) ws) (take (k + 1) vs))
-cell-more ws vs k h g x y = rw (add-one k, cells-suc ws vs k h g) (x then y)
+no-bytes : (l : List ℕ) → length l ≡ 0 → [] ≡ l
+no-bytes [] e = refl
+no-bytes (x ∷ l) e = absurd (omega arith)
 
--- nothing is left where one of the lists ends
-pub cells-end : (ws vs : List ℕ) (k : ℕ) → (k < length ws → k < length vs → ⊥) → cells (take k ws) (take k vs) ≡ cells ws vs
+-- nothing is left where no byte is
+pub cells-end : (ws vs : List ℕ) (k : ℕ) → length ws ≡ length vs → size (drop k ws) ≡ 0 → cells (take k ws) (take k vs) ≡ cells ws vs
 unfolding cells
-cells-end [] vs zero h = refl
-cells-end [] vs (suc k) h = refl
-cells-end (w ∷ ws) [] zero h = refl
-cells-end (w ∷ ws) [] (suc k) h = refl
-cells-end (w ∷ ws) (v ∷ vs) zero h = absurd (h (omega arith) (omega arith))
-cells-end (w ∷ ws) (v ∷ vs) (suc k) h =
-    ap (λ (t : List ℕ). wide (bytesFor w) v ++ t) (cells-end ws vs k (λ a b. h (omega arith) (omega arith)))
+cells-end ws vs zero e h = no-bytes (cells ws vs) (length-cells ws vs e ∙ h)
+cells-end [] vs (suc k) e h = refl
+cells-end (w ∷ ws) [] (suc k) e h = absurd (omega arith)
+cells-end (w ∷ ws) (v ∷ vs) (suc k) e h = ap (λ (t : List ℕ). wide (bytesFor w) v ++ t) (cells-end ws vs k (omega arith) h)
 
 -- what has no bits has no bytes
 no-cells : (n : ℕ) (us : List ℕ) → cells (replicate n 0) us ≡ []
@@ -257,7 +252,7 @@ front-of-eight l k n b h s =
 
 -- ---- and its bytes are given back
 
-wide-bytes : (n v : ℕ) → Bytes (wide n v)
+pub wide-bytes : (n v : ℕ) → Bytes (wide n v)
 wide-bytes zero v i = omega arith
 wide-bytes (suc n) v zero = mod-lt (v / 2 ^ (8 * n)) (omega arith)
 wide-bytes (suc n) v (suc i) = wide-bytes n v i

@@ -1,2 +1,3 @@
+pub mod EightBytes
 pub mod Slots
 pub mod Whole

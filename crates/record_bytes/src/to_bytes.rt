@@ -1,10 +1,12 @@
 // From a record to its bytes, front to back.
 ghost use mathlib.Core.Path.{_≡_};
-ghost use Prim.Native.Nat.{_+_, _≤_};
-ghost use lib.ListN.{length};
+ghost use Prim.Native.Nat.{ℕ, _+_, _≤_};
+ghost use lib.ListN.{length, getD, drop};
 ghost use lib.Seq.{sets};
 ghost use Rattle.lent.specs.Numbers.{wide};
+ghost use Rattle.rows.specs.Runs.Fields.{bytesFor};
 ghost use Rattle.record_bytes.specs.Packed.{headBytes, cells, bodyBytes, slotBytes, slotsBytes, packedInto};
+ghost use Rattle.record_bytes.specs.Unpacked.{size};
 ghost use Rattle.lent.specs.Writing.{Wrote};
 use crate::sizes::FIELDS_SIZE;
 use crate::sizes::RECORD_SIZE;
@@ -13,11 +15,24 @@ use crate::sizes::SLOT_SIZE;
 use crate::sizes::bytes_for;
 use lent::byte_of;
 use lent::put_bytes;
-use lent::put_wide;
 use report::body::Body;
 use report::record::Record;
 use rows::fields::Spares;
 use slots::slot::Slot;
+
+// ---- numbers
+
+// A number in eight bytes, the most significant first, all of which find room.
+fn put_number(out: &mut [u8], at: usize, number: u64)
+    requires { ⌜ at + 8 ≤ length (now out) ⌝ }
+    ensures { λ _. ⌜ now (out .exit) ≡ sets (now (out .entry)) at (wide 8 number) ⌝ }
+{
+    let mut k = 0;
+    while k < 8 {
+        out[at + k] = byte_of(number, 7 - k);
+        k += 1;
+    }
+}
 
 // ---- 0 to 8
 
@@ -45,25 +60,30 @@ fn put_head(out: &mut [u8], r: Record) -> usize
 
 // ---- 9 to 40
 
-// Values one behind the other, each in the bytes that its width asks for. One without a width is left out, and so is
-// a width without a value.
+// Values one behind the other into zeros, each in the bytes that its width asks for, up to the first that has none, behind
+// which none has any. Each is put as eight bytes, and the next one covers those that it has not: eight bytes are one
+// move, and a number of them that varies is a loop.
 fn put_cells(out: &mut [u8], at: usize, widths: &[u8], values: &[u64]) -> usize
-    ensures { λ next. ⌜ Wrote (now (out .entry)) (now (out .exit)) at next (cells (now (widths .entry)) (now (values .entry))) ⌝ }
+    requires { ⌜ (length (now widths) ≡ length (now values)) × (at + size (now widths) + 8 ≤ length (now out)) ⌝ }
+    requires { ⌜ ((i : ℕ) → at ≤ i → getD (now out) i 0 ≡ 0) × ((i : ℕ) → bytesFor (getD (now widths) i 0) ≡ 0 → size (drop i (now widths)) ≡ 0) ⌝ }
+    ensures { λ next. ⌜ (next ≡ at + size (now (widths .entry))) × (now (out .exit) ≡ sets (now (out .entry)) at (cells (now (widths .entry)) (now (values .entry)))) ⌝ }
 {
     let mut next = at;
     let mut k = 0;
     while k < widths.len() {
-        if k >= values.len() {
+        let count = bytes_for(widths[k]);
+        if count == 0 {
             return next;
         }
-        let behind = put_wide(out, next, bytes_for(widths[k]), values[k]);
-        next = behind;
+        put_number(out, next, values[k] << (64 - 8 * count));
+        next += count;
         k += 1;
     }
     next
 }
 
-// The bytes of a body and its spares, and zeros behind them.
+// The bytes of a body and its spares, and zeros behind them. They are put where there are eight bytes more, so that the last
+// value finds room for its eight too.
 pub(crate) fn own_bytes(body: Body, spares: Spares) -> [u8; FIELDS_SIZE]
     ensures { λ r. ⌜ r ≡ bodyBytes body spares ⌝ }
 {
@@ -72,32 +92,22 @@ pub(crate) fn own_bytes(body: Body, spares: Spares) -> [u8; FIELDS_SIZE]
     let front = fields.front;
     let after = fields.after;
     let behind = fields.behind;
+    let mut put = [0u8; 40];
+    let middle = put_cells(&mut put, 0, &ahead, &front);
+    put_cells(&mut put, middle, &after, &behind);
     let mut own = [0u8; FIELDS_SIZE];
-    let middle = put_cells(&mut own, 0, &ahead, &front);
-    put_cells(&mut own, middle, &after, &behind);
+    put_bytes(&mut own, 0, &put[..FIELDS_SIZE]);
     own
 }
 
 // ---- 41 to 232
-
-// A place in eight bytes, the most significant first, all of which find room.
-fn put_place(out: &mut [u8], at: usize, place: u64)
-    requires { ⌜ at + 8 ≤ length (now out) ⌝ }
-    ensures { λ _. ⌜ now (out .exit) ≡ sets (now (out .entry)) at (wide 8 place) ⌝ }
-{
-    let mut k = 0;
-    while k < 8 {
-        out[at + k] = byte_of(place, 7 - k);
-        k += 1;
-    }
-}
 
 // The place goes first: behind the four bytes in front of it the compiler would put its bytes one by one.
 fn put_slot(out: &mut [u8], at: usize, s: Slot)
     requires { ⌜ at + 12 ≤ length (now out) ⌝ }
     ensures { λ _. ⌜ now (out .exit) ≡ sets (now (out .entry)) at (slotBytes s) ⌝ }
 {
-    put_place(out, at + 4, s.place);
+    put_number(out, at + 4, s.place);
     put_bytes(out, at, &[s.day, s.hour, s.minute, s.strength]);
 }
 

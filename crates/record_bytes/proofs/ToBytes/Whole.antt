@@ -1,25 +1,30 @@
 -- The parts of a packed record, one behind the other.
-use mathlib.Core.Path.{_≡_, sym, ap, _∙_}
+use mathlib.Core.Path.{_≡_, refl, sym, ap, subst⁻¹, _∙_}
 use Prim.Native.Nat.{ℕ, zero, suc, _+_, _-_, _≤_}
 use native.Mathlib.Omega.{arith}
-use mathlib.Core.List.{List, _++_}
-use lib.ListN.{length, drop, length-append, length-map, length-replicate, replicate}
-use lib.Seq.{sets, sets-eq}
-use borrow.Author.Tests.{eq-eqb, ne-eqb}
+use mathlib.Core.Bool.{Bool, true, _&&_}
+use mathlib.Core.List.{List, [], _∷_, _++_}
+use lib.Dec.{ltb}
+use lib.ListN.{length, getD, set, take, drop, length-append, length-map, length-replicate, replicate}
+use lib.Seq.{length-sets, sets, sets-eq, take-set-lt}
+use borrow.Author.Tests.{eq-eqb, ne-eqb, ltb-true}
 use Rattle.rows.specs.declared.fields.Fields.{Fields}
 use Rattle.rows.specs.declared.fields.Spares.{Spares}
+use Rattle.rows.specs.Layout.{Layout, Row}
 use Rattle.rows.specs.Values.{widths}
-use Rattle.rows.specs.Runs.Fields.{fieldsIn}
+use Rattle.rows.specs.Runs.Fields.{bytesFor, fieldsIn}
 use Rattle.report.specs.declared.record.Record.{Record}
 use Rattle.report.specs.declared.body.Body.{Body}
 use Rattle.report.specs.Categories.{layout, sidesOf}
-use Rattle.report.proofs.Categories.{sides-filled}
+use Rattle.rows.proofs.Rules.Outcomes.{and-both}
+use Rattle.report.proofs.Categories.{all, layouts, listed, sides-filled}
 use Rattle.record_bytes.specs.Packed.{bodyBytes, cells, headBytes, packed, packedInto, sidesBytes, slotsBytes, zeroFilled}
 use Rattle.record_bytes.specs.Unpacked.{size}
 use Rattle.lent.specs.Writing.{Wrote}
-use Rattle.lent.proofs.Chains.{_then_, whole, wrote-length, wrote-within}
-use Rattle.record_bytes.proofs.Cells.{cells-padded, length-cells}
-use Rattle.record_bytes.proofs.FromBytes.Read.{fields-fit}
+use Rattle.lent.proofs.Chains.{_then_, sets-sets, whole, wrote-length, wrote-within}
+use Rattle.record_bytes.proofs.Cells.{cells-padded, length-cells, size-padded}
+use Rattle.record_bytes.proofs.FromBytes.Read.{fields-fit, room}
+use Rattle.record_bytes.proofs.ToBytes.EightBytes.{ZerosFrom, all-zeros, zeros-left}
 use Rattle.record_bytes.proofs.ToBytes.Slots.{length-slots}
 
 -- the bytes of a body: those of its fields, and zeros
@@ -44,29 +49,76 @@ length-body b z =
     whole-of n h = omega arith
 
 -- what is put into 32 zeros
-zeros-left : (n k : ℕ) → _≡_ {A = List ℕ} (drop k (replicate n 0)) (replicate (n - k) 0)
-zeros-left n zero = let same : n ≡ n - 0 = omega arith in ap (λ (m : ℕ). replicate m 0) same
-zeros-left zero (suc k) = let same : 0 ≡ 0 - suc k = omega arith in ap (λ (m : ℕ). replicate m 0) same
-zeros-left (suc n) (suc k) = let same : n - k ≡ suc n - suc k = omega arith in zeros-left n k ∙ ap (λ (m : ℕ). replicate m 0) same
+zeros-dropped : (n k : ℕ) → _≡_ {A = List ℕ} (drop k (replicate n 0)) (replicate (n - k) 0)
+zeros-dropped n zero = let same : n ≡ n - 0 = omega arith in ap (λ (m : ℕ). replicate m 0) same
+zeros-dropped zero (suc k) = let same : 0 ≡ 0 - suc k = omega arith in ap (λ (m : ℕ). replicate m 0) same
+zeros-dropped (suc n) (suc k) = let same : n - k ≡ suc n - suc k = omega arith in zeros-dropped n k ∙ ap (λ (m : ℕ). replicate m 0) same
 
 put-into-zeros : (t : List ℕ) → length t ≤ 32 → sets (replicate 32 0) 0 t ≡ zeroFilled 32 t
 put-into-zeros t h =
     let at : 0 + length t ≡ length t = omega arith in
-    sets-eq t (replicate 32 0) 0 (omega (arith, h)) ∙ ap (λ (n : ℕ). t ++ drop n (replicate 32 0)) at ∙ ap (λ (z : List ℕ). t ++ z) (zeros-left 32 (length t))
+    sets-eq t (replicate 32 0) 0 (omega (arith, h)) ∙ ap (λ (n : ℕ). t ++ drop n (replicate 32 0)) at ∙ ap (λ (z : List ℕ). t ++ z) (zeros-dropped 32 (length t))
 
--- the fields as code hands them on have zeros behind them, which leave no byte
-pub own-put : (b : Body) (z : Spares) (v : Fields) (out : List ℕ) (middle end : ℕ) (mid : List ℕ) → v ≡ fieldsIn (layout b) (sidesOf b z)
-    → Wrote (replicate 32 0) mid 0 middle (cells (v .ahead) (v .front)) → Wrote mid out middle end (cells (v .after) (v .behind)) → out ≡ bodyBytes b z
-own-put b z v out middle end mid e x y =
-    let l = layout b in
-    let s = sidesOf b z in
-    let filled = sides-filled b z in
-    let bytes : cells (v .ahead) (v .front) ++ cells (v .after) (v .behind) ≡ sidesBytes l s =
-    ap (λ (f : Fields). cells (f .ahead) (f .front) ++ cells (f .after) (f .behind)) e
-    ∙ (λ i. cells-padded (widths (l .front)) (s .front) (replicate (18 - length (s .front)) 0) (18 - length (widths (l .front))) (length-map (l .front) (λ r. r .width) ∙ sym (filled .0)) i
-    ++ cells-padded (widths (l .behind)) (s .behind) (replicate (3 - length (s .behind)) 0) (3 - length (widths (l .behind))) (length-map (l .behind) (λ r. r .width) ∙ sym (filled .1)) i)
-    in
-    (x then y) .bytes ∙ ap (sets (replicate 32 0) 0) bytes ∙ put-into-zeros (sidesBytes l s) (sides-fit b z)
+take-sets : (t l : List ℕ) (i n : ℕ) → i + length t ≤ n → take n (sets l i t) ≡ sets (take n l) i t
+take-sets [] l i n h = refl
+take-sets (v ∷ t) l i n h = take-sets t (set l i v) (suc i) n (omega arith) ∙ ap (λ (m : List ℕ). sets m (suc i) t) (take-set-lt n l i v (omega arith))
+
+-- computed of all tables: there is no field without bytes in front of another
+abbrev noGap : List Row → Bool
+noGap [] = true
+noGap (r ∷ rs) = ltb 0 (bytesFor (r .width)) && noGap rs
+
+abbrev noGaps : Layout → Bool
+noGaps l = noGap (l .front) && noGap (l .behind)
+
+all-without-gaps : all noGaps layouts ≡ true
+all-without-gaps = refl
+
+-- behind a width without bytes there is none
+abbrev Ends : List ℕ → Type 0
+Ends ws = (i : ℕ) → bytesFor (getD ws i 0) ≡ 0 → size (drop i ws) ≡ 0
+
+ends-padded : (rs : List Row) (n : ℕ) → noGap rs ≡ true → Ends (widths rs ++ replicate n 0)
+ends-padded [] n g i e = ap size (zeros-dropped n i) ∙ size-padded [] (n - i)
+ends-padded (r ∷ rs) n g zero e = absurd (omega (arith, ltb-true 0 (bytesFor (r .width)) (and-both (ltb 0 (bytesFor (r .width))) (noGap rs) g .0)))
+ends-padded (r ∷ rs) n g (suc i) e = ends-padded rs n (and-both (ltb 0 (bytesFor (r .width))) (noGap rs) g .1) i e
+
+-- the bytes of fields as code hands them on, which have zeros behind them
+module _ (b : Body) (z : Spares) (v : Fields) (e : v ≡ fieldsIn (layout b) (sidesOf b z)) where
+  pub ends : Ends (v .ahead) × Ends (v .after)
+  ends =
+      let l = layout b in
+      let g = and-both (noGap (l .front)) (noGap (l .behind)) (listed noGaps all-without-gaps b) in
+      subst⁻¹ (λ (f : Fields). Ends (f .ahead) × Ends (f .after)) e (ends-padded (l .front) (18 - length (widths (l .front))) (g .0), ends-padded (l .behind) (3 - length (widths (l .behind))) (g .1))
+
+  own-cells : cells (v .ahead) (v .front) ++ cells (v .after) (v .behind) ≡ sidesBytes (layout b) (sidesOf b z)
+  own-cells =
+      let l = layout b in
+      let s = sidesOf b z in
+      let filled = sides-filled b z in
+      ap (λ (f : Fields). cells (f .ahead) (f .front) ++ cells (f .after) (f .behind)) e
+      ∙ (λ i. cells-padded (widths (l .front)) (s .front) (replicate (18 - length (s .front)) 0) (18 - length (widths (l .front))) (length-map (l .front) (λ r. r .width) ∙ sym (filled .0)) i
+      ++ cells-padded (widths (l .behind)) (s .behind) (replicate (3 - length (s .behind)) 0) (3 - length (widths (l .behind))) (length-map (l .behind) (λ r. r .width) ∙ sym (filled .1)) i)
+
+  -- put into zeros, of which there are eight more than are looked at
+  module _ (mid : List ℕ) (middle : ℕ) (n : length (v .ahead) ≡ length (v .front)) (x : mid ≡ sets (replicate 40 0) 0 (cells (v .ahead) (v .front))) (p : middle ≡ 0 + size (v .ahead)) where
+    place : middle ≡ 0 + length (cells (v .ahead) (v .front))
+    place = omega (arith, length-cells (v .ahead) (v .front) n)
+
+    pub room-behind : (middle + size (v .after) + 8 ≤ length mid) × ZerosFrom middle mid
+    room-behind =
+        let first : List ℕ = cells (v .ahead) (v .front) in
+        let zeros : ZerosFrom (0 + length first) (sets (replicate 40 0) 0 first) = zeros-left first (replicate 40 0) 0 (λ i h. all-zeros 40 i) in
+        (omega (arith, room b z v e, ap length x, length-sets (replicate 40 0) 0 first), λ i h. ap (λ (l : List ℕ). getD l i 0) x ∙ zeros i (omega (arith, place)))
+
+    pub own-put : (out : List ℕ) → out ≡ sets mid middle (cells (v .after) (v .behind)) → take 32 out ≡ bodyBytes b z
+    own-put out y =
+        let t : List ℕ = sidesBytes (layout b) (sidesOf b z) in
+        let first : List ℕ = cells (v .ahead) (v .front) in
+        let second : List ℕ = cells (v .after) (v .behind) in
+        ap (take 32) (y ∙ (λ i. sets (x i) (place i) second) ∙ sets-sets first second (replicate 40 0) 0 ∙ ap (sets (replicate 40 0) 0) own-cells)
+        ∙ take-sets t (replicate 40 0) 0 32 (omega (arith, sides-fit b z))
+        ∙ put-into-zeros t (sides-fit b z)
 
 module _ (r : Record) where
   -- bytes 0 to 40, and 0 to 232

@@ -16,7 +16,7 @@ returns c =
     let a = place .before .before .before .args in
     let four : List ℕ = a .s .day ∷ a .s .hour ∷ a .s .minute ∷ a .s .strength ∷ [] in
     front .put-bytes .ensures .bytes
-    ∙ ap (λ (l : List ℕ). sets l (a .at) four) (place .put-place .ensures)
+    ∙ ap (λ (l : List ℕ). sets l (a .at) four) (place .put-number .ensures)
     ∙ sets-before four (wide 8 (a .s .place)) (a .out .now) (a .at)
 
 pub put-slot-spec : {M : Type 1} → statement M

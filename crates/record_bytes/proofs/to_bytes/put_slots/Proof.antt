@@ -1,5 +1,5 @@
 -- `record_bytes::to_bytes::put_slots` meets its contract: the slots passed are in their places.
-use mathlib.Core.Path.{_≡_, refl, ap, _∙_}
+use mathlib.Core.Path.{_≡_, refl, _∙_}
 use Prim.Native.Nat.{_-_, _≤_}
 use native.Mathlib.Omega.{arith}
 use lib.ListN.{length, take}
