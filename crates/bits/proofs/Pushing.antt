@@ -7,11 +7,11 @@ use native.Mathlib.Omega.{arith}
 use lib.Arith.{digits-lt}
 use lib.Bits.{bitOr, or-shifted}
 use lib.ListN.{length, replicate, getD, drop, drop-of-length-le}
-use lib.Pow.{pow-mono, pow-add, pow-pos, mod-pow-add, mod-mod-pow, field, shl-shr, shr-lt, shr-shr, split, high}
+use lib.Pow.{pow-mono, pow-add, pow-pos, mod-pow-add, mod-mod-pow, field, shl-shr, shr-lt, shr-shr, split, high, low}
 use borrow.Author.Tests.{eq-eqb, ne-eqb}
 use native.Mathlib.Numerals.{add-one}
 use lib.Seq.{drop-cons}
-use Rattle.bits.proofs.Layouts.{encode-lt}
+use Rattle.bits.proofs.Layouts.{encode-behind, encode-lt}
 use Rattle.bits.specs.declared.words.Words.{Words}
 use Rattle.bits.specs.Layout.{total, encode, Fit}
 use Rattle.bits.specs.Words.{moved, pushed, pushedAll, pushedUntil, valueOf, wordsOf}
@@ -119,20 +119,18 @@ Fieldlike (w ∷ ws) = ((0 < w) × (w ≤ 57)) × Fieldlike ws
 all-count : (w : ℕ) → w ≤ 57 → w % 64 ≡ w
 all-count w h = mod-eq-of-lt (omega arith)
 
-pushed-moved : (x : Words) (w v : ℕ) → 0 < w → w ≤ 57 → pushed x w v ≡ moved x w v
+-- one field, of up to 63 bits
+held-pushed : (x : Words) (n w v : ℕ) → 0 < w → w < 64 → v < 2 ^ w → Held x n → Held (pushed x w v) (n * 2 ^ w + v)
 unfolding pushed
-pushed-moved x w v p h = rw (all-count w h, ne-eqb w 0 (λ z. omega arith))
+held-pushed x n w v p h f s = rw (mod-eq-of-lt h, ne-eqb w 0 (λ z. omega arith)) (held-moved x n w v h f s)
 
 pub held-all : (ws vs : List ℕ) (x : Words) (n : ℕ) → Fieldlike ws → Fit ws vs → Held x n → Held (pushedAll x ws vs) (n * 2 ^ total ws + encode ws vs)
 held-all [] [] x n h f s = let e : n ≡ n * 1 + 0 = omega arith in subst (Held x) e s
 held-all [] (v ∷ vs) x n h f s = absurd f
 held-all (w ∷ ws) [] x n h f s = absurd f
 held-all (w ∷ ws) (v ∷ vs) x n h f s =
-    let e : (n * 2 ^ w + v) * 2 ^ total ws + encode ws vs ≡ n * 2 ^ (w + total ws) + (v * 2 ^ total ws + encode ws vs) =
-    rw (pow-add 2 w (total ws), ← mul-assoc n (2 ^ w) (2 ^ total ws), add-mul (n * 2 ^ w) v (2 ^ total ws)) (omega arith)
-    in
-    let t : Held (pushed x w v) (n * 2 ^ w + v) = subst (λ (y : Words). Held y (n * 2 ^ w + v)) (sym (pushed-moved x w v (h .0 .0) (h .0 .1))) (held-moved x n w v (omega (arith, h .0 .1)) (f .0) s) in
-    subst (Held (pushedAll (pushed x w v) ws vs)) e (held-all ws vs (pushed x w v) (n * 2 ^ w + v) (h .1) (f .1) t)
+    let t = held-pushed x n w v (h .0 .0) (omega (arith, h .0 .1)) (f .0) s in
+    subst (Held (pushedAll (pushed x w v) ws vs)) (encode-behind n w v ws vs) (held-all ws vs (pushed x w v) (n * 2 ^ w + v) (h .1) (f .1) t)
 
 -- they are pushed piece by piece
 pub pushed-append : (x : Words) (ws vs xs us : List ℕ) → length ws ≡ length vs → pushedAll x (ws ++ xs) (vs ++ us) ≡ pushedAll (pushedAll x ws vs) xs us
@@ -141,11 +139,7 @@ pushed-append x [] (v ∷ vs) xs us e = absurd (suc-ne-zero (length vs) (sym e))
 pushed-append x (w ∷ ws) [] xs us e = absurd (suc-ne-zero (length ws) e)
 pushed-append x (w ∷ ws) (v ∷ vs) xs us e = pushed-append (pushed x w v) ws vs xs us (suc-inj e)
 
--- a field without bits leaves the words as they are
-pub pushed-none : (x : Words) (v : ℕ) → pushed x 0 v ≡ x
-unfolding pushed
-pushed-none x v = refl
-
+-- fields without bits behind them leave the words as they are
 pub until-padded : (x : Words) (ws vs us : List ℕ) (k : ℕ) → length ws ≡ length vs → Fieldlike ws → pushedUntil x (ws ++ replicate k 0) (vs ++ us) ≡ pushedAll x ws vs
 unfolding pushedUntil
 until-padded x [] [] us zero e h = refl
@@ -155,6 +149,33 @@ until-padded x [] (v ∷ vs) us k e h = absurd (suc-ne-zero (length vs) (sym e))
 until-padded x (w ∷ ws) [] us k e h = absurd (suc-ne-zero (length ws) e)
 until-padded x (w ∷ ws) (v ∷ vs) us k e h =
     rw (all-count w (h .0 .1), ne-eqb w 0 (λ z. omega (arith, h .0 .0))) (until-padded (pushed x w v) ws vs us k (suc-inj e) (h .1))
+
+-- ---- fields as one
+
+-- a number tells its last word, and what stands in front of it
+same-word : (o p : ℕ) {x y : ℕ} → x < 2 ^ 64 → y < 2 ^ 64 → o * 2 ^ 64 + x ≡ p * 2 ^ 64 + y → (o ≡ p) × (x ≡ y)
+same-word o p h l e =
+    (sym (high o 64 h) ∙ ap (λ (n : ℕ). n / 2 ^ 64) e ∙ high p 64 l, sym (low o 64 h) ∙ ap (λ (n : ℕ). n % 2 ^ 64) e ∙ low p 64 l)
+
+-- so it tells the words that hold it
+held-same : (x y : Words) (n : ℕ) → Held x n → Held y n → x ≡ y
+held-same x y n s t =
+    let fourth = same-word _ _ (s .last) (t .last) (sym (s .is) ∙ t .is) in
+    let third = same-word _ _ (s .third) (t .third) (fourth .0) in
+    let second = same-word _ _ (s .second) (t .second) (third .0) in
+    let first = same-word (s .lost) (t .lost) (s .first) (t .first) (second .0) in
+    λ i. record { first = first .1 i; second = second .1 i; third = third .1 i; last = fourth .1 i }
+
+-- fields of fewer than 64 bits in all may be pushed as one, by the number that they make
+pub pushed-as-one : (ws vs : List ℕ) (x : Words) (n : ℕ) → Fieldlike ws → Fit ws vs → total ws < 64 → Held x n → pushed x (total ws) (encode ws vs) ≡ pushedAll x ws vs
+unfolding pushed
+pushed-as-one [] [] x n h f l s = refl
+pushed-as-one [] (v ∷ vs) x n h f l s = absurd f
+pushed-as-one (w ∷ ws) [] x n h f l s = absurd f
+pushed-as-one (w ∷ ws) (v ∷ vs) x n h f l s =
+    held-same _ _ (n * 2 ^ total (w ∷ ws) + encode (w ∷ ws) (v ∷ vs))
+    (held-pushed x n (total (w ∷ ws)) (encode (w ∷ ws) (v ∷ vs)) (omega (arith, h .0 .0)) l (encode-lt (w ∷ ws) (v ∷ vs) f) s)
+    (held-all (w ∷ ws) (v ∷ vs) x n h f s)
 
 -- ---- all 256 bits
 

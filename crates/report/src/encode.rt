@@ -1,11 +1,11 @@
 // A record as bits: fields one behind the other, and the parity behind them.
 // Nothing is refused here; what may be written is asked before.
 ghost use mathlib.Core.Path.{_≡_};
-ghost use Rattle.report.specs.Runs.Writing.{Valid, bodyPushed, frame, frontValues, frontWidths, known};
+ghost use Rattle.report.specs.Runs.Writing.{Valid, bodyPushed, frame, frontValues, frontWidths};
 ghost use Rattle.bits.specs.Frame.{bytesOf};
 ghost use Rattle.bits.specs.Words.{pushedAll, pushedUntil, wordsOf};
 ghost use Rattle.rows.specs.Layout.{common, noCategory};
-ghost use mathlib.Core.Bool.{cond, true};
+ghost use mathlib.Core.Bool.{cond};
 ghost use Rattle.rows.specs.Values.{headValues, widths};
 ghost use Rattle.report.specs.Categories.{layout, sidesOf};
 ghost use Rattle.rows.specs.Runs.Fields.{fieldsIn};
@@ -72,9 +72,9 @@ fn push_body(n: Words, fields: Fields, slots: [Slot; 16], text: [u8; 18]) -> Wor
     push_after(page, after, behind)
 }
 
-// Bits 0 to 225 of a record, whose fields these are.
+// Bits 0 to 225 of a valid record, whose fields these are.
 fn front(r: Record, fields: Fields) -> Words
-    requires { ⌜ (known (r .body) ≡ true) × (fields ≡ fieldsIn (layout (r .body)) (sidesOf (r .body) (r .spares))) ⌝ }
+    requires { ⌜ Valid r × (fields ≡ fieldsIn (layout (r .body)) (sidesOf (r .body) (r .spares))) ⌝ }
     ensures { λ n. ⌜ n ≡ pushedAll (wordsOf 0) (frontWidths (layout (r .body))) (frontValues r) ⌝ }
 {
     let common = r.common;

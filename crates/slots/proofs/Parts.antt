@@ -1,19 +1,18 @@
 -- Which of its fields a slot has in a category: its values are those fields, and what is not among them is zero.
 use mathlib.Core.Bool.{Bool, _&&_, cond, false, true}
-use Rattle.bits.proofs.Pushing.{Fieldlike, pushed-none}
+use Rattle.bits.proofs.Pushing.{Fieldlike}
 use mathlib.Core.List.{List, [], _∷_}
-use Prim.Native.Nat.{suc, ℕ}
+use Prim.Native.Nat.{_*_, _+_, _^_, suc, ℕ}
 use mathlib.Core.Path.{_≡_, _∙_, ap, ap₂, refl, sym}
 use Rattle.rows.proofs.Rules.Outcomes.{and-both}
 use native.Mathlib.Omega.{arith}
 use Rattle.rows.specs.Runs.Verdict.{empty}
-use lib.Dec.{eqb, leb, ltb}
+use lib.Dec.{eqb, leb, lit<, ltb}
 use borrow.Author.Tests.{eqb-true, leb-true, ltb-true, ne-eqb}
-use Rattle.bits.specs.declared.words.Words.{Words}
-use Rattle.bits.specs.Words.{pushed, pushedAll}
+use Rattle.bits.specs.Layout.{encode, Fit, total}
 use lib.ListN.{length}
 use Rattle.slots.specs.Slots.{sift, vacant}
-use native.Mathlib.Nat.{suc-inj, suc-ne-zero}
+use native.Mathlib.Nat.{suc-inj, suc-ne-zero, zero-add}
 use Rattle.rows.specs.Values.{spread}
 
 -- ---- flags and values
@@ -90,11 +89,30 @@ vacant-again (true ∷ bs) [] (v ∷ vs) l m h = absurd (suc-ne-zero (trues bs) 
 vacant-again (true ∷ bs) (w ∷ ws) (v ∷ vs) l m h =
     ap (λ (y : List ℕ). v ∷ y) (vacant-again bs ws vs (suc-inj l) (suc-inj m) (and-both (cond (eqb w 0) (eqb v 0) true) (vacant (spread bs ws) vs) h .1))
 
--- fields without bits are passed over where values are pushed
-pub spread-pushed : (x : Words) (bs : List Bool) (ws vs : List ℕ) → length ws ≡ trues bs → length vs ≡ length bs → pushedAll x (spread bs ws) vs ≡ pushedAll x ws (sift bs vs)
-spread-pushed x [] [] vs l m = refl
-spread-pushed x [] (w ∷ ws) vs l m = absurd (suc-ne-zero (length ws) l)
-spread-pushed x (b ∷ bs) ws [] l m = absurd (suc-ne-zero (length bs) (sym m))
-spread-pushed x (false ∷ bs) ws (v ∷ vs) l m = ap (λ (y : Words). pushedAll y (spread bs ws) vs) (pushed-none x v) ∙ spread-pushed x bs ws vs l (suc-inj m)
-spread-pushed x (true ∷ bs) [] (v ∷ vs) l m = absurd (suc-ne-zero (trues bs) (sym l))
-spread-pushed x (true ∷ bs) (w ∷ ws) (v ∷ vs) l m = spread-pushed (pushed x w v) bs ws vs (suc-inj l) (suc-inj m)
+-- ---- fields without bits, and with nothing in them, make no difference to a layout
+
+pub spread-total : (bs : List Bool) (ws : List ℕ) → length ws ≡ trues bs → total (spread bs ws) ≡ total ws
+spread-total [] [] l = refl
+spread-total [] (w ∷ ws) l = absurd (suc-ne-zero (length ws) l)
+spread-total (false ∷ bs) ws l = zero-add (total (spread bs ws)) ∙ spread-total bs ws l
+spread-total (true ∷ bs) [] l = absurd (suc-ne-zero (trues bs) (sym l))
+spread-total (true ∷ bs) (w ∷ ws) l = ap (λ (n : ℕ). w + n) (spread-total bs ws (suc-inj l))
+
+pub spread-fit : (bs : List Bool) (ws vs : List ℕ) → length ws ≡ trues bs → Fit ws vs → Fit (spread bs ws) (spread bs vs)
+spread-fit [] ws vs l f = tt
+spread-fit (false ∷ bs) ws vs l f = (lit< tt, spread-fit bs ws vs l f)
+spread-fit (true ∷ bs) [] vs l f = absurd (suc-ne-zero (trues bs) (sym l))
+spread-fit (true ∷ bs) (w ∷ ws) [] l f = absurd f
+spread-fit (true ∷ bs) (w ∷ ws) (v ∷ vs) l f = (f .0, spread-fit bs ws vs (suc-inj l) (f .1))
+
+pub spread-encode : (bs : List Bool) (ws vs : List ℕ) → length ws ≡ trues bs → Fit ws vs → encode (spread bs ws) (spread bs vs) ≡ encode ws vs
+spread-encode [] [] vs l f = refl
+spread-encode [] (w ∷ ws) vs l f = absurd (suc-ne-zero (length ws) l)
+spread-encode (false ∷ bs) ws vs l f = zero-mul-add (2 ^ total (spread bs ws)) (encode (spread bs ws) (spread bs vs)) ∙ spread-encode bs ws vs l f
+  where
+    zero-mul-add : (m n : ℕ) → 0 * m + n ≡ n
+    zero-mul-add m n = omega arith
+spread-encode (true ∷ bs) [] vs l f = absurd (suc-ne-zero (trues bs) (sym l))
+spread-encode (true ∷ bs) (w ∷ ws) [] l f = absurd f
+spread-encode (true ∷ bs) (w ∷ ws) (v ∷ vs) l f =
+    ap₂ (λ (n m : ℕ). v * 2 ^ n + m) (spread-total bs ws (suc-inj l)) (spread-encode bs ws vs (suc-inj l) (f .1))

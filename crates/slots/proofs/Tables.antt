@@ -14,8 +14,8 @@ use Rattle.rows.specs.Values.{cut, each, widths, flags, partWidths, spread}
 use lib.ListN.{drop, getD, length, length-append, length-map, length-replicate, replicate, take, List·getD-append}
 use Rattle.rows.specs.Runs.Verdict.{empty}
 use Rattle.rows.proofs.Rules.JudgedSlots.{empty-is}
-use lib.Dec.{eqb, leb}
-use borrow.Author.Tests.{eqb-true, leb-true}
+use lib.Dec.{eqb, leb, ltb}
+use borrow.Author.Tests.{eqb-true, leb-true, ltb-true}
 use Rattle.slots.specs.Slots.{noSlot, partsFrom, sift, slotFrom, slotOf, slotParts, slotValues, slotsOf, slotsValues, tidySlots, vacant}
 use lib.Seq.{length-take-le, take-at}
 use native.Mathlib.Nat.{suc-inj, suc-ne-zero}
@@ -23,16 +23,18 @@ use Rattle.bits.specs.Layout.{total}
 
 -- ---- what is computed
 
--- a row for each field that a slot has, each at least one bit wide, side by side in the slot's bits, and at most sixteen slots
+-- a row for each field that a slot has, each at least one bit wide, side by side in the slot's bits, which one word takes, and at
+-- most sixteen slots
 abbrev pub suited : Slots → Bool
 suited k =
     eqb (length (k .rows)) (trues (flags (k .parts)))
-    && (allWide (widths (k .rows)) && (eqb (total (widths (k .rows))) (k .bits) && leb (k .count) 16))
+    && (allWide (widths (k .rows)) && (eqb (total (widths (k .rows))) (k .bits) && (ltb (k .bits) 64 && leb (k .count) 16)))
 
 pub record Suited (k : Slots) : Type 0 where
   pub matched : length (k .rows) ≡ trues (flags (k .parts))
   pub wide : allWide (widths (k .rows)) ≡ true
   pub bits : total (widths (k .rows)) ≡ k .bits
+  pub narrow : k .bits < 64
   pub few : k .count ≤ 16
 
 pub is-suited : (k : Slots) → suited k ≡ true → Suited k
@@ -40,7 +42,8 @@ is-suited k h =
     let p = and-both (eqb (length (k .rows)) (trues (flags (k .parts)))) _ h in
     let q = and-both (allWide (widths (k .rows))) _ (p .1) in
     let r = and-both (eqb (total (widths (k .rows))) (k .bits)) _ (q .1) in
-    record { matched = eqb-true _ _ (p .0); wide = q .0; bits = eqb-true _ _ (r .0); few = leb-true _ 16 (r .1) }
+    let n = and-both (ltb (k .bits) 64) _ (r .1) in
+    record { matched = eqb-true _ _ (p .0); wide = q .0; bits = eqb-true _ _ (r .0); narrow = ltb-true _ 64 (n .0); few = leb-true _ 16 (n .1) }
 
 -- ---- one slot
 
@@ -71,7 +74,7 @@ module _ (k : Slots) (t : Suited k) where
   pub same-silence : (s : List ℕ) (at : ℕ) → empty (slotParts (slotOf k s at)) ≡ empty (map (cut s) (slotRows k at))
   same-silence s at = ap empty (made _) ∙ empty-spread (flags (k .parts)) _ (enough s at)
 
-  widths-matched : length (widths (k .rows)) ≡ trues (flags (k .parts))
+  pub widths-matched : length (widths (k .rows)) ≡ trues (flags (k .parts))
   widths-matched = length-map (k .rows) (λ r. r .width) ∙ t .matched
 
   slot-tidy : (s : List ℕ) (at : ℕ) → vacant (partWidths k) (slotParts (slotOf k s at)) ≡ true

@@ -5,10 +5,11 @@ use mathlib.Core.List.{List, [], _∷_}
 use Rattle.slots.specs.declared.run.Run.{Run}
 use Rattle.slots.specs.declared.slot.Slot.{Slot}
 use Rattle.rows.specs.declared.refusal.Verdict.{Verdict}
-use Prim.Native.Nat.{ℕ}
+use Prim.Native.Nat.{ℕ, _+_, _*_, _%_, _^_}
 use Rattle.rows.specs.Runs.Questions.{_then_, unless}
 use Rattle.bits.specs.declared.words.Words.{Words}
 use Rattle.bits.specs.Words.{pushed}
+use lib.Bits.{bitOr}
 use lib.Dec.{ltb}
 use lib.ListN.{getD, replicate}
 
@@ -18,10 +19,18 @@ laterRun run at isEmpty fields =
     cond isEmpty (record { verdict = run .verdict; gap = true })
     (record { verdict = run .verdict then unless (not (run .gap)) (Gap at) then fields; gap = run .gap })
 
--- a slot's fields behind what stands, each in its width
+-- a number of 64 bits with a field behind it: up to 63 bits of its width count
+abbrev pub followed : ℕ → ℕ → ℕ → ℕ
+followed n w v = bitOr (n * 2 ^ (w % 64) % 2 ^ 64) v
+
+-- a slot's fields as one number, each in its width, the first in front
+unfoldable pub slotNumber : List ℕ → Slot → ℕ
+slotNumber ws s =
+    followed (followed (followed (followed (s .day) (getD ws 1 0) (s .hour)) (getD ws 2 0) (s .minute)) (getD ws 3 0) (s .strength)) (getD ws 4 0) (s .place)
+
+-- that number behind what stands, in the bits of all five
 unfoldable pub slotPushed : Words → List ℕ → Slot → Words
-slotPushed x ws s =
-    pushed (pushed (pushed (pushed (pushed x (getD ws 0 0) (s .day)) (getD ws 1 0) (s .hour)) (getD ws 2 0) (s .minute)) (getD ws 3 0) (s .strength)) (getD ws 4 0) (s .place)
+slotPushed x ws s = pushed x (getD ws 0 0 + getD ws 1 0 + getD ws 2 0 + getD ws 3 0 + getD ws 4 0) (slotNumber ws s)
 
 -- slots, one behind the other
 unfoldable pub slotsPushed : Words → List ℕ → List Slot → Words

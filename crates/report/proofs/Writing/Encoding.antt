@@ -6,21 +6,22 @@ use Rattle.bits.proofs.Pushing.{Held, held-all, held-none, held-whole, pushed-a
 use Rattle.bits.specs.declared.words.Words.{Words}
 use Rattle.bits.specs.Words.{pushed, pushedAll, pushedUntil, valueOf, wordsOf}
 use Rattle.bits.proofs.Bytes.{number-bytesOf}
-use Rattle.rows.specs.Layout.{Layout, Row, common, ending, noCategory, slotsRows}
+use Rattle.rows.specs.Layout.{Layout, Row, allRows, common, ending, noCategory, slotsRows}
 use mathlib.Core.List.{List, [], _++_, map-append, _∷_}
 use Rattle.report.specs.declared.record.Record.{Record}
 use Rattle.report.proofs.Shaped.{Shaped, record-filled}
-use Rattle.report.specs.Runs.Writing.{front, Valid, bodyPushed, frame, frontValues, frontWidths, known, writeAnswer}
+use Rattle.report.specs.Runs.Writing.{front, Valid, bodyPushed, frame, frontValues, frontWidths, known, tidy, writeAnswer}
 use Prim.Native.Nat.{_%_, _*_, _+_, _-_, _/_, _<_, _^_, _≤_, ℕ}
 use mathlib.Core.Path.{_∙_, _≡_, ap, ap₂, refl, subst, sym}
 use mathlib.Core.Logic.{_⊎_, inl, inr}
 use Rattle.slots.proofs.Parts.{allWide, fieldlike}
 use Rattle.rows.proofs.Rules.Outcomes.{and-both, fine-both, unless-fine}
-use Rattle.rows.specs.Values.{filled, headValues, joined, widths, lastValues}
+use Rattle.rows.specs.Values.{filled, headValues, joined, widths, lastValues, partWidths}
 use Rattle.rows.specs.Runs.Fields.{hasRows, fieldsIn}
 use native.Mathlib.Omega.{arith}
 use Rattle.bits.specs.Frame.{bytesOf, number, placed}
-use Rattle.bits.specs.Layout.{encode, total}
+use Rattle.bits.proofs.Layouts.{fit-apart}
+use Rattle.bits.specs.Layout.{encode, Fit, total}
 use lib.Dec.{eqb, lit<, lit≤, ltb}
 use borrow.Author.Tests.{eqb-true, ltb-true}
 use Rattle.bits.proofs.Frames.{frame-is}
@@ -34,7 +35,8 @@ use Rattle.parity.proofs.Claims.{parity-fits-its-field}
 use Rattle.parity.proofs.Front.{parity-of-front}
 use Rattle.parity.specs.Parity.{parityOf, parityOfFront}
 use lib.Pow.{shl-lt, shl-shr}
-use Rattle.slots.specs.Slots.{slotsValues}
+use Rattle.slots.specs.Runs.{slotsPushed}
+use Rattle.slots.specs.Slots.{slotsValues, tidySlots}
 use lib.Seq.{take-all}
 use Rattle.report.proofs.Writing.Validity.{valid-keeps}
 use Rattle.report.specs.Records.{values}
@@ -89,32 +91,73 @@ module _ (x : Words) (wc wf ws wt wb we vc vf vs vt vb ve : List ℕ) (lc : leng
 widths-six : (a b c d e f : List Row) → widths (a ++ (b ++ (c ++ (d ++ (e ++ f))))) ≡ widths a ++ (widths b ++ (widths c ++ (widths d ++ (widths e ++ widths f))))
 widths-six a b c d e f = simp map-append
 
+all-widths : (l : Layout)
+    → widths (allRows l) ≡ widths (common l) ++ (widths (l .front) ++ (slotsWidths l ++ (widths (l .text) ++ (widths (l .behind) ++ widths ending))))
+all-widths l = widths-six (common l) (l .front) (slotsRows (l .slots) (l .slots .count) (l .slots .first)) (l .text) (l .behind) ending
+
 many : (rs : List Row) (vs : List ℕ) → length vs ≡ length rs → length (widths rs) ≡ length vs
 many rs vs e = length-map rs (λ r. r .width) ∙ sym e
 
--- ---- all of them
+-- ---- of a valid record
 
-module _ (r : Record) (s : Shaped r) (k : known (r .body) ≡ true) where
+-- it has a category
+valid-known : (r : Record) → Valid r → known (r .body) ≡ true
+unfolding writeAnswer
+valid-known r v = unless-fine _ _ (fine-both _ _ (fine-both _ _ (fine-both _ _ v .1) .1) .0)
+
+-- nothing stands where the category has nothing
+valid-tidy : (r : Record) → Valid r → tidy r ≡ true
+unfolding writeAnswer
+valid-tidy r v = unless-fine _ _ (fine-both _ _ (fine-both _ _ (fine-both _ _ (fine-both _ _ v .1) .1) .1) .0)
+
+-- its values fit, piece by piece up to the slots
+record Fits (r : Record) : Type 0 where
+  head : Fit (8 ∷ widths (common noCategory)) (r .preamble ∷ headValues (r .common) (layout (r .body) .code))
+  ahead : Fit (widths (layout (r .body) .front)) (sidesOf (r .body) (r .spares) .front)
+  slots : Fit (slotsWidths (layout (r .body))) (joined (slotsValues (layout (r .body) .slots) (r .slots)))
+
+module _ (r : Record) (s : Shaped r) (v : Valid r) where
+  front-many : length (widths (layout (r .body) .front)) ≡ length (sidesOf (r .body) (r .spares) .front)
+  front-many = many (layout (r .body) .front) (sidesOf (r .body) (r .spares) .front) (sides-filled (r .body) (r .spares) .0)
+
+  places-many : length (slotsWidths (layout (r .body))) ≡ length (joined (slotsValues (layout (r .body) .slots) (r .slots)))
+  places-many = slots-many (layout (r .body) .slots) (suited-slots (r .body)) (r .slots) (s .slots) (layout (r .body) .slots .first)
+
+  fits : Fits r
+  unfolding values
+  fits =
+      let l = layout (r .body) in
+      let sides = sidesOf (r .body) (r .spares) in
+      let ws = slotsWidths l in
+      let vs = joined (slotsValues (l .slots) (r .slots)) in
+      let wt = widths (l .text) ++ (widths (l .behind) ++ widths ending) in
+      let vt = take (length (l .text)) (r .text) ++ (sides .behind ++ lastValues (r .reserved)) in
+      let whole = subst (λ (ws : List ℕ). Fit (8 ∷ ws) (frontValues r)) (all-widths l) (front-fit r s (valid-keeps r s v)) in
+      let a = fit-apart (8 ∷ widths (common l)) (widths (l .front) ++ (ws ++ wt)) (r .preamble ∷ headValues (r .common) (l .code)) (sides .front ++ (vs ++ vt)) refl whole in
+      let b = fit-apart (widths (l .front)) (ws ++ wt) (sides .front) (vs ++ vt) front-many (a .1) in
+      let c = fit-apart ws wt vs vt places-many (b .1) in
+      record { head = a .0; ahead = b .0; slots = c .0 }
+
   -- bits 43 to 213
-  body-pushed : (x : Words) → let l = layout (r .body) in let v = sidesOf (r .body) (r .spares) in (
-      bodyPushed x (fieldsIn l v) (r .slots) (r .text)
-      ≡ pushedAll (pushedAll (pushedAll (pushedAll x (widths (l .front)) (v .front)) (slotsWidths l) (joined (slotsValues (l .slots) (r .slots)))) (widths (l .text)) (take (length (l .text)) (r .text)))
-      (widths (l .behind)) (v .behind)
+  body-pushed : (x : Words) (n : ℕ) → Held x n → let l = layout (r .body) in let sides = sidesOf (r .body) (r .spares) in (
+      bodyPushed x (fieldsIn l sides) (r .slots) (r .text)
+      ≡ pushedAll (pushedAll (pushedAll (pushedAll x (widths (l .front)) (sides .front)) (slotsWidths l) (joined (slotsValues (l .slots) (r .slots)))) (widths (l .text)) (take (length (l .text)) (r .text)))
+      (widths (l .behind)) (sides .behind)
       )
   unfolding bodyPushed
-  body-pushed x =
+  body-pushed x n held =
       let l = layout (r .body) in
-      let p = pieces (r .body) k in
-      let v = sidesOf (r .body) (r .spares) in
-      let full = sides-filled (r .body) (r .spares) in
-      let vs = joined (slotsValues (l .slots) (r .slots)) in
-      let vt = take (length (l .text)) (r .text) in
-      fields-pushed _ (widths (l .behind)) (v .behind) 3 (many (l .behind) (v .behind) (full .1)) (p .behind)
-      ∙ ap (λ (y : Words). pushedAll y (widths (l .behind)) (v .behind))
+      let p = pieces (r .body) (valid-known r v) in
+      let sides = sidesOf (r .body) (r .spares) in
+      let ws = partWidths (l .slots) in
+      let tidy = and-both (tidySlots ws (l .slots .count) (r .slots)) _ (valid-tidy r v) .0 in
+      let start = held-all (widths (l .front)) (sides .front) x n (fieldlike (widths (l .front)) (p .ahead)) (fits .ahead) held in
+      fields-pushed _ (widths (l .behind)) (sides .behind) 3 (many (l .behind) (sides .behind) (sides-filled (r .body) (r .spares) .1)) (p .behind)
+      ∙ ap (λ (y : Words). pushedAll y (widths (l .behind)) (sides .behind))
       (text-pushed (l .text) _ (r .text) (text-apart (r .body)) (s .text)
-      ∙ ap (λ (y : Words). pushedAll y (widths (l .text)) vt)
-      (slots-pushed (l .slots) (suited-slots (r .body)) (r .slots) (s .slots) _ (l .slots .first)
-      ∙ ap (λ (y : Words). pushedAll y (slotsWidths l) vs) (fields-pushed x (widths (l .front)) (v .front) 18 (many (l .front) (v .front) (full .0)) (p .ahead))))
+      ∙ ap (λ (y : Words). pushedAll y (widths (l .text)) (take (length (l .text)) (r .text)))
+      (ap (λ (y : Words). slotsPushed y ws (take (l .slots .count) (r .slots))) (fields-pushed x (widths (l .front)) (sides .front) 18 front-many (p .ahead))
+      ∙ slots-pushed (l .slots) (suited-slots (r .body)) (r .slots) (s .slots) _ _ (l .slots .first) start tidy (fits .slots)))
 
   -- bits 0 to 225
   pub all-pushed : (f g h j : Words) → let l = layout (r .body) in (
@@ -127,7 +170,7 @@ module _ (r : Record) (s : Shaped r) (k : known (r .body) ≡ true) where
   unfolding values
   all-pushed f g h j ef eg eh ej =
       let l = layout (r .body) in
-      let v = sidesOf (r .body) (r .spares) in
+      let sides = sidesOf (r .body) (r .spares) in
       let full = record-filled r s in
       let first = pushed (wordsOf 0) 8 (r .preamble) in
       let head = headValues (r .common) (l .code) in
@@ -136,19 +179,15 @@ module _ (r : Record) (s : Shaped r) (k : known (r .body) ≡ true) where
       let vt = take (length (l .text)) (r .text) in
       let ve = lastValues (r .reserved) in
       let start : g ≡ pushedAll first wc head = eg ∙ ap (λ (x : Words). pushedAll x wc head) ef in
-      let inner = eh ∙ body-pushed g ∙ ap (λ (x : Words). pushedAll (pushedAll (pushedAll (pushedAll x (widths (l .front)) (v .front)) (slotsWidths l) vs) (widths (l .text)) vt) (widths (l .behind)) (v .behind)) start in
+      let held = held-all (8 ∷ wc) (r .preamble ∷ head) (wordsOf 0) 0 (fieldlike (8 ∷ wc) refl) (fits .head) held-none in
+      let inner = eh ∙ ap (λ (x : Words). bodyPushed x (fieldsIn l sides) (r .slots) (r .text)) start ∙ body-pushed (pushedAll first wc head) _ held in
       ej
       ∙ ap (λ (x : Words). pushedAll x (widths ending) ve) inner
-      ∙ sym (in-six first wc (widths (l .front)) (slotsWidths l) (widths (l .text)) (widths (l .behind)) (widths ending) head (v .front) vs vt (v .behind) ve refl
-      (many (l .front) (v .front) (full .front)) (slots-many (l .slots) (suited-slots (r .body)) (r .slots) (s .slots) (l .slots .first)) (many (l .text) vt (full .text)) (many (l .behind) (v .behind) (full .behind)))
-      ∙ ap (λ (ws : List ℕ). pushedAll first ws (head ++ (v .front ++ (vs ++ (vt ++ (v .behind ++ ve)))))) (sym (widths-six (common l) (l .front) (slotsRows (l .slots) (l .slots .count) (l .slots .first)) (l .text) (l .behind) ending))
+      ∙ sym (in-six first wc (widths (l .front)) (slotsWidths l) (widths (l .text)) (widths (l .behind)) (widths ending) head (sides .front) vs vt (sides .behind) ve refl
+      front-many places-many (many (l .text) vt (full .text)) (many (l .behind) (sides .behind) (full .behind)))
+      ∙ ap (λ (ws : List ℕ). pushedAll first ws (head ++ (sides .front ++ (vs ++ (vt ++ (sides .behind ++ ve)))))) (sym (all-widths l))
 
 -- ---- the parity behind them
-
--- a valid record has a category
-pub valid-known : (r : Record) → Valid r → known (r .body) ≡ true
-unfolding writeAnswer
-valid-known r v = unless-fine _ _ (fine-both _ _ (fine-both _ _ (fine-both _ _ v .1) .1) .0)
 
 together : (x y : ℕ) → x * 2 ^ 30 + y * 2 ^ 6 ≡ (x * 2 ^ 24 + y) * 2 ^ 6
 together x y = omega arith

@@ -2,7 +2,7 @@
 use borrow.Author.Needs.{needs, length-unmapped}
 use Rattle.report.proofs.encode.encode.Statement.{statement}
 use mathlib.Core.Path.{_∙_, ap, sym}
-use Rattle.report.proofs.Writing.Encoding.{encoded, front-number, valid-known}
+use Rattle.report.proofs.Writing.Encoding.{encoded, front-number}
 use Rattle.bits.specs.Frame.{bytesOf}
 use Rattle.bits.specs.declared.words.Words.{Words}
 use Rattle.bits.specs.Words.{valueOf}
@@ -18,9 +18,6 @@ shaped c =
     let r = c .args .r in
     let good = c .good .0 in
     record { slots = unmapped _ (r .slots) 16 (good .1 .1 .1 .1 .1 .1 .0 .1 .0 .1); text = length-unmapped _ (r .text) 18 (good .1 .1 .1 .1 .1 .1 .1 .0 .1 .0 .1) }
-
-front-requires : tie.Need-front-requires
-front-requires c κs = (valid-known (c .args .r) (c .pre .0), c .pre .1)
 
 slice-aggregate-parity : tie.Need-slice-aggregate-parity
 slice-aggregate-parity c = sym (c .before .bytes .ok .1 .0 .1)
@@ -38,4 +35,4 @@ returns c =
 
 pub encode-spec : {M : Type 1} → statement M
 encode-spec =
-    tie.close (tie.spec front-requires (λ c κs. search needs) (λ c κs. search needs) slice-aggregate-parity (λ c κs. search needs) (λ c. search needs) (λ c κs. search needs) returns)
+    tie.close (tie.spec (λ c κs. c .pre) (λ c κs. search needs) (λ c κs. search needs) slice-aggregate-parity (λ c κs. search needs) (λ c. search needs) (λ c κs. search needs) returns)
