@@ -216,7 +216,7 @@ size-padded (w ∷ ws) n = ap (λ (m : ℕ). bytesFor w + m) (size-padded ws n)
 
 -- ---- what is read fits its bytes
 
-bytes-taken : (n : ℕ) (l : List ℕ) → Bytes l → Bytes (take n l)
+pub bytes-taken : (n : ℕ) (l : List ℕ) → Bytes l → Bytes (take n l)
 bytes-taken zero l b i = omega arith
 bytes-taken (suc n) [] b i = omega arith
 bytes-taken (suc n) (x ∷ l) b zero = b 0

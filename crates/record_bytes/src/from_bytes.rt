@@ -124,12 +124,19 @@ fn body_of(bytes: &[u8]) -> BodyAndEnd
     BodyAndEnd { both, end }
 }
 
-// Whether something stands behind the fields, from the place where they end up to byte 40.
+// Whether something stands behind the fields, from the place where they end up to byte 40: eight bytes at a time, and what
+// is left of them one by one.
 fn has_stray(bytes: &[u8], end: usize) -> bool
     requires { ⌜ (length (now bytes) ≡ 251) × ((9 ≤ end) × (end ≤ 41)) ⌝ }
     ensures { λ r. ⌜ r ≡ not (sameBytes (take 32 (drop 9 (now (bytes .entry)))) (zeroFilled 32 (slice 9 end (now (bytes .entry))))) ⌝ }
 {
     let mut at = end;
+    while at + 8 <= SLOTS_AT {
+        if number_at(bytes, at, 8) != 0 {
+            return true;
+        }
+        at += 8;
+    }
     while at < SLOTS_AT {
         if bytes[at] != 0 {
             return true;

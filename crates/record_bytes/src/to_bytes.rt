@@ -84,7 +84,7 @@ fn put_cells(out: &mut [u8], at: usize, widths: &[u8], values: &[u64]) -> usize
 
 // The bytes of a body and its spares, and zeros behind them. They are put where there are eight bytes more, so that the last
 // value finds room for its eight too.
-pub(crate) fn own_bytes(body: Body, spares: Spares) -> [u8; FIELDS_SIZE]
+fn own_bytes(body: Body, spares: Spares) -> [u8; FIELDS_SIZE]
     ensures { λ r. ⌜ r ≡ bodyBytes body spares ⌝ }
 {
     let fields = body.fields(spares);

@@ -10,7 +10,8 @@ use lib.Dec.{eqb}
 use lib.ListN.{length, getD, take, drop, replicate, length-append, length-drop, length-map, length-replicate, getD-replicate, replicate-append-replicate, List·getD-append}
 use lib.Seq.{drop-at, drop-drop, ext-getD, getD-append-add, getD-drop, getD-take, length-slice, length-take-le, slice, take-add, take-all}
 use mathlib.Core.Logic.{⊎-elim}
-use Rattle.bits.specs.Frame.{Bytes}
+use Rattle.bits.specs.Frame.{Bytes, number}
+use Rattle.bits.proofs.Bytes.{number-inj}
 use Rattle.lent.specs.Numbers.{wide}
 use Rattle.rows.specs.Layout.{Layout, Row}
 use Rattle.rows.specs.Values.{Sides, each, widths}
@@ -22,8 +23,8 @@ use Rattle.report.specs.declared.body.Body.{Body}
 use Rattle.report.specs.Categories.{bodyFrom, layout, sidesOf}
 use Rattle.report.proofs.Categories.{made-alike, values-again}
 use Rattle.record_bytes.specs.Packed.{bodyBytes, cells, zeroFilled}
-use Rattle.record_bytes.specs.Unpacked.{bodyInBytes, cellsAt, sidesInBytes, size, sparesInBytes}
-use Rattle.record_bytes.proofs.Cells.{cells-again, length-cells-at, size-padded}
+use Rattle.record_bytes.specs.Unpacked.{bodyInBytes, cellsAt, numberAt, sidesInBytes, size, sparesInBytes}
+use Rattle.record_bytes.proofs.Cells.{bytes-taken, cells-again, length-cells-at, size-padded}
 use Rattle.record_bytes.proofs.FromBytes.Places.{first-bytes}
 use Rattle.record_bytes.proofs.FromBytes.Read.{fields-fit}
 
@@ -66,6 +67,37 @@ module _ (l : List ℕ) (end : ℕ) (long : length l ≡ 251) (from : 9 ≤ end)
       let at : j ≡ 9 + (j - 9) = omega arith in
       other (ap (λ (k : ℕ). getD l k 0) at ∙ sym (byte-here (j - 9) (omega arith)) ∙ ap (λ (s : List ℕ). getD s (j - 9) 0) same ∙ own-zero (j - 9) (omega arith) (omega arith))
 
+  -- eight bytes at once
+  pub eight-stray : (at : ℕ) → end ≤ at → at + 8 ≤ 41 → (numberAt l at 8 ≡ 0 → ⊥) → take 32 (drop 9 l) ≡ zeroFilled 32 (slice 9 end l) → ⊥
+  eight-stray at g h other same = other (ap number eight)
+    where
+      zero-at : (j : ℕ) → end ≤ j → j < 41 → getD l j 0 ≡ 0
+      zero-at j a b =
+          let here : j ≡ 9 + (j - 9) = omega arith in
+          ap (λ (k : ℕ). getD l k 0) here ∙ sym (byte-here (j - 9) (omega arith)) ∙ ap (λ (s : List ℕ). getD s (j - 9) 0) same ∙ own-zero (j - 9) (omega arith) (omega arith)
+
+      eight : take 8 (drop at l) ≡ replicate 8 0
+      eight =
+          let n : length (take 8 (drop at l)) ≡ 8 = length-take-le 8 (drop at l) (rw (length-drop at l) (omega (arith, long))) in
+          ext-getD 0 _ (replicate 8 0) n (λ j k. getD-take 8 (drop at l) j 0 (omega (arith, n)) ∙ getD-drop at l j 0 ∙ zero-at (at + j) (omega arith) (omega (arith, n)) ∙ sym (getD-replicate 8 j 0 0 (omega (arith, n))))
+
+zero-bytes : (n : ℕ) → Bytes (replicate n 0)
+zero-bytes zero i = omega arith
+zero-bytes (suc n) zero = omega arith
+zero-bytes (suc n) (suc i) = zero-bytes n i
+
+pub eight-zeros : (l : List ℕ) (at : ℕ) → Bytes l → at + 8 ≤ length l → numberAt l at 8 ≡ 0 → (j : ℕ) → at ≤ j → j < at + 8 → getD l j 0 ≡ 0
+eight-zeros l at b h e j g k =
+    let n : length (take 8 (drop at l)) ≡ 8 = length-take-le 8 (drop at l) (rw (length-drop at l) (omega arith)) in
+    let own : Bytes (take 8 (drop at l)) = bytes-taken 8 (drop at l) (λ i. rw (getD-drop at l i 0) (b (at + i))) in
+    let eight : take 8 (drop at l) ≡ replicate 8 0 = number-inj _ (replicate 8 0) n own (zero-bytes 8) e in
+    let here : j ≡ at + (j - at) = omega arith in
+    ap (λ (i : ℕ). getD l i 0) here
+    ∙ sym (getD-drop at l (j - at) 0)
+    ∙ sym (getD-take 8 (drop at l) (j - at) 0 (omega arith))
+    ∙ ap (λ (s : List ℕ). getD s (j - at) 0) eight
+    ∙ getD-replicate 8 (j - at) 0 0 (omega arith)
+
 -- ---- the bytes of the body that was read
 
 all-of : (rs : List Row) (vs : List ℕ) → length vs ≡ length (widths rs) → each (length rs) (λ i. getD vs i 0) ≡ vs
@@ -86,10 +118,12 @@ cells-zero (r ∷ rs) = (λ i. wide-zero (bytesFor (r .width)) i ++ cells-zero r
 -- more zeros behind
 filled-zero : (t : List ℕ) (m : ℕ) → length t + m ≤ 32 → zeroFilled 32 (t ++ replicate m 0) ≡ zeroFilled 32 t
 filled-zero t m h =
-    let n : length (t ++ replicate m 0) ≡ length t + m = length-append t (replicate m 0) ∙ ap (λ (k : ℕ). length t + k) (length-replicate m 0) in
-    let left : m + (32 - length (t ++ replicate m 0)) ≡ 32 - length t = omega arith in
     append-assoc t (replicate m 0) (replicate (32 - length (t ++ replicate m 0)) 0)
-    ∙ ap (λ (s : List ℕ). t ++ s) (replicate-append-replicate m (32 - length (t ++ replicate m 0)) 0 ∙ ap (λ (k : ℕ). replicate k 0) left)
+    ∙ ap (λ (s : List ℕ). t ++ s) (replicate-append-replicate m (32 - length (t ++ replicate m 0)) 0)
+    ∙ ap (λ (k : ℕ). t ++ replicate k 0) (left _ _ m (length-append t (replicate m 0)) (length-replicate m 0) h)
+  where
+    left : (a n m : ℕ) {z : ℕ} → a ≡ n + z → z ≡ m → n + m ≤ 32 → m + (32 - a) ≡ 32 - n
+    left a n m e f h = omega arith
 
 fields-at : (l : List ℕ) (n : ℕ) → 9 ≤ length l → take n (drop 9 l) ≡ slice 9 (9 + n) l
 fields-at l n h = sym (ap (drop 9) (take-add 9 n l) ∙ drop-at (take 9 l) (take n (drop 9 l)) 9 (length-take-le 9 l h))
