@@ -1,4 +1,5 @@
 pub mod Claims
+pub mod PutBack
 pub mod Reading
 pub mod Writing
 pub mod StoreDoors

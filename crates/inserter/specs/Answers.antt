@@ -1,5 +1,5 @@
 -- What the functions for C and Rust answer, and what they leave in a lent buffer.
-use Prim.Native.Nat.{ℕ, _+_, _*_, _/_, _%_, _^_, _≤_, _<_}
+use Prim.Native.Nat.{ℕ, _+_, _-_, _*_, _/_, _%_, _^_, _≤_, _<_}
 use mathlib.Core.Bool.{Bool, _&&_, cond}
 use mathlib.Core.List.{List, [], _∷_}
 use lib.ListN.{length}
@@ -9,6 +9,8 @@ use Rattle.rows.specs.declared.refusal.Said.{Said}
 use Rattle.rows.specs.declared.refusal.Verdict.{Verdict}
 use Rattle.rows.specs.declared.refusal.Verdict.the-variants.{Fine, Refused}
 use Rattle.report.specs.declared.record.Record.{Record}
+use Rattle.report.specs.declared.body.Paged.{Paged}
+use Rattle.report.specs.declared.body.Paged.the-variants.{NoPages, Numbers}
 use Rattle.report.specs.declared.read.Reading.{Reading}
 use Rattle.rows.specs.Refusals.{plain, says, answers}
 use Rattle.report.specs.Runs.Reading.{readOf, readSays}
@@ -109,6 +111,11 @@ takenWord (NotTaken x) = answerWord (says x)
 
 abbrev pub takeResult : Taking → List ℕ → CallResult
 takeResult t buffer = callResult (takenWord (t .answer)) (storeInto (t .store) buffer)
+
+-- how many pages stand before the one that a body brings, all 63 where it brings none: no other page than that is changed
+unfoldable pub pagesBefore : Paged → ℕ
+pagesBefore NoPages = 63
+pagesBefore (Numbers p) = p .number - 1
 
 abbrev pub takeInto : List ℕ → List ℕ → CallResult
 takeInto buffer bytes = takeResult (takeOf (storeOrZeros buffer) (recordFrom bytes)) buffer

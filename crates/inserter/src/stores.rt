@@ -1,7 +1,8 @@
 // The page store of a bulletin in 1205 lent bytes. Any bytes are a store; one that is not sound, as
 // bytes of another length never are, is refused with 14 in 14's turn, and stays as it was.
 ghost use mathlib.Core.Path.{_≡_};
-ghost use Rattle.inserter.specs.Answers.{callResult, openInto, takeInto, mergeInto, countAnswer, textInto};
+ghost use Rattle.inserter.specs.Answers.{callResult, openInto, pagesBefore, takeInto, mergeInto, countAnswer, textInto};
+ghost use Rattle.report.specs.Categories.{pagedOf};
 use crate::words::WRONG_CALL;
 use crate::words::count_word;
 use crate::words::refusal_word;
@@ -9,6 +10,8 @@ use crate::words::taken_word;
 use crate::words::verdict_word;
 use bulletin::in_place::taken_in;
 use bulletin::store::Store;
+use report::body::Body;
+use report::body::Paged;
 use rows::refusal::Verdict;
 use store_bytes::sizes::NAME_SIZE;
 use store_bytes::sizes::STORE_SIZE;
@@ -37,17 +40,38 @@ pub extern "C" fn lz_open(name: &[u8], store: &mut [u8]) -> u32
     }
 }
 
+// How many pages stand before the one that a body brings: all 63 where it brings none. A number 0 is
+// refused, and then it does not matter which page it stands for.
+fn pages_before(body: Body) -> usize
+    ensures { λ r. ⌜ r ≡ pagesBefore (pagedOf body) ⌝ }
+{
+    let Paged::Numbers(page) = body.page() else {
+        return Store::PAGES;
+    };
+    if page.number == 0 {
+        return 0;
+    }
+    (page.number - 1) as usize
+}
+
 // Takes the page of a record's 251 bytes: 1 where it is new, 2 where the store had the same, 3 where it
-// is disputed. A refusal leaves the store as it was.
+// is disputed. A refusal leaves the store as it was. Only the page that the record brings can have
+// changed, so it alone is put back.
 #[no_mangle]
 pub extern "C" fn lz_take(store: &mut [u8], record_bytes: &[u8]) -> u32
     ensures { λ r. ⌜ callResult r (now (store .exit)) ≡ takeInto (now (store .entry)) (now (record_bytes .entry)) ⌝ }
 {
     let before = store_bytes::unpack_store(store);
-    let taking = taken_in(before, record_bytes::unpack(record_bytes));
+    let came = record_bytes::unpack(record_bytes);
+    let taking = taken_in(before, came);
     let after = taking.store;
     let answer = taking.answer;
-    store_bytes::pack_store(after, store);
+    let body = came.body;
+    let i = pages_before(body);
+    if i < Store::PAGES {
+        let page = after.pages[i];
+        store_bytes::pack_page(page, i, store);
+    }
     taken_word(answer)
 }
 

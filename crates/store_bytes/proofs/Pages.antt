@@ -23,7 +23,7 @@ length-pages (suc k) (p ∷ ps) h e =
     let first : length (p .text) ≡ 18 = e 0 (omega arith) in
     ap suc (length-append (p .text) (pagesBytes (take k ps))) ∙ omega (arith, first, rest)
 
-pages-append : (ps qs : List Page) → pagesBytes (ps ++ qs) ≡ pagesBytes ps ++ pagesBytes qs
+pub pages-append : (ps qs : List Page) → pagesBytes (ps ++ qs) ≡ pagesBytes ps ++ pagesBytes qs
 unfolding pagesBytes
 pages-append [] qs = refl
 pages-append (p ∷ ps) qs = ap (λ (t : List ℕ). pageBytes p ++ t) (pages-append ps qs) ∙ sym (append-assoc (pageBytes p) (pagesBytes ps) (pagesBytes qs))

@@ -12,6 +12,7 @@ use Prim.Native.Nat.{ℕ, _+_, _*_}
 use mathlib.Core.Bool.{cond}
 use mathlib.Core.List.{List, [], _∷_, _++_}
 use lib.ListN.{length, getD}
+use lib.Seq.{sets}
 use lib.Dec.{eqb}
 use Rattle.rows.specs.Values.{each}
 use Rattle.pages.specs.declared.name.Name.{Name}
@@ -47,6 +48,10 @@ storeBytes s = nameBytes (s .name) ++ pagesBytes (s .pages)
 -- a lent buffer of 1205 bytes takes them; one of another length stays as it was
 unfoldable pub storeInto : Store → List ℕ → List ℕ
 storeInto s buffer = cond (eqb (length buffer) 1205) (storeBytes s) buffer
+
+-- and one page, which stands behind i others, in its place: a page behind 63 others or more has none there
+unfoldable pub pageInto : Page → ℕ → List ℕ → List ℕ
+pageInto p i buffer = cond (eqb (length buffer) 1205) (sets buffer (8 + 19 * i) (pageBytes p)) buffer
 
 -- ---- from bytes to a store
 

@@ -6,4 +6,5 @@ mod to_bytes;
 
 pub use from_bytes::unpack_name;
 pub use from_bytes::unpack_store;
+pub use to_bytes::pack_page;
 pub use to_bytes::pack_store;

@@ -3,7 +3,7 @@ ghost use mathlib.Core.Path.{_≡_};
 ghost use Prim.Native.Nat.{_+_, _≤_};
 ghost use lib.ListN.{length};
 ghost use lib.Seq.{sets};
-ghost use Rattle.store_bytes.specs.Stores.{nameBytes, pageBytes, pagesBytes, storeInto};
+ghost use Rattle.store_bytes.specs.Stores.{nameBytes, pageBytes, pagesBytes, storeInto, pageInto};
 use crate::sizes::PAGE_SIZE;
 use crate::sizes::PAGES_AT;
 use crate::sizes::STORE_SIZE;
@@ -66,5 +66,17 @@ pub fn pack_store(store: Store, out: &mut [u8])
         let name = store.name;
         put_name(out, name);
         put_pages(out, store);
+    }
+}
+
+// One page alone, which stands behind i others, for who knows that the buffer has the rest already. A
+// buffer of another length stays as it was, and so does any buffer where the page has no place.
+pub fn pack_page(page: Page, i: usize, out: &mut [u8])
+    ensures { λ _. ⌜ now (out .exit) ≡ pageInto page i (now (out .entry)) ⌝ }
+{
+    if out.len() == STORE_SIZE {
+        if i < Store::PAGES {
+            put_page(out, PAGES_AT + PAGE_SIZE * i, page);
+        }
     }
 }
