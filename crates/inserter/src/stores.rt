@@ -64,12 +64,14 @@ pub extern "C" fn lz_take(store: &mut [u8], record_bytes: &[u8]) -> u32
     let before = store_bytes::unpack_store(store);
     let came = record_bytes::unpack(record_bytes);
     let taking = taken_in(before, came);
-    let after = taking.store;
     let answer = taking.answer;
+    let after = taking.store;
+    // the pages alone: to take one out of the store would be a copy of the store more
+    let pages = after.pages;
     let body = came.body;
     let i = pages_before(body);
     if i < Store::PAGES {
-        let page = after.pages[i];
+        let page = pages[i];
         store_bytes::pack_page(page, i, store);
     }
     taken_word(answer)

@@ -15,10 +15,10 @@ use Rattle.inserter.proofs.stores.lz_take.Statement.{statement}
 use Rattle.inserter.proofs.stores.lz_take.Tie as tie
 
 -- whether a page was put or not, the buffer has the store after the taking
-left : (c : tie.Joined1) → c .if1 .store ≡ storeInto (c .before .before .before .taken-in .result .store) (c .before .before .before .before .before .before .before .before .before .args .store .now)
+left : (c : tie.Joined1) → c .if1 .store ≡ storeInto (c .before .before .before .before .taken-in .result .store) (c .before .before .before .before .before .before .before .before .before .before .args .store .now)
 left c =
     let place = c .before in
-    let take = place .before .before in
+    let take = place .before .before .before in
     let entry = take .before in
     let a = entry .before .before .before .before .before .args in
     let is = take .taken-in .ensures .0 ∙ (λ j. takeOf (entry .before .unpack-store .ensures j) (entry .unpack .ensures j)) in
@@ -33,7 +33,7 @@ same-length c = ⊎-elim (λ w. ap length (w .6) ∙ w .3 .kept .1 .1 .0) (λ w.
 
 returns : tie.Need-returns
 returns c =
-    let take = c .before .before .before .before in
+    let take = c .before .before .before .before .before in
     let entry = take .before in
     taking-left _ _ _ _ _ _ _ (entry .before .unpack-store .ensures) (entry .unpack .ensures) (take .taken-in .ensures .0) (left (c .before)) (c .taken-word .ensures)
 
