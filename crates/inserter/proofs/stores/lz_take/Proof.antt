@@ -1,7 +1,6 @@
 -- `inserter::stores::lz_take` meets its contract.
 use mathlib.Core.Path.{_≡_, ap, _∙_}
 use mathlib.Core.Logic.{⊎-elim}
-use native.Mathlib.Omega.{arith}
 use lib.ListN.{length}
 use Rattle.report.specs.declared.record.Record.{Record}
 use Rattle.report.specs.Categories.{pagedOf}
