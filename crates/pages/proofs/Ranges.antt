@@ -4,7 +4,7 @@ use mathlib.Core.Path.{_≡_, refl, _∙_}
 use mathlib.Core.Bool.{true}
 use mathlib.Core.Logic.{_⊎_, inl, inr, ⊎-elim}
 use native.Mathlib.Omega.{arith}
-use Prim.Native.Nat.{_≤_, ℕ, suc, zero}
+use Prim.Native.Nat.{_≤_}
 use Rattle.rows.specs.declared.refusal.Verdict.{Verdict}
 use Rattle.rows.specs.declared.refusal.Verdict.the-variants.{Fine, Refused}
 use Rattle.rows.specs.declared.refusal.Refusal.{Refusal}
@@ -17,14 +17,13 @@ use Rattle.rows.proofs.Rules.JudgedFrames.{JudgesAll, judged}
 use Rattle.pages.specs.declared.name.Name.{Name}
 use Rattle.pages.specs.Names.{nameVerdict, isFine, nameValues, pageOne}
 use Rattle.pages.proofs.Numbered.{Numbered, kept-numbered}
-use Rattle.bits.specs.Frame.{Bytes}
 use Rattle.rows.specs.Runs.Questions.{_then_, unless}
 use Rattle.nankai.proofs.Walks.{any-text-passes}
 use Rattle.rows.specs.Runs.Verdict.{bodyVerdict, verdict, allowed, judge, walk}
 use lib.ListN.{replicate}
 use Rattle.rows.specs.Values.{headValues, lastValues, noSpares}
 use Rattle.rows.specs.declared.fields.Spares.{Spares}
-use lib.Dec.{lit<}
+use Rattle.bits.proofs.Bytes.{zero-bytes}
 use Rattle.rows.specs.Layout.{ending}
 
 pub is-fine : (v : Verdict) → isFine v ≡ true → v ≡ Fine
@@ -49,11 +48,6 @@ unfolding nameVerdict
 first-bad-value n x e = lowest-bit nankai (nameValues n) (judges n) x e
 
 -- what the code asks: the rest of that frame passes
-zero-bytes : (n : ℕ) → Bytes (replicate n 0)
-zero-bytes zero i = lit< tt
-zero-bytes (suc n) zero = lit< tt
-zero-bytes (suc n) (suc i) = zero-bytes n i
-
 last-passes : walk [] ending (lastValues 0) ≡ Fine
 unfolding walk judge unless allowed _then_
 last-passes = refl

@@ -11,7 +11,7 @@ use lib.ListN.{length, getD, take, drop, replicate, length-append, length-drop, 
 use lib.Seq.{drop-at, drop-drop, ext-getD, getD-append-add, getD-drop, getD-take, length-slice, length-take-le, slice, take-add, take-all}
 use mathlib.Core.Logic.{⊎-elim}
 use Rattle.bits.specs.Frame.{Bytes, number}
-use Rattle.bits.proofs.Bytes.{number-inj}
+use Rattle.bits.proofs.Bytes.{number-inj, zero-bytes}
 use Rattle.lent.specs.Numbers.{wide}
 use Rattle.rows.specs.Layout.{Layout, Row}
 use Rattle.rows.specs.Values.{Sides, each, widths}
@@ -80,11 +80,6 @@ module _ (l : List ℕ) (end : ℕ) (long : length l ≡ 251) (from : 9 ≤ end)
       eight =
           let n : length (take 8 (drop at l)) ≡ 8 = length-take-le 8 (drop at l) (rw (length-drop at l) (omega (arith, long))) in
           ext-getD 0 _ (replicate 8 0) n (λ j k. getD-take 8 (drop at l) j 0 (omega (arith, n)) ∙ getD-drop at l j 0 ∙ zero-at (at + j) (omega arith) (omega (arith, n)) ∙ sym (getD-replicate 8 j 0 0 (omega (arith, n))))
-
-zero-bytes : (n : ℕ) → Bytes (replicate n 0)
-zero-bytes zero i = omega arith
-zero-bytes (suc n) zero = omega arith
-zero-bytes (suc n) (suc i) = zero-bytes n i
 
 pub eight-zeros : (l : List ℕ) (at : ℕ) → Bytes l → at + 8 ≤ length l → numberAt l at 8 ≡ 0 → (j : ℕ) → at ≤ j → j < at + 8 → getD l j 0 ≡ 0
 eight-zeros l at b h e j g k =

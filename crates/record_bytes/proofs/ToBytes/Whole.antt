@@ -1,28 +1,24 @@
 -- The parts of a packed record, one behind the other.
-use mathlib.Core.Path.{_≡_, refl, sym, ap, subst⁻¹, _∙_}
+use mathlib.Core.Path.{_≡_, refl, sym, ap, _∙_}
 use Prim.Native.Nat.{ℕ, zero, suc, _+_, _-_, _≤_}
 use native.Mathlib.Omega.{arith}
-use mathlib.Core.Bool.{Bool, true, _&&_}
 use mathlib.Core.List.{List, [], _∷_, _++_}
-use lib.Dec.{ltb}
 use lib.ListN.{length, getD, set, take, drop, length-append, length-map, length-replicate, replicate}
 use lib.Seq.{length-sets, sets, sets-eq, take-set-lt}
-use borrow.Author.Tests.{eq-eqb, ne-eqb, ltb-true}
+use borrow.Author.Tests.{eq-eqb, ne-eqb}
 use Rattle.rows.specs.declared.fields.Fields.{Fields}
 use Rattle.rows.specs.declared.fields.Spares.{Spares}
-use Rattle.rows.specs.Layout.{Layout, Row}
 use Rattle.rows.specs.Values.{widths}
-use Rattle.rows.specs.Runs.Fields.{bytesFor, fieldsIn}
+use Rattle.rows.specs.Runs.Fields.{fieldsIn}
 use Rattle.report.specs.declared.record.Record.{Record}
 use Rattle.report.specs.declared.body.Body.{Body}
 use Rattle.report.specs.Categories.{layout, sidesOf}
-use Rattle.rows.proofs.Rules.Outcomes.{and-both}
-use Rattle.report.proofs.Categories.{all, layouts, listed, sides-filled}
+use Rattle.report.proofs.Categories.{sides-filled}
 use Rattle.record_bytes.specs.Packed.{bodyBytes, cells, headBytes, packed, packedInto, sidesBytes, slotsBytes, zeroFilled}
 use Rattle.record_bytes.specs.Unpacked.{size}
 use Rattle.lent.specs.Writing.{Wrote}
 use Rattle.lent.proofs.Chains.{_then_, sets-sets, whole, wrote-length, wrote-within}
-use Rattle.record_bytes.proofs.Cells.{cells-padded, length-cells, size-padded}
+use Rattle.record_bytes.proofs.Cells.{cells-padded, length-cells}
 use Rattle.record_bytes.proofs.FromBytes.Read.{fields-fit, room}
 use Rattle.record_bytes.proofs.ToBytes.EightBytes.{ZerosFrom, all-zeros, zeros-left}
 use Rattle.record_bytes.proofs.ToBytes.Slots.{length-slots}
@@ -63,34 +59,8 @@ take-sets : (t l : List ℕ) (i n : ℕ) → i + length t ≤ n → take n (sets
 take-sets [] l i n h = refl
 take-sets (v ∷ t) l i n h = take-sets t (set l i v) (suc i) n (omega arith) ∙ ap (λ (m : List ℕ). sets m (suc i) t) (take-set-lt n l i v (omega arith))
 
--- computed of all tables: there is no field without bytes in front of another
-abbrev noGap : List Row → Bool
-noGap [] = true
-noGap (r ∷ rs) = ltb 0 (bytesFor (r .width)) && noGap rs
-
-abbrev noGaps : Layout → Bool
-noGaps l = noGap (l .front) && noGap (l .behind)
-
-all-without-gaps : all noGaps layouts ≡ true
-all-without-gaps = refl
-
--- behind a width without bytes there is none
-abbrev Ends : List ℕ → Type 0
-Ends ws = (i : ℕ) → bytesFor (getD ws i 0) ≡ 0 → size (drop i ws) ≡ 0
-
-ends-padded : (rs : List Row) (n : ℕ) → noGap rs ≡ true → Ends (widths rs ++ replicate n 0)
-ends-padded [] n g i e = ap size (zeros-dropped n i) ∙ size-padded [] (n - i)
-ends-padded (r ∷ rs) n g zero e = absurd (omega (arith, ltb-true 0 (bytesFor (r .width)) (and-both (ltb 0 (bytesFor (r .width))) (noGap rs) g .0)))
-ends-padded (r ∷ rs) n g (suc i) e = ends-padded rs n (and-both (ltb 0 (bytesFor (r .width))) (noGap rs) g .1) i e
-
 -- the bytes of fields as code hands them on, which have zeros behind them
 module _ (b : Body) (z : Spares) (v : Fields) (e : v ≡ fieldsIn (layout b) (sidesOf b z)) where
-  pub ends : Ends (v .ahead) × Ends (v .after)
-  ends =
-      let l = layout b in
-      let g = and-both (noGap (l .front)) (noGap (l .behind)) (listed noGaps all-without-gaps b) in
-      subst⁻¹ (λ (f : Fields). Ends (f .ahead) × Ends (f .after)) e (ends-padded (l .front) (18 - length (widths (l .front))) (g .0), ends-padded (l .behind) (3 - length (widths (l .behind))) (g .1))
-
   own-cells : cells (v .ahead) (v .front) ++ cells (v .after) (v .behind) ≡ sidesBytes (layout b) (sidesOf b z)
   own-cells =
       let l = layout b in

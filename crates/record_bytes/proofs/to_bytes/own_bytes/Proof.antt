@@ -4,9 +4,9 @@ use native.Mathlib.Omega.{arith}
 use lib.ListN.{length, take}
 use Rattle.lent.proofs.Chains.{whole, wrote-as}
 use Rattle.record_bytes.specs.Packed.{bodyBytes}
-use Rattle.record_bytes.proofs.FromBytes.Read.{room}
+use Rattle.record_bytes.proofs.FromBytes.Read.{fields-end, room}
 use Rattle.record_bytes.proofs.ToBytes.EightBytes.{all-zeros}
-use Rattle.record_bytes.proofs.ToBytes.Whole.{ends, length-body, own-put, room-behind}
+use Rattle.record_bytes.proofs.ToBytes.Whole.{length-body, own-put, room-behind}
 use borrow.Author.Needs.{needs}
 use Rattle.record_bytes.proofs.to_bytes.own_bytes.Statement.{statement}
 use Rattle.record_bytes.proofs.to_bytes.own_bytes.Tie as tie
@@ -25,7 +25,7 @@ put-cells-requires c κs =
     let f = c .before .before .before .before .before .before .before in
     let a = f .before .args in
     let v = f .fields .result in
-    ((each f .0, omega (arith, room (a .body) (a .spares) v (f .fields .ensures))), (λ i h. all-zeros 40 i, ends (a .body) (a .spares) v (f .fields .ensures) .0))
+    ((each f .0, omega (arith, room (a .body) (a .spares) v (f .fields .ensures))), (λ i h. all-zeros 40 i, fields-end (a .body) (a .spares) v (f .fields .ensures) .0))
 
 put-cells-requires-2 : tie.Need-put-cells-requires-2
 put-cells-requires-2 c κs =
@@ -34,7 +34,7 @@ put-cells-requires-2 c κs =
     let a = f .before .args in
     let v = f .fields .result in
     let left = room-behind (a .body) (a .spares) v (f .fields .ensures) _ _ (each f .0) (first .put-cells .ensures .1) (first .put-cells .ensures .0) in
-    ((each f .1, left .0), (left .1, ends (a .body) (a .spares) v (f .fields .ensures) .1))
+    ((each f .1, left .0), (left .1, fields-end (a .body) (a .spares) v (f .fields .ensures) .1))
 
 abbrev start : tie.After-put-cells2 → tie.Start
 start second = second .before .before .before .before .before .before .before .before .before .before .before .before .before .before

@@ -3,7 +3,6 @@ use borrow.Author.Needs.{needs}
 use Rattle.report.proofs.read.inner.Statement.{statement}
 use Rattle.report.specs.declared.body.Content.{Content}
 use Rattle.report.specs.declared.record.Record.{Record}
-use Rattle.report.specs.declared.read.Reading.{Reading}
 use Rattle.report.specs.Runs.Reading.{contentAnswer, reading}
 use Rattle.rows.specs.declared.refusal.Verdict.the-variants.{Fine}
 use mathlib.Core.Path.{_≡_, _∙_, ap}
