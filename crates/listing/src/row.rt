@@ -87,7 +87,7 @@ impl Row {
     }
 
     // What is said of a line of which this is seen.
-    pub fn of(look: Looked) -> Row
+    pub(crate) fn seen(look: Looked) -> Row
         ensures { λ r. ⌜ r ≡ rowSeen (look .answer) look ⌝ }
     {
         let answer = look.answer;
@@ -101,6 +101,13 @@ impl Row {
             },
             Verdict::Refused(refusal) => Row::of_refusal(refusal),
         }
+    }
+
+    // What is said of a line that gave this reading.
+    pub fn of(reading: Reading) -> Row
+        ensures { λ r. ⌜ r ≡ rowOf reading ⌝ }
+    {
+        Row::seen(Looked::of(reading))
     }
 }
 
@@ -161,21 +168,21 @@ pub fn write_heading(out: &mut [u8]) -> usize
     put_bytes(out, 0, b"line answer place dc slots value\n")
 }
 
-// Puts the row of the line with this number at the start of out, as `write_heading` does.
-pub(crate) fn write_seen(number: u32, look: Looked, out: &mut [u8]) -> usize
-    ensures is { λ r. ⌜ filled r (now (out .exit)) ≡ filledBy (rowText number (rowSeen (look .answer) look)) (now (out .entry)) ⌝ }
+// Puts this row, of the line with this number, at the start of out, as `write_heading` does.
+pub(crate) fn write_one(number: u32, row: Row, out: &mut [u8]) -> usize
+    ensures is { λ r. ⌜ filled r (now (out .exit)) ≡ filledBy (rowText number row) (now (out .entry)) ⌝ }
     ensures fits { λ r. ⌜ r ≤ length (now (out .entry)) ⌝ }
 {
     if out.len() < LONGEST {
         return 0;
     }
-    put_row(out, 0, number, Row::of(look))
+    put_row(out, 0, number, row)
 }
 
-// The same, of a line that gave this reading.
+// Puts the row of the line with this number, which gave this reading, at the start of out, as `write_heading` does.
 pub fn write_row(number: u32, reading: Reading, out: &mut [u8]) -> usize
     ensures is { λ r. ⌜ filled r (now (out .exit)) ≡ filledBy (rowText number (rowOf reading)) (now (out .entry)) ⌝ }
     ensures fits { λ r. ⌜ r ≤ length (now (out .entry)) ⌝ }
 {
-    write_seen(number, Looked::of(reading), out)
+    write_one(number, Row::of(reading), out)
 }

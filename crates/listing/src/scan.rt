@@ -14,7 +14,7 @@ use crate::row::LONGEST;
 use crate::row::Row;
 use crate::row::put_cut;
 use crate::row::put_row;
-use crate::row::write_seen;
+use crate::row::write_one;
 use line::look_line;
 
 // So many lines are read.
@@ -86,7 +86,7 @@ fn scan_lines(lines: u32, chunk: &[u8], from: usize, out: &mut [u8], to: usize) 
                 used: used,
             };
         }
-        let said = Row::of(look_line(&chunk[at..end]));
+        let said = Row::seen(look_line(&chunk[at..end]));
         n += 1;
         let next = put_row(out, put, n, said);
         put = next;
@@ -125,7 +125,7 @@ fn scan_first(from: Progress, chunk: &[u8], out: &mut [u8]) -> Step
     }
     let begun = first.begun;
     let length = first.length;
-    let said = Row::of(look_line(&begun[..length]));
+    let said = Row::seen(look_line(&begun[..length]));
     let put = put_row(out, 0, lines + 1, said);
     let rest = scan_lines(lines + 1, chunk, end + 1, out, put);
     let progress = rest.progress;
@@ -186,7 +186,7 @@ pub fn finish(from: Progress, out: &mut [u8]) -> usize
     if lines < LIMIT {
         if 0 < length {
             let begun = from.begun;
-            return write_seen(lines + 1, look_line(&begun[..length]), out);
+            return write_one(lines + 1, Row::seen(look_line(&begun[..length])), out);
         }
     }
     0

@@ -42,13 +42,17 @@ returns : tie.Need-returns
 unfolding finished lineRow
 returns c =
     let w = c .before .before in
-    let r = w .before .before in
+    let e = w .before .before in
+    let r = e .before in
     let t = r .before .before .before in
     let l = t .before .before in
     let s = l .before .before in
+    let n : ℕ = s .args .from .lines + 1 in
     let begun : List ℕ = begunIn (s .args .from) in
     let m : 0 < length begun = omega (arith, t .if2 .taken, ap length (same l), length-take-le (l .least .result) (s .args .from .begun) (fits l)) in
-    (w .write-seen .ensures .0 ∙ ap (λ (x : List ℕ). filledBy x (s .args .out .now)) (ap (λ (l : Looked). rowText (s .args .from .lines + 1) (rowSeen (l .answer) l)) (r .look-line .ensures .0) ∙ ap (rowText (s .args .from .lines + 1)) (row-seen (lineReading (take (l .least .result) (s .args .from .begun)))) ∙ ap (lineRow (s .args .from .lines + 1)) (same l) ∙ last-some (s .args .from .lines) begun (omega (arith, limit-is)) m), w .write-seen .ensures .1)
+    let row = e .seen .ensures ∙ ap (λ (x : Looked). rowSeen (x .answer) x) (r .look-line .ensures .0) ∙ row-seen (lineReading (take (l .least .result) (s .args .from .begun))) in
+    let text = ap (rowText n) row ∙ ap (lineRow n) (same l) ∙ last-some (s .args .from .lines) begun (omega (arith, limit-is)) m in
+    (w .write-one .ensures .0 ∙ ap (λ (x : List ℕ). filledBy x (s .args .out .now)) text, w .write-one .ensures .1)
 
 returns-2 : tie.Need-returns-2
 unfolding finished
@@ -65,4 +69,4 @@ returns-3 c =
 
 pub finish-spec : {M : Type 1} → statement M
 finish-spec =
-    tie.close (tie.spec (λ c κs. search needs) (λ c. search needs) array-share-prefix-begun slice-aggregate-look-line (λ c κs. search needs) (λ c κs. search needs) (λ c. search needs) returns returns-2 returns-3)
+    tie.close (tie.spec (λ c κs. search needs) (λ c. search needs) array-share-prefix-begun slice-aggregate-look-line (λ c κs. search needs) (λ c κs. search needs) (λ c κs. search needs) (λ c. search needs) returns returns-2 returns-3)

@@ -67,7 +67,7 @@ returns-2 c =
     let s = f .before .before .before in
     let d : List ℕ = s .args .chunk .now in
     let more : f .find .result < length d = omega (arith, f .find .ensures .high, o .before .before .before .before .if1 .left) in
-    first-done (s .args .from .lines) (begunIn (s .args .from)) d _ _ _ (f .find .result) (w .put-row .result) (m .with .result) (b .scan-lines .result) _ (s .pre .0) (short s) (f .find .ensures) more (m .with .ensures) (row-said (s .args .from .lines + 1) (begunIn (m .with .result)) (o .of .ensures) (o .before .look-line .ensures .0) (w .put-row .ensures .0)) (b .scan-lines .ensures) refl refl refl (w .put-row .kept .0)
+    first-done (s .args .from .lines) (begunIn (s .args .from)) d _ _ _ (f .find .result) (w .put-row .result) (m .with .result) (b .scan-lines .result) _ (s .pre .0) (short s) (f .find .ensures) more (m .with .ensures) (row-said (s .args .from .lines + 1) (begunIn (m .with .result)) (o .seen .ensures) (o .before .look-line .ensures .0) (w .put-row .ensures .0)) (b .scan-lines .ensures) refl refl refl (w .put-row .kept .0)
 
 pub scan-first-spec : {M : Type 1} → statement M
 scan-first-spec =

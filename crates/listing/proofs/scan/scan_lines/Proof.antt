@@ -48,7 +48,7 @@ loop-again c =
       omega arith,
       room .1,
       p .put-row .kept .0 ∙ l .loop .inv .3,
-      turn d (s .args .out .now) (l .loop .out) _ (s .args .lines) (s .args .from) (s .args .to) (l .loop .n) (l .loop .at) (l .loop .put) (f .find .result) (p .put-row .result) (l .loop .inv .4) (omega (arith, limit-is)) (f .find .ensures) more (row-said (l .loop .n + 1) (take (f .find .result - l .loop .at) (drop (l .loop .at) d)) (o .of .ensures) (o .before .look-line .ensures .0) (p .put-row .ensures .0)) (room .0),
+      turn d (s .args .out .now) (l .loop .out) _ (s .args .lines) (s .args .from) (s .args .to) (l .loop .n) (l .loop .at) (l .loop .put) (f .find .result) (p .put-row .result) (l .loop .inv .4) (omega (arith, limit-is)) (f .find .ensures) more (row-said (l .loop .n + 1) (take (f .find .result - l .loop .at) (drop (l .loop .at) d)) (o .seen .ensures) (o .before .look-line .ensures .0) (p .put-row .ensures .0)) (room .0),
     )
 
 returns-2 : tie.Need-returns-2 Inv-loop μ-loop

@@ -1,17 +1,16 @@
 -- `listing::row::Row::of` meets its contract.
+use mathlib.Core.Path.{_∙_, ap}
+use Rattle.report.specs.declared.look.Looked.{Looked}
+use Rattle.listing.specs.Rows.{rowSeen}
+use Rattle.listing.proofs.Lines.SeenRows.{row-seen}
 use borrow.Author.Needs.{needs}
 use Rattle.listing.proofs.row.Row.of.Statement.{statement}
 use Rattle.listing.proofs.row.Row.of.Tie as tie
 
-enum-told : tie.Need-enum-told
-enum-told c = search needs
-
 returns : tie.Need-returns
-returns c = simp (c .before .enum-told .given .1, c .slots-entry .ensures)
-
-returns-2 : tie.Need-returns-2
-returns-2 c = simp (c .before .before .answer .given .1, c .of-refusal .ensures)
+returns c =
+    let o = c .before in
+    c .seen .ensures ∙ ap (λ (l : Looked). rowSeen (l .answer) l) (o .of .ensures) ∙ row-seen (o .before .args .reading)
 
 pub of-spec : {M : Type 1} → statement M
-of-spec =
-    tie.close (tie.spec enum-told (λ c κs. search needs) (λ c. search needs) (λ c κs. search needs) returns returns-2)
+of-spec = tie.close (tie.spec (λ c κs. search needs) (λ c κs. search needs) returns)
