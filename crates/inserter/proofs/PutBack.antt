@@ -1,20 +1,20 @@
 -- The one page that a taking can have changed, put back alone.
-use mathlib.Core.Path.{_≡_, refl, sym, ap, _∙_}
-use mathlib.Core.Bool.{Bool, true, false, cond}
+use mathlib.Core.Path.{_≡_, refl, sym, subst, ap, _∙_}
 use mathlib.Core.List.{List}
 use mathlib.Core.Logic.{_⊎_, inl, inr}
 use Prim.Native.Nat.{ℕ, _-_, _<_, _≤_}
 use native.Mathlib.Omega.{arith}
 use lib.ListN.{length, set}
 use lib.Seq.{getD-set-same, set-getD, set-out}
-use lib.Dec.{eqb}
-use Rattle.rows.specs.Values.{sameBytes}
 use Rattle.rows.specs.declared.refusal.Refusal.{Refusal}
 use Rattle.report.specs.declared.record.Record.{Record}
 use Rattle.report.specs.declared.body.Body.{Body}
 use Rattle.report.specs.Categories.{pagedOf}
 use Rattle.pages.specs.declared.page.Page.{Page}
-use Rattle.pages.specs.Pages.{disputedPage, heldPage, join, noPage}
+use Rattle.pages.specs.declared.page.Kept.{Kept}
+use Rattle.pages.specs.declared.page.Kept.the-variants.{Own, Other, Neither}
+use Rattle.pages.specs.Pages.{heldPage, join, keptOf, noPage}
+use Rattle.pages.proofs.KeptPages.{joined-by, keptPage}
 use Rattle.bulletin.specs.declared.store.Store.{Store}
 use Rattle.bulletin.specs.declared.take.Taken.the-variants.{Refused}
 use Rattle.bulletin.specs.declared.take.Taking.{Taking}
@@ -32,16 +32,12 @@ use Rattle.inserter.specs.Answers.{pagesBefore}
 use Rattle.inserter.proofs.Kept.{same-bytes}
 
 join-eighteen : (p q : Page) → length (p .text) ≡ 18 → length (q .text) ≡ 18 → length (join p q .text) ≡ 18
-unfolding join
-join-eighteen p q a b = by (eqb (p .mark) 0) (eqb (q .mark) 0) (eqb (p .mark) 1) (eqb (q .mark) 1) (sameBytes (p .text) (q .text))
+join-eighteen p q a b = subst (λ (x : Page). length (x .text) ≡ 18) (joined-by p q (keptOf p q) refl refl) (by (keptOf p q))
   where
-    by : (v w x y z : Bool) → length (cond v q (cond w p (cond x (cond y (cond z p disputedPage) disputedPage) disputedPage)) .text) ≡ 18
-    by true w x y z = b
-    by false true x y z = a
-    by false false true true true = a
-    by false false true true false = refl
-    by false false true false z = refl
-    by false false false y z = refl
+    by : (k : Kept) → length (keptPage k p q .text) ≡ 18
+    by Own = a
+    by Other = b
+    by Neither = refl
 
 module _ (buffer bytes : List ℕ) where
   abbrev s : Store
