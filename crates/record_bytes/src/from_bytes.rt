@@ -1,13 +1,13 @@
 // From any 251 bytes back to a record.
 ghost use mathlib.Core.Path.{_≡_};
-ghost use mathlib.Core.Bool.{not};
-ghost use Prim.Native.Nat.{ℕ, _+_, _≤_};
+ghost use mathlib.Core.Bool.{cond, not};
+ghost use Prim.Native.Nat.{ℕ, _+_, _*_, _≤_, _<_};
 ghost use lib.ListN.{length, getD, take, drop, replicate};
 ghost use lib.Seq.{slice};
 ghost use Rattle.rows.specs.Values.{sameBytes};
 ghost use Rattle.rows.specs.Runs.Fields.{bytesFor};
 ghost use Rattle.record_bytes.specs.Packed.{bodyBytes, zeroFilled};
-ghost use Rattle.record_bytes.specs.Unpacked.{numberAt, slotAt, commonInBytes, size, cellsAt, bothInBytes, slotsFrom, slotsOrMisplaced, recordFrom};
+ghost use Rattle.record_bytes.specs.Unpacked.{numberAt, misplaced, slotAt, commonInBytes, size, cellsAt, bothInBytes, slotsFrom, slotsOrMisplaced, recordFrom};
 use crate::sizes::FIELDS_AT;
 use crate::sizes::RECORD_SIZE;
 use crate::sizes::SLOT_COUNT;
@@ -43,19 +43,6 @@ fn number_at(bytes: &[u8], at: usize, count: usize) -> u64
         k += 1;
     }
     sum
-}
-
-fn slot_at(bytes: &[u8], at: usize) -> Slot
-    requires { ⌜ at + 12 ≤ length (now bytes) ⌝ }
-    ensures { λ r. ⌜ r ≡ slotAt (now (bytes .entry)) at ⌝ }
-{
-    Slot {
-        day: bytes[at],
-        hour: bytes[at + 1],
-        minute: bytes[at + 2],
-        strength: bytes[at + 3],
-        place: number_at(bytes, at + 4, 8),
-    }
 }
 
 // ---- 3 to 8
@@ -148,30 +135,64 @@ fn has_stray(bytes: &[u8], end: usize) -> bool
 
 // ---- 41 to 232
 
-// The slots, and where something is stray one that no category allows.
-fn slots_of(bytes: &[u8], stray: bool) -> [Slot; SLOT_COUNT]
-    requires { ⌜ length (now bytes) ≡ 251 ⌝ }
-    ensures { λ r. ⌜ r ≡ slotsOrMisplaced stray (slotsFrom (now (bytes .entry))) ⌝ }
+// Slot k, from 0.
+fn slot_at(bytes: &[u8], k: usize) -> Slot
+    requires { ⌜ (length (now bytes) ≡ 251) × (k < 16) ⌝ }
+    ensures { λ r. ⌜ r ≡ slotAt (now (bytes .entry)) (41 + 12 * k) ⌝ }
 {
-    let none = Slot::none();
-    let mut slots = [none; SLOT_COUNT];
-    let mut k = 0;
-    while k < SLOT_COUNT {
-        let s = slot_at(bytes, SLOTS_AT + SLOT_SIZE * k);
-        slots[k] = s;
-        k += 1;
+    let at = SLOTS_AT + SLOT_SIZE * k;
+    Slot {
+        day: bytes[at],
+        hour: bytes[at + 1],
+        minute: bytes[at + 2],
+        strength: bytes[at + 3],
+        place: number_at(bytes, at + 4, 8),
     }
+}
+
+// The last slot, and where something is stray one that no category allows.
+fn last_slot(bytes: &[u8], stray: bool) -> Slot
+    requires { ⌜ length (now bytes) ≡ 251 ⌝ }
+    ensures { λ r. ⌜ r ≡ cond stray misplaced (slotAt (now (bytes .entry)) 221) ⌝ }
+{
     if stray {
-        let misplaced = Slot {
+        return Slot {
             day: 0,
             hour: 1,
             minute: 0,
             strength: 0,
             place: 0,
         };
-        slots[15] = misplaced;
     }
-    slots
+    slot_at(bytes, 15)
+}
+
+// The slots, the last of which tells of what is stray. Each is read at a place that the compiler knows, so that it goes from the
+// bytes into the record, where a loop would fill an array first. The last one goes first: behind its test the compiler makes one load
+// of a place's eight bytes, and before it one of each byte.
+fn slots_of(bytes: &[u8], stray: bool) -> [Slot; SLOT_COUNT]
+    requires { ⌜ length (now bytes) ≡ 251 ⌝ }
+    ensures { λ r. ⌜ r ≡ slotsOrMisplaced stray (slotsFrom (now (bytes .entry))) ⌝ }
+{
+    let last = last_slot(bytes, stray);
+    [
+        slot_at(bytes, 0),
+        slot_at(bytes, 1),
+        slot_at(bytes, 2),
+        slot_at(bytes, 3),
+        slot_at(bytes, 4),
+        slot_at(bytes, 5),
+        slot_at(bytes, 6),
+        slot_at(bytes, 7),
+        slot_at(bytes, 8),
+        slot_at(bytes, 9),
+        slot_at(bytes, 10),
+        slot_at(bytes, 11),
+        slot_at(bytes, 12),
+        slot_at(bytes, 13),
+        slot_at(bytes, 14),
+        last,
+    ]
 }
 
 // The record that 251 lent bytes are, whatever they are. Bytes of another length are a record of zeros.
