@@ -4,8 +4,8 @@ pub mod Bytes
 pub mod Windows
 pub mod Frames
 pub mod Inside
-pub mod Laid
 pub mod Pushing
+pub mod Putting
 pub mod ByteLoops
 pub mod Arrays
 pub mod Settled

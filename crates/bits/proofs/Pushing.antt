@@ -2,12 +2,12 @@
 use mathlib.Core.Path.{_≡_, refl, sym, ap, _∙_, subst}
 use mathlib.Core.List.{List, [], _∷_, _++_}
 use Prim.Native.Nat.{ℕ, zero, suc, _+_, _-_, _*_, _/_, _%_, _^_, _<_, _≤_}
-use native.Mathlib.Nat.{lt-of-lt-of-le, add-mul, mul-assoc, mul-right-comm, mul-mod-left, mod-lt, mod-eq-of-lt, div-eq-of-lt, zero-add, mul-one, zero-div, zero-mod, add-mul-mod-self-right, suc-ne-zero, suc-inj}
+use native.Mathlib.Nat.{lt-of-lt-of-le, add-mul, mul-assoc, mul-right-comm, mul-mod-left, mod-lt, mod-eq-of-lt, div-eq-of-lt, zero-add, suc-ne-zero, suc-inj}
 use native.Mathlib.Omega.{arith}
 use lib.Arith.{digits-lt}
 use lib.Bits.{bitOr, or-shifted}
 use lib.ListN.{length, replicate, getD, drop, drop-of-length-le}
-use lib.Pow.{pow-mono, pow-add, pow-pos, mod-pow-add, mod-mod-pow, field, shl-shr, shr-lt, shr-shr, split, high, low}
+use lib.Pow.{pow-mono, pow-add, pow-pos, mod-pow-add, shl-shr, shr-lt, shr-shr, split, high, low}
 use borrow.Author.Tests.{eq-eqb, ne-eqb}
 use native.Mathlib.Numerals.{add-one}
 use lib.Seq.{drop-cons}
@@ -193,42 +193,6 @@ held-whole x n s l =
     let first : n / 2 ^ 192 ≡ a = sym (shr-shr n 128 64) ∙ ap (λ (y : ℕ). y / 2 ^ 64) second ∙ word-off a (s .second) in
     let none : s .lost ≡ 0 = sym (word-off (s .lost) (s .first)) ∙ ap (λ (y : ℕ). y / 2 ^ 64) (sym first) ∙ shr-shr n 192 64 ∙ div-eq-of-lt l in
     sym (s .is ∙ ap (λ (o : ℕ). full o x) none ∙ ap (λ (y : ℕ). ((y * 2 ^ 64 + x .second) * 2 ^ 64 + x .third) * 2 ^ 64 + x .last) (zero-add (x .first)))
-
--- ---- the bytes of four words
-
--- a word put where nothing stands, with p bits behind it
-module _ (n p : ℕ) (free : n % 2 ^ (64 + p) ≡ 0) where
-  word-put : (r v : ℕ) → r + n / 2 ^ p % 2 ^ 64 * 2 ^ p ≡ n + v * 2 ^ p → r ≡ n + v * 2 ^ p
-  word-put r v e =
-      let none : n / 2 ^ p % 2 ^ 64 ≡ 0 = sym (field n 64 p) ∙ ap (λ (y : ℕ). y / 2 ^ p) free ∙ zero-div (2 ^ p) in
-      omega (arith, rw none at e)
-
-  still-free : (v : ℕ) → (n + v * 2 ^ p) % 2 ^ p ≡ 0
-  still-free v = add-mul-mod-self-right n v (2 ^ p) ∙ sym (mod-mod-pow n 64 p) ∙ ap (λ (y : ℕ). y % 2 ^ p) free ∙ zero-mod (2 ^ p)
-
--- two runs of bits, in front of n
-joined : (n x y k m p : ℕ) → k ≡ m + p → n + x * 2 ^ k + y * 2 ^ p ≡ n + (x * 2 ^ m + y) * 2 ^ p
-joined n x y k m p e = rw (e, pow-add 2 m p, ← mul-assoc x (2 ^ m) (2 ^ p), add-mul (x * 2 ^ m) y (2 ^ p)) (omega arith)
-
-pub four-words : (x : Words) (a b c d : ℕ)
-    → a + 0 / 2 ^ 192 % 2 ^ 64 * 2 ^ 192 ≡ 0 + x .first * 2 ^ 192
-    → b + a / 2 ^ 128 % 2 ^ 64 * 2 ^ 128 ≡ a + x .second * 2 ^ 128
-    → c + b / 2 ^ 64 % 2 ^ 64 * 2 ^ 64 ≡ b + x .third * 2 ^ 64
-    → d + c / 2 ^ 0 % 2 ^ 64 * 2 ^ 0 ≡ c + x .last * 2 ^ 0
-    → d ≡ valueOf x
-four-words x a b c d ea eb ec ed =
-    let one = word-put 0 192 refl a (x .first) ea in
-    let free₁ : a % 2 ^ 192 ≡ 0 = ap (λ (y : ℕ). y % 2 ^ 192) one ∙ still-free 0 192 refl (x .first) in
-    let two = word-put a 128 free₁ b (x .second) eb in
-    let free₂ : b % 2 ^ 128 ≡ 0 = ap (λ (y : ℕ). y % 2 ^ 128) two ∙ still-free a 128 free₁ (x .second) in
-    let three = word-put b 64 free₂ c (x .third) ec in
-    let free₃ : c % 2 ^ 64 ≡ 0 = ap (λ (y : ℕ). y % 2 ^ 64) three ∙ still-free b 64 free₂ (x .third) in
-    let four = word-put c 0 free₃ d (x .last) ed in
-    four
-    ∙ ap (λ (y : ℕ). y + x .last * 2 ^ 0) (three ∙ ap (λ (y : ℕ). y + x .third * 2 ^ 64) (two ∙ ap (λ (y : ℕ). y + x .second * 2 ^ 128) one ∙ joined 0 (x .first) (x .second) 192 64 128 refl) ∙ joined 0 (x .first * 2 ^ 64 + x .second) (x .third) 128 64 64 refl)
-    ∙ joined 0 ((x .first * 2 ^ 64 + x .second) * 2 ^ 64 + x .third) (x .last) 64 64 0 refl
-    ∙ zero-add _
-    ∙ mul-one _
 
 -- ---- one turn of the loop that pushes fields
 

@@ -15,23 +15,14 @@ field16-is-settled κs a x y = beside answer
 pub field8-is-settled : Settled bits.field8.ended bits.field8.Reads.Post
 field8-is-settled κs a x y = beside answer
 
-pub put-is-settled : Settled bits.put.ended bits.put.Reads.Post
-put-is-settled κs a x y = answer
-
-pub blank-is-settled : Settled bits.blank.ended bits.blank.Reads.Post
-blank-is-settled κs a x y = answer
-
-pub copy-to-is-settled : Settled bits.copy_to.ended bits.copy_to.Reads.Post
-copy-to-is-settled κs a x y = buffer second
-
 pub Words-of-is-settled : Settled bits.words.Words.of.ended bits.words.Words.of.Reads.Post
 Words-of-is-settled κs a x y = answer
 
 pub Words-push-is-settled : Settled bits.words.Words.push.ended bits.words.Words.push.Reads.Post
 Words-push-is-settled κs a x y = answer
 
-pub Words-bytes-is-settled : Settled bits.words.Words.bytes.ended bits.words.Words.bytes.Reads.Post
-Words-bytes-is-settled κs a x y = answer
+pub Words-put-is-settled : Settled bits.words.Words.put.ended bits.words.Words.put.Reads.Post
+Words-put-is-settled κs a x y = buffer second
 
 pub push-all-is-settled : Settled bits.words.push_all.ended bits.words.push_all.Reads.Post
 push-all-is-settled κs a x y = answer

@@ -1,10 +1,11 @@
 // A frame's number of 256 bits in four words, the first the most significant: how a frame is put together, one
 // field behind the other, where nothing is copied for a field.
 ghost use mathlib.Core.Path.{_≡_};
-ghost use Prim.Native.Nat.{_-_, _<_};
-ghost use Rattle.bits.specs.Frame.{bytesOf};
-ghost use Rattle.bits.specs.Words.{carried, pushed, pushedUntil, valueOf, wordsOf};
-use crate::put_bytes_between;
+ghost use Prim.Native.Nat.{_≤_, _<_};
+ghost use Rattle.lent.specs.Numbers.{wide};
+ghost use Rattle.bits.specs.Words.{carried, pushed, pushedUntil, wordInto, wordsInto, wordsOf};
+use lent::byte_of;
+use lent::put_bytes;
 
 pub struct Words {
     pub first: u64,
@@ -19,6 +20,33 @@ fn carry(high: u64, low: u64, width: usize) -> u64
     ensures { λ r. ⌜ r ≡ carried high low width ⌝ }
 {
     (high << width) | (low >> (64 - width))
+}
+
+// The bytes of a word.
+fn word_bytes(word: u64) -> [u8; 8]
+    ensures { λ r. ⌜ r ≡ wide 8 word ⌝ }
+{
+    [
+        byte_of(word, 7),
+        byte_of(word, 6),
+        byte_of(word, 5),
+        byte_of(word, 4),
+        byte_of(word, 3),
+        byte_of(word, 2),
+        byte_of(word, 1),
+        byte_of(word, 0),
+    ]
+}
+
+// A word into the eight bytes from `at` on, where the slice has them. Each word asks for itself: of eight bytes that stand
+// behind a test the compiler makes one store, of all 32 behind one test it makes 32.
+fn put_word(out: &mut [u8], at: usize, word: u64)
+    requires { ⌜ at ≤ 24 ⌝ }
+    ensures { λ _. ⌜ now (out .exit) ≡ wordInto (now (out .entry)) at word ⌝ }
+{
+    if at + 8 <= out.len() {
+        put_bytes(out, at, &word_bytes(word));
+    }
 }
 
 impl Words {
@@ -50,16 +78,14 @@ impl Words {
         }
     }
 
-    // The 32 bytes of the number.
-    pub fn bytes(self) -> [u8; 32]
-        ensures { λ r. ⌜ r ≡ bytesOf (valueOf self) ⌝ }
+    // The words into a lent slice, one behind the other, as many as find room: 32 bytes are then those of the number.
+    pub fn put(self, out: &mut [u8])
+        ensures { λ _. ⌜ now (out .exit) ≡ wordsInto self (now (out .entry)) ⌝ }
     {
-        let mut frame = [0u8; 32];
-        put_bytes_between(&mut frame, 0, 8, self.first);
-        put_bytes_between(&mut frame, 8, 16, self.second);
-        put_bytes_between(&mut frame, 16, 24, self.third);
-        put_bytes_between(&mut frame, 24, 32, self.last);
-        frame
+        put_word(out, 0, self.first);
+        put_word(out, 8, self.second);
+        put_word(out, 16, self.third);
+        put_word(out, 24, self.last);
     }
 }
 

@@ -6,6 +6,7 @@ ghost use Rattle.bits.specs.Frame.{bytesOf};
 ghost use Rattle.bits.specs.Words.{pushedAll, pushedUntil, wordsOf};
 ghost use Rattle.rows.specs.Layout.{common, noCategory};
 ghost use mathlib.Core.Bool.{cond};
+ghost use lib.ListN.{length};
 ghost use Rattle.rows.specs.Values.{headValues, widths};
 ghost use Rattle.report.specs.Categories.{layout, sidesOf};
 ghost use Rattle.rows.specs.Runs.Fields.{fieldsIn};
@@ -87,12 +88,14 @@ fn front(r: Record, fields: Fields) -> Words
     inner.push(6, 1).push(6, r.reserved as u64)
 }
 
-// The frame of a valid record, whose fields these are: the parity is that of all bits before it.
-pub(crate) fn encode(r: Record, fields: Fields) -> [u8; 32]
-    requires { ⌜ Valid r × (fields ≡ fieldsIn (layout (r .body)) (sidesOf (r .body) (r .spares))) ⌝ }
-    ensures { λ f. ⌜ f ≡ bytesOf (frame r) ⌝ }
+// The frame of a valid record, whose fields these are, into a lent one. The parity is that of all bits before it, which have to
+// stand in a frame first.
+pub(crate) fn encode(r: Record, fields: Fields, lent: &mut [u8])
+    requires { ⌜ Valid r × ((fields ≡ fieldsIn (layout (r .body)) (sidesOf (r .body) (r .spares))) × (length (now lent) ≡ 32)) ⌝ }
+    ensures { λ _. ⌜ now (lent .exit) ≡ bytesOf (frame r) ⌝ }
 {
-    let bytes = front(r, fields).push(30, 0).bytes();
-    let parity = parity::parity(&bytes);
-    bits::put(bytes, 226, 24, parity as u64)
+    let words = front(r, fields);
+    words.push(30, 0).put(lent);
+    let parity = parity::parity(lent);
+    words.push(24, parity as u64).push(6, 0).put(lent);
 }

@@ -36,7 +36,7 @@ pub fn write(r: Record, frame: &mut [u8]) -> Verdict
         Verdict::Fine => {
             let body = r.body;
             let spares = r.spares;
-            bits::copy_to(encode(r, body.fields(spares)), frame);
+            encode(r, body.fields(spares), frame);
             found
         }
         Verdict::Refused(_) => found,

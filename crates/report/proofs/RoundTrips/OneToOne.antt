@@ -3,7 +3,7 @@ use mathlib.Core.Path.{_≡_, sym, ap, _∙_}
 use Prim.Native.Nat.{ℕ}
 use mathlib.Core.List.{List}
 use Rattle.bits.specs.Frame.{Bytes, bytesOf}
-use Rattle.bits.proofs.Laid.{bytesOf-frame}
+use Rattle.bits.proofs.Frames.{bytesOf-frame}
 use Rattle.rows.specs.declared.refusal.Verdict.the-variants.{Fine}
 use Rattle.report.specs.declared.record.Record.{Record}
 use Rattle.report.specs.declared.read.Reading.{Reading}

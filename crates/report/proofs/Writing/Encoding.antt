@@ -1,10 +1,10 @@
 -- The pieces that are pushed, one behind the other, are the front of the frame; with the parity behind them they are the frame.
 use Rattle.report.specs.declared.body.Body.{Body}
 use mathlib.Core.Bool.{Bool, _||_, cond, false, true}
-use Rattle.bits.proofs.Laid.{Free, number-placed-free, placed-frame}
-use Rattle.bits.proofs.Pushing.{Held, held-all, held-none, held-whole, pushed-append, until-padded}
+use Rattle.bits.proofs.Putting.{words-in}
+use Rattle.bits.proofs.Pushing.{Held, held-all, held-none, pushed-append, until-padded}
 use Rattle.bits.specs.declared.words.Words.{Words}
-use Rattle.bits.specs.Words.{pushed, pushedAll, pushedUntil, valueOf, wordsOf}
+use Rattle.bits.specs.Words.{pushed, pushedAll, pushedUntil, wordsInto, wordsOf}
 use Rattle.bits.proofs.Bytes.{number-bytesOf}
 use Rattle.rows.specs.Layout.{Layout, Row, allRows, common, ending, noCategory, slotsRows}
 use mathlib.Core.List.{List, [], _++_, map-append, _∷_}
@@ -19,17 +19,16 @@ use Rattle.rows.proofs.Rules.Outcomes.{and-both, fine-both, unless-fine}
 use Rattle.rows.specs.Values.{filled, headValues, joined, widths, lastValues, partWidths}
 use Rattle.rows.specs.Runs.Fields.{hasRows, fieldsIn}
 use native.Mathlib.Omega.{arith}
-use Rattle.bits.specs.Frame.{bytesOf, number, placed}
+use Rattle.bits.specs.Frame.{bytesOf, number}
 use Rattle.bits.proofs.Layouts.{fit-apart}
 use Rattle.bits.specs.Layout.{encode, Fit, total}
 use lib.Dec.{eqb, lit<, lit≤, ltb}
 use borrow.Author.Tests.{eqb-true, ltb-true}
-use Rattle.bits.proofs.Frames.{frame-is}
 use Rattle.report.proofs.Tables.{pieces-fit, piecesFit, suited-slots}
 use Rattle.report.specs.Categories.{layout, sidesOf}
 use lib.ListN.{length, length-map, replicate, take}
 use Rattle.report.proofs.Categories.{listed, sides-filled, text-apart}
-use native.Mathlib.Nat.{mul-mod-left, mod-eq-of-lt, add-zero}
+use native.Mathlib.Nat.{mod-eq-of-lt, add-zero}
 use Rattle.nankai.specs.Nankai.{nankai}
 use Rattle.parity.proofs.Claims.{parity-fits-its-field}
 use Rattle.parity.proofs.Front.{parity-of-front}
@@ -38,6 +37,7 @@ use lib.Pow.{shl-lt, shl-shr}
 use Rattle.slots.specs.Runs.{slotsPushed}
 use Rattle.slots.specs.Slots.{slotsValues, tidySlots}
 use lib.Seq.{take-all}
+use Rattle.report.proofs.Writing.Ends.{ended-lt}
 use Rattle.report.proofs.Writing.Validity.{valid-keeps}
 use Rattle.report.specs.Records.{values}
 use Rattle.report.proofs.RoundTrips.WrittenThenRead.{front-fit, front-lt}
@@ -189,35 +189,41 @@ module _ (r : Record) (s : Shaped r) (v : Valid r) where
 
 -- ---- the parity behind them
 
-together : (x y : ℕ) → x * 2 ^ 30 + y * 2 ^ 6 ≡ (x * 2 ^ 24 + y) * 2 ^ 6
+together : (x y : ℕ) → x * 2 ^ 30 + (y * 2 ^ 6 + 0) ≡ (x * 2 ^ 24 + y) * 2 ^ 6
 together x y = omega arith
 
 module _ (r : Record) (s : Shaped r) (v : Valid r) where
   front-small : front r * 2 ^ 30 < 2 ^ 256
   front-small = shl-lt 226 30 (front-lt r s (valid-keeps r s v))
 
-  -- the words of bits 0 to 225, with room for the parity behind them
-  pub front-number : (x : Words) → x ≡ pushedAll (wordsOf 0) (frontWidths (layout (r .body))) (frontValues r) → valueOf (pushed x 30 0) ≡ front r * 2 ^ 30
+  -- the words of bits 0 to 225
+  held-front : (x : Words) → x ≡ pushedAll (wordsOf 0) (frontWidths (layout (r .body))) (frontValues r) → Held x (front r)
   unfolding front
-  front-number x e =
+  held-front x e =
       let ws = frontWidths (layout (r .body)) in
       let vs = frontValues r in
-      let n = encode ws vs in
       let fields = held-all ws vs (wordsOf 0) 0 (fieldlike ws (pieces (r .body) (valid-known r v) .whole)) (front-fit r s (valid-keeps r s v)) held-none in
-      let all = held-all (30 ∷ []) (0 ∷ []) (pushedAll (wordsOf 0) ws vs) _ ((lit< tt, lit≤ tt), tt) (lit< tt, tt) fields in
-      let whole : 0 * 2 ^ total ws + n ≡ n = omega arith in
-      let is : (0 * 2 ^ total ws + n) * 2 ^ 30 + 0 ≡ n * 2 ^ 30 = ap (λ (y : ℕ). y * 2 ^ 30 + 0) whole ∙ add-zero (n * 2 ^ 30) in
-      ap (λ (y : Words). valueOf (pushed y 30 0)) e
-      ∙ held-whole (pushed (pushedAll (wordsOf 0) ws vs) 30 0) (n * 2 ^ 30) (subst (Held (pushed (pushedAll (wordsOf 0) ws vs) 30 0)) is all) front-small
+      let whole : 0 * 2 ^ total ws + encode ws vs ≡ encode ws vs = omega arith in
+      subst (λ (y : Words). Held y (encode ws vs)) (sym e) (subst (Held (pushedAll (wordsOf 0) ws vs)) whole fields)
 
-  pub encoded : (f : List ℕ) (p : ℕ) → f ≡ bytesOf (front r * 2 ^ 30) → p ≡ parityOf f → placed f 226 24 p ≡ bytesOf (frame r)
-  unfolding frame
-  encoded f p e q =
-      let n : number f ≡ front r * 2 ^ 30 = ap number e ∙ number-bytesOf (front r * 2 ^ 30) ∙ mod-eq-of-lt front-small in
-      let small : number f < 2 ^ 256 = subst (λ (x : ℕ). x < 2 ^ 256) (sym n) front-small in
-      let parity : p ≡ parityOfFront (front r) = q ∙ parity-of-front f ∙ ap parityOfFront (ap (λ (x : ℕ). x / 2 ^ 30) n ∙ shl-shr (front r) 30) in
-      let free : Free f 226 = ap (λ (x : ℕ). x % 2 ^ 30) n ∙ mul-mod-left (front r) (2 ^ 30) in
-      let fits : p < 2 ^ 24 = subst (λ (x : ℕ). x < 2 ^ 24) (sym q) (parity-fits-its-field f) in
-      let whole = placed-frame f 226 24 p in
-      frame-is (placed f 226 24 p) _ (whole .long) (whole .bytes)
-      (number-placed-free f 226 24 p (lit≤ tt) small fits free ∙ ap₂ (λ (x y : ℕ). x + y * 2 ^ 6) n parity ∙ together (front r) (parityOfFront (front r)))
+  module _ (x : Words) (e : x ≡ pushedAll (wordsOf 0) (frontWidths (layout (r .body))) (frontValues r)) where
+    -- in a lent frame, with room for the parity behind them
+    pub front-put : (lent : List ℕ) → length lent ≡ 32 → wordsInto (pushed x 30 0) lent ≡ bytesOf (front r * 2 ^ 30)
+    front-put lent l =
+        words-in (pushed x 30 0) (front r * 2 ^ 30)
+        (subst (Held (pushed x 30 0)) (add-zero (front r * 2 ^ 30)) (held-all (30 ∷ []) (0 ∷ []) x (front r) ((lit< tt, lit≤ tt), tt) (lit< tt, tt) (held-front x e)))
+        lent l front-small
+
+    -- with the parity of that frame behind them
+    pub whole-put : (f lent : List ℕ) (p : ℕ) → f ≡ bytesOf (front r * 2 ^ 30) → p ≡ parityOf f → length lent ≡ 32
+        → wordsInto (pushed (pushed x 24 p) 6 0) lent ≡ bytesOf (frame r)
+    unfolding frame
+    whole-put f lent p o q l =
+        let n : number f ≡ front r * 2 ^ 30 = ap number o ∙ number-bytesOf (front r * 2 ^ 30) ∙ mod-eq-of-lt front-small in
+        let parity : p ≡ parityOfFront (front r) = q ∙ parity-of-front f ∙ ap parityOfFront (ap (λ (y : ℕ). y / 2 ^ 30) n ∙ shl-shr (front r) 30) in
+        let fits : p < 2 ^ 24 = subst (λ (y : ℕ). y < 2 ^ 24) (sym q) (parity-fits-its-field f) in
+        let is : front r * 2 ^ 30 + (p * 2 ^ 6 + 0) ≡ (front r * 2 ^ 24 + parityOfFront (front r)) * 2 ^ 6 = together (front r) p ∙ ap (λ (y : ℕ). (front r * 2 ^ 24 + y) * 2 ^ 6) parity in
+        words-in (pushed (pushed x 24 p) 6 0) ((front r * 2 ^ 24 + parityOfFront (front r)) * 2 ^ 6)
+        (subst (Held (pushed (pushed x 24 p) 6 0)) is
+        (held-all (24 ∷ 6 ∷ []) (p ∷ 0 ∷ []) x (front r) ((lit< tt, lit≤ tt), ((lit< tt, lit≤ tt), tt)) (fits, (lit< tt, tt)) (held-front x e)))
+        lent l (ended-lt (front r) (parityOfFront (front r)) (subst (λ (y : ℕ). y < 2 ^ 24) parity fits) (front-lt r s (valid-keeps r s v)))

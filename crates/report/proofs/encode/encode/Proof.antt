@@ -1,15 +1,19 @@
--- `report::encode::encode` meets its contract.
+-- `report::encode::encode` meets its contract: what it puts first is the frame without its parity, what it puts then the frame.
 use borrow.Author.Needs.{needs, length-unmapped}
-use Rattle.report.proofs.encode.encode.Statement.{statement}
-use mathlib.Core.Path.{_∙_, ap, sym}
-use Rattle.report.proofs.Writing.Encoding.{encoded, front-number}
+use mathlib.Core.List.{List}
+use mathlib.Core.Path.{_≡_, _∙_, ap, sym}
+use Prim.Native.Nat.{ℕ, _*_, _^_}
+use lib.ListN.{length}
 use Rattle.bits.specs.Frame.{bytesOf}
 use Rattle.bits.specs.declared.words.Words.{Words}
-use Rattle.bits.specs.Words.{valueOf}
+use Rattle.bits.specs.Words.{pushed, wordsInto}
+use Rattle.bits.proofs.Arrays.{unmapped}
 use Rattle.bits.proofs.Inside.{frame-lent}
 use Rattle.parity.specs.Parity.{parityOf}
+use Rattle.report.specs.Runs.Writing.{front, frame}
 use Rattle.report.proofs.Shaped.{Shaped}
-use Rattle.bits.proofs.Arrays.{unmapped}
+use Rattle.report.proofs.Writing.Encoding.{front-put, whole-put}
+use Rattle.report.proofs.encode.encode.Statement.{statement}
 use Rattle.report.proofs.encode.encode.Tie as tie
 
 -- what the types of its arrays tell of a record
@@ -19,20 +23,41 @@ shaped c =
     let good = c .good .0 in
     record { slots = unmapped _ (r .slots) 16 (good .1 .1 .1 .1 .1 .1 .0 .1 .0 .1); text = length-unmapped _ (r .text) 18 (good .1 .1 .1 .1 .1 .1 .1 .0 .1 .0 .1) }
 
-slice-aggregate-parity : tie.Need-slice-aggregate-parity
-slice-aggregate-parity c = sym (c .before .bytes .ok .1 .0 .1)
+-- the lent frame after the first words went in
+first-put : (c : tie.After-put) → c .put .last .1 .0 ≡ bytesOf (front (c .before .before .before .before .before .args .r) * 2 ^ 30)
+first-put c =
+    let push = c .before .before in
+    let f = push .before in
+    let s = f .before .before in
+    c .put .ensures
+    ∙ ap (λ (x : Words). wordsInto x (s .args .lent .now)) (push .push .ensures)
+    ∙ front-put (s .args .r) (shaped s) (s .pre .0) (f .front .result) (f .front .ensures) (s .args .lent .now) (s .pre .1 .1)
+
+-- and after all of them did
+all-put : (c : tie.After-put2) → c .put2 .last .1 .0 ≡ bytesOf (frame (c .before .before .before .before .before .before .before .before .before .before .before .before .before .args .r))
+all-put c =
+    let six = c .before .before in
+    let more = six .before in
+    let p = more .before in
+    let put = p .before .before .before .before in
+    let f = put .before .before .before in
+    let s = f .before .before in
+    let lent : List ℕ = put .put .last .1 .0 in
+    let size : length lent ≡ 32 = ap length (first-put put) in
+    c .put2 .ensures
+    ∙ ap (λ (x : Words). wordsInto x lent) (six .push3 .ensures ∙ ap (λ (x : Words). pushed x 6 0) (more .push2 .ensures))
+    ∙ whole-put (s .args .r) (shaped s) (s .pre .0) (f .front .result) (f .front .ensures) lent lent (p .parity .result) (first-put put)
+    (p .parity .ensures ∙ ap parityOf (frame-lent lent size)) size
+
+front-requires : tie.Need-front-requires
+front-requires c κs = (c .before .pre .0, c .before .pre .1 .0)
+
+same-length : tie.Need-same-length
+same-length c = ap length (all-put (c .before .before)) ∙ sym (c .before .before .before .before .before .before .before .before .before .before .before .before .before .before .before .pre .1 .1)
 
 returns : tie.Need-returns
-returns c =
-    let b = c .before .before .before in
-    let p = b .before in
-    let f = p .before in
-    let s = f .before in
-    let r = s .args .r in
-    let front = b .bytes .ensures ∙ ap bytesOf (ap (λ (x : Words). valueOf x) (p .push .ensures) ∙ front-number r (shaped s) (s .pre .0) (f .front .result) (f .front .ensures)) in
-    let size = b .bytes .ok .1 .0 .1 in
-    c .put .ensures ∙ encoded r (shaped s) (s .pre .0) (b .bytes .result) (c .before .parity .result) front (c .before .parity .ensures ∙ ap parityOf (frame-lent (b .bytes .result) size))
+returns c = all-put (c .before .before)
 
 pub encode-spec : {M : Type 1} → statement M
 encode-spec =
-    tie.close (tie.spec (λ c κs. c .pre) (λ c κs. search needs) (λ c κs. search needs) slice-aggregate-parity (λ c κs. search needs) (λ c. search needs) (λ c κs. search needs) returns)
+    tie.close (tie.spec front-requires (λ c κs. search needs) (λ c κs. search needs) (λ c κs. search needs) (λ c. search needs) (λ c κs. search needs) (λ c κs. search needs) (λ c κs. search needs) same-length returns)
