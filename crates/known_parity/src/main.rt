@@ -1,16 +1,19 @@
 // Prints the parity of frames whose parity is known from elsewhere, and whether it stands in them.
+use bits::words::Words;
 use libc::STDOUT_FILENO;
 
 // The check value of CRC-24Q is its value over the nine bytes "123456789". Zeros in front do not
 // count, since the register starts from zero: so the nine bytes are bits 154 to 225 of a frame.
 fn check_value() -> [u8; 32] {
-    let mut frame = bits::blank();
-    let mut digit: usize = 0;
+    let mut words = Words::of(0);
+    let mut digit: u64 = 0;
     while digit < 9 {
-        let next = bits::put(frame, 154 + 8 * digit, 8, 49 + digit as u64);
-        frame = next;
+        let more = words.push(8, 49 + digit);
+        words = more;
         digit += 1;
     }
+    let mut frame = [0u8; 32];
+    words.push(30, 0).put(&mut frame);
     frame
 }
 

@@ -5,7 +5,7 @@ use Rattle.rows.specs.declared.refusal.Verdict.the-variants.{Fine}
 use Rattle.rows.specs.Layout.{Layout, Row}
 use mathlib.Core.List.{List, [], _∷_, append-nil, map}
 use Rattle.report.specs.declared.record.Record.{Record}
-use mathlib.Core.Bool.{_&&_, false, true}
+use mathlib.Core.Bool.{_&&_, _||_}
 use Rattle.rows.specs.Runs.Questions.{_then_}
 use mathlib.Core.Path.{_∙_, _≡_, ap, ap₂, refl, subst, sym}
 use mathlib.Core.Logic.{_⊎_, inl, inr}
@@ -15,7 +15,7 @@ use Rattle.nankai.proofs.Walks.{any-text-passes}
 use native.Mathlib.Omega.{arith}
 use Rattle.rows.specs.Runs.Verdict.{bodyVerdict, empty, ranged, verdict, walk}
 use lib.ListN.{drop, drop-of-length-le, length, replicate, take}
-use Rattle.rows.proofs.Rules.Outcomes.{false-not-true, fine-then, then-assoc}
+use Rattle.rows.proofs.Rules.Outcomes.{fine-then, then-assoc}
 use Rattle.report.proofs.Tables.{last-walk}
 use Rattle.report.specs.Categories.{layout, sidesOf}
 use lib.Dec.{leb}
@@ -47,16 +47,13 @@ record-verdict r h n = simp (text-passes (layout (r .body) .text) (r .text) (tex
 
 -- ---- what is behind it
 
-pub text-held : (rs : List Row) (text : List ℕ) → (rs ≡ []) ⊎ (rs ≡ nankai .text) → length text ≡ 18 → hasRows rs ≡ true → empty (drop (length rs) text) ≡ true
+-- a category without text leaves nothing out, and one with text all of it
+pub text-behind : (rs : List Row) (text : List ℕ) → (rs ≡ []) ⊎ (rs ≡ nankai .text) → length text ≡ 18 → hasRows rs || empty text ≡ empty (drop (length rs) text)
 unfolding empty
-text-held rs text (inl e) n a = absurd (false-not-true (sym (ap hasRows e) ∙ a))
-text-held rs text (inr e) n a =
+text-behind rs text (inl e) n = ap (λ (qs : List Row). hasRows qs || empty text) e ∙ sym (ap (λ (qs : List Row). empty (drop (length qs) text)) e)
+text-behind rs text (inr e) n =
     let enough : length text ≤ 18 = omega arith in
-    ap (λ (qs : List Row). empty (drop (length qs) text)) e ∙ ap empty (drop-of-length-le text enough)
-
-pub text-none : (rs : List Row) (text : List ℕ) → (rs ≡ []) ⊎ (rs ≡ nankai .text) → hasRows rs ≡ false → empty (drop (length rs) text) ≡ empty text
-text-none rs text (inl e) a = ap (λ (qs : List Row). empty (drop (length qs) text)) e
-text-none rs text (inr e) a = absurd (false-not-true (sym a ∙ ap hasRows e))
+    ap (λ (qs : List Row). hasRows qs || empty text) e ∙ sym (ap (λ (qs : List Row). empty (drop (length qs) text)) e ∙ ap empty (drop-of-length-le text enough))
 
 -- ---- it is told by its values
 

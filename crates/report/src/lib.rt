@@ -4,7 +4,6 @@
 pub mod body; // what each category has
 pub mod record; // what a frame says
 mod codes; // which preambles there are
-pub mod check; // the rules, on values
 mod tidy; // nothing stands where the category has nothing
 mod encode; // a record as bits
 pub mod read; // from a lent frame to a record

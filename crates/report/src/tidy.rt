@@ -3,12 +3,11 @@ ghost use mathlib.Core.Path.{_≡_};
 ghost use mathlib.Core.Bool.{_||_};
 ghost use lib.Dec.{eqb};
 ghost use Rattle.rows.specs.Runs.Verdict.{empty};
-ghost use Rattle.rows.specs.Runs.Fields.{tableIn};
-ghost use Rattle.report.specs.Categories.{layout};
-ghost use Rattle.report.specs.Runs.Writing.{tidy};
-use crate::record::Record;
+ghost use Rattle.report.specs.Runs.Writing.{tidyBy};
+use rows::fields::Spares;
 use rows::fields::Table;
 use slots::silence::are_tidy;
+use slots::slot::Slot;
 
 fn is_blank(text: [u8; 18]) -> bool
     ensures { λ r. ⌜ r ≡ empty text ⌝ }
@@ -33,25 +32,19 @@ fn is_held(has: bool, value: u64) -> bool
     value == 0
 }
 
-impl Record {
-    // 11: nothing stands where the category has nothing, which its table says.
-    pub(crate) fn is_tidy(self, table: Table) -> bool
-        requires { ⌜ table ≡ tableIn (layout (self .body)) ⌝ }
-        ensures { λ b. ⌜ b ≡ tidy self ⌝ }
-    {
-        let slots = self.slots;
-        let text = self.text;
-        let spares = self.spares;
-        let widths = table.widths;
-        if !are_tidy(table.count, widths, slots) {
-            return false;
-        }
-        if !is_held(table.second, spares.second) {
-            return false;
-        }
-        if table.text {
-            return true;
-        }
-        is_blank(text)
+// 11: nothing stands where a category with this table has nothing.
+pub(crate) fn is_tidy(table: Table, slots: [Slot; 16], text: [u8; 18], spares: Spares) -> bool
+    ensures { λ b. ⌜ b ≡ tidyBy table slots text spares ⌝ }
+{
+    let widths = table.widths;
+    if !are_tidy(table.count, widths, slots) {
+        return false;
     }
+    if !is_held(table.second, spares.second) {
+        return false;
+    }
+    if table.text {
+        return true;
+    }
+    is_blank(text)
 }

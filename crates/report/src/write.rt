@@ -6,22 +6,29 @@ ghost use Rattle.rows.specs.Refusals.{answers};
 use crate::codes::is_preamble;
 use crate::encode::encode;
 use crate::record::Record;
+use crate::tidy::is_tidy;
 use rows::refusal::Refusal;
 use rows::refusal::Verdict;
 
-// What writing a record to a buffer of this size answers.
+// What writing a record to a buffer of this size answers. The rules of bits 8 to 225 are asked of its values alone, from the
+// lowest bit up, as reading asks them. Its parts are handed on, and not the record, which would be copied for each question.
 pub fn write_answer(r: Record, size: usize) -> Verdict
     ensures { λ v. ⌜ v ≡ writeAnswer r size ⌝ }
     ensures { λ v. ⌜ answers v ≡ writeSays r size ⌝ }
 {
+    let common = r.common;
     let body = r.body;
+    let slots = r.slots;
+    let text = r.text;
+    let spares = r.spares;
     let table = body.table();
-    let found = r.check();
+    let found = body.check(Verdict::Fine, common, slots, spares)
+        .within(220, r.reserved as u64, 0, 63);
     let before = Verdict::Fine
         .unless(size == 32, Refusal::Length)
         .unless(is_preamble(r.preamble), Refusal::Preamble)
         .unless(table.code != 0, Refusal::Category)
-        .unless(r.is_tidy(table), Refusal::Unused);
+        .unless(is_tidy(table, slots, text, spares), Refusal::Unused);
     before.then(found)
 }
 

@@ -11,8 +11,8 @@ use mathlib.Core.List.{List, [], _++_, map-append, _∷_}
 use Rattle.report.specs.declared.record.Record.{Record}
 use Rattle.report.proofs.Shaped.{Shaped, record-filled}
 use Rattle.report.specs.Runs.Writing.{front, Valid, bodyPushed, frame, frontValues, frontWidths, known, tidy, writeAnswer}
-use Prim.Native.Nat.{_%_, _*_, _+_, _-_, _/_, _<_, _^_, _≤_, ℕ}
-use mathlib.Core.Path.{_∙_, _≡_, ap, ap₂, refl, subst, sym}
+use Prim.Native.Nat.{_*_, _+_, _-_, _/_, _<_, _^_, ℕ}
+use mathlib.Core.Path.{_∙_, _≡_, ap, refl, subst, sym}
 use mathlib.Core.Logic.{_⊎_, inl, inr}
 use Rattle.slots.proofs.Parts.{allWide, fieldlike}
 use Rattle.rows.proofs.Rules.Outcomes.{and-both, fine-both, unless-fine}

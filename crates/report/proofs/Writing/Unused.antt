@@ -19,9 +19,20 @@ use Rattle.report.specs.Categories.{layout}
 use Rattle.report.specs.Records.{recordAs, textOf}
 use Prim.Native.Nat.{suc, zero, ℕ, _-_}
 use Rattle.report.proofs.Tables.{suited-slots}
-use Rattle.report.specs.Runs.Writing.{tidy}
+use Rattle.report.specs.Runs.Writing.{tidy, tidyBy}
 use Rattle.slots.specs.Slots.{tidySlots}
-use mathlib.Core.Bool.{Bool, true, false, _||_, cond}
+use mathlib.Core.Bool.{Bool, true, false, _&&_, _||_, cond}
+use Rattle.rows.specs.declared.fields.Table.{Table}
+use Rattle.rows.specs.Runs.Fields.{tableIn}
+use Rattle.report.proofs.Categories.{text-apart}
+use Rattle.report.proofs.Texts.{text-behind}
+
+-- the table in numbers tells the same
+pub by-table : (r : Record) (t : Table) → t ≡ tableIn (layout (r .body)) → length (r .text) ≡ 18 → tidyBy t (r .slots) (r .text) (r .spares) ≡ tidy r
+by-table r t e n =
+    let l = layout (r .body) in
+    ap (λ (u : Table). tidyBy u (r .slots) (r .text) (r .spares)) e
+    ∙ ap (λ (b : Bool). tidySlots (partWidths (l .slots)) (l .slots .count) (r .slots) && ((hasSpare (l .behind) || eqb (r .spares .second) 0) && b)) (text-behind (l .text) (r .text) (text-apart (r .body)) n)
 
 pub is-tidy : (r : Record) → tidy r ≡ true → Tidy r
 is-tidy r e =

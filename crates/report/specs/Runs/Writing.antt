@@ -25,6 +25,8 @@ use Rattle.report.specs.Records.{values}
 use Rattle.rows.specs.Values.{flat, hasSpare, widths, partWidths}
 use Rattle.report.specs.declared.body.Body.{Body}
 use Rattle.rows.specs.declared.fields.Fields.{Fields}
+use Rattle.rows.specs.declared.fields.Spares.{Spares}
+use Rattle.rows.specs.declared.fields.Table.{Table}
 use Rattle.slots.specs.declared.slot.Slot.{Slot}
 use Rattle.report.specs.Categories.{layout, preambles}
 use Rattle.nankai.specs.Nankai.{nankai}
@@ -42,6 +44,10 @@ tidy r =
     let l = layout (r .body) in
     tidySlots (partWidths (l .slots)) (l .slots .count) (r .slots)
     && ((hasSpare (l .behind) || eqb (r .spares .second) 0) && empty (drop (length (l .text)) (r .text)))
+
+-- the same, as the table in numbers tells it
+abbrev pub tidyBy : Table → List Slot → List ℕ → Spares → Bool
+tidyBy t ss text z = tidySlots (t .widths) (t .count) ss && ((t .second || eqb (z .second) 0) && (t .text || empty text))
 
 unfoldable pub writeAnswer : Record → ℕ → Verdict
 writeAnswer r size =
