@@ -43,7 +43,7 @@ bytes-append [] t h k i = k i
 bytes-append (b ∷ s) t h k zero = h 0
 bytes-append (b ∷ s) t h k (suc i) = bytes-append s t (λ j. h (suc j)) k i
 
-module _ (x : Words) (n : ℕ) (s : Held x n) where
+module _ (x : Words) (first : x .first < 2 ^ 64) (second : x .second < 2 ^ 64) (third : x .third < 2 ^ 64) (last : x .last < 2 ^ 64) where
   abbrev two : List ℕ
   two = wide 8 (x .first) ++ wide 8 (x .second)
 
@@ -59,9 +59,9 @@ module _ (x : Words) (n : ℕ) (s : Held x n) where
       ∙ ap₂ (λ (y z : ℕ). y * 2 ^ 64 + z)
       (number-append two (wide 8 (x .third))
       ∙ ap₂ (λ (y z : ℕ). y * 2 ^ 64 + z)
-      (number-append (wide 8 (x .first)) (wide 8 (x .second)) ∙ ap₂ (λ (y z : ℕ). y * 2 ^ 64 + z) (number-wide (x .first) (s .first)) (number-wide (x .second) (s .second)))
-      (number-wide (x .third) (s .third)))
-      (number-wide (x .last) (s .last))
+      (number-append (wide 8 (x .first)) (wide 8 (x .second)) ∙ ap₂ (λ (y z : ℕ). y * 2 ^ 64 + z) (number-wide (x .first) first) (number-wide (x .second) second))
+      (number-wide (x .third) third))
+      (number-wide (x .last) last)
 
   bytes-four : Bytes four
   bytes-four =
@@ -69,27 +69,27 @@ module _ (x : Words) (n : ℕ) (s : Held x n) where
       (bytes-append two (wide 8 (x .third)) (bytes-append (wide 8 (x .first)) (wide 8 (x .second)) (bytes-wide 8 (x .first)) (bytes-wide 8 (x .second))) (bytes-wide 8 (x .third)))
       (bytes-wide 8 (x .last))
 
-  -- 32 lent bytes are then those of the number that the words hold
-  pub words-in : (l : List ℕ) → length l ≡ 32 → n < 2 ^ 256 → wordsInto x l ≡ bytesOf n
+  -- 32 lent bytes are then those of the number
+  pub words-in : (l : List ℕ) → length l ≡ 32 → wordsInto x l ≡ bytesOf (valueOf x)
   unfolding wordsInto
-  words-in l h small =
+  words-in l h =
       let a = sets l 0 (wide 8 (x .first)) in
       let b = sets l 0 two in
       let c = sets l 0 three in
       let la : length a ≡ 32 = length-sets l 0 (wide 8 (x .first)) ∙ h in
       let lb : length b ≡ 32 = length-sets l 0 two ∙ h in
       let lc : length c ≡ 32 = length-sets l 0 three ∙ h in
-      let first : wordInto l 0 (x .first) ≡ a = word-in l 0 (x .first) (omega arith) in
-      let second : wordInto a 8 (x .second) ≡ b = word-in a 8 (x .second) (omega arith) ∙ sets-sets (wide 8 (x .first)) (wide 8 (x .second)) l 0 in
-      let third : wordInto b 16 (x .third) ≡ c = word-in b 16 (x .third) (omega arith) ∙ sets-sets two (wide 8 (x .third)) l 0 in
-      let last : wordInto c 24 (x .last) ≡ sets l 0 four = word-in c 24 (x .last) (omega arith) ∙ sets-sets three (wide 8 (x .last)) l 0 in
-      ap (λ (y : List ℕ). wordInto (wordInto (wordInto y 8 (x .second)) 16 (x .third)) 24 (x .last)) first
-      ∙ ap (λ (y : List ℕ). wordInto (wordInto y 16 (x .third)) 24 (x .last)) second
-      ∙ ap (λ (y : List ℕ). wordInto y 24 (x .last)) third
-      ∙ last
+      ap (λ (y : List ℕ). wordInto (wordInto (wordInto y 8 (x .second)) 16 (x .third)) 24 (x .last)) (word-in l 0 (x .first) (omega arith))
+      ∙ ap (λ (y : List ℕ). wordInto (wordInto y 16 (x .third)) 24 (x .last)) (word-in a 8 (x .second) (omega arith) ∙ sets-sets (wide 8 (x .first)) (wide 8 (x .second)) l 0)
+      ∙ ap (λ (y : List ℕ). wordInto y 24 (x .last)) (word-in b 16 (x .third) (omega arith) ∙ sets-sets two (wide 8 (x .third)) l 0)
+      ∙ word-in c 24 (x .last) (omega arith)
+      ∙ sets-sets three (wide 8 (x .last)) l 0
       ∙ sets-whole four l (sym h)
       ∙ frame-is four (valueOf x) refl bytes-four number-four
-      ∙ ap bytesOf (held-whole x n s small)
+
+-- and so those of a number that they hold
+pub held-in : (x : Words) (n : ℕ) → Held x n → n < 2 ^ 256 → (l : List ℕ) → length l ≡ 32 → wordsInto x l ≡ bytesOf n
+held-in x n s small l h = words-in x (s .first) (s .second) (s .third) (s .last) l h ∙ ap bytesOf (held-whole x n s small)
 
 -- ---- none of them
 
