@@ -1,34 +1,19 @@
--- The words of a frame in a lent slice.
-use mathlib.Core.Bool.{Bool, cond}
-use mathlib.Core.Path.{_≡_, refl, sym, ap, ap₂, _∙_}
+-- The bytes of four words, one behind the other, are those of the number.
+use mathlib.Core.Path.{_≡_, refl, sym, ap₂, _∙_}
 use mathlib.Core.List.{List, [], _∷_, _++_}
-use Prim.Native.Nat.{ℕ, zero, suc, _+_, _*_, _/_, _^_, _≤_, _<_}
+use Prim.Native.Nat.{ℕ, zero, suc, _+_, _*_, _/_, _^_, _<_}
 use native.Mathlib.Nat.{mod-lt, mod-eq-of-lt}
 use native.Mathlib.Omega.{arith}
-use borrow.Author.Tests.{le-leb, lt-leb}
 use lib.ListN.{length, replicate}
-use lib.Seq.{sets, length-sets}
 use Rattle.lent.specs.Numbers.{wide}
-use Rattle.lent.proofs.Chains.{sets-sets, sets-whole}
+use Rattle.lent.specs.Writing.{Wrote}
+use Rattle.lent.proofs.Chains.{_then_, whole}
 use Rattle.bits.specs.declared.words.Words.{Words}
 use Rattle.bits.specs.Frame.{Bytes, number, bytesOf}
-use Rattle.bits.specs.Words.{valueOf, wordInto, wordsInto}
+use Rattle.bits.specs.Words.{valueOf}
 use Rattle.bits.proofs.Bytes.{number-append}
 use Rattle.bits.proofs.Frames.{frame-is}
 use Rattle.bits.proofs.Layouts.{encode-decode}
-use Rattle.bits.proofs.Pushing.{Held, held-whole}
-
--- ---- one word
-
-pub word-in : (l : List ℕ) (at w : ℕ) → at + 8 ≤ length l → wordInto l at w ≡ sets l at (wide 8 w)
-unfolding wordInto
-word-in l at w h = ap (λ (b : Bool). cond b (sets l at (wide 8 w)) l) (le-leb (at + 8) (length l) h)
-
-pub no-word-in : (l : List ℕ) (at w : ℕ) → length l < at + 8 → wordInto l at w ≡ l
-unfolding wordInto
-no-word-in l at w h = ap (λ (b : Bool). cond b (sets l at (wide 8 w)) l) (lt-leb (at + 8) (length l) h)
-
--- ---- four of them
 
 number-wide : (v : ℕ) → v < 2 ^ 64 → number (wide 8 v) ≡ v
 number-wide v h = encode-decode (replicate 8 8) v ∙ mod-eq-of-lt h
@@ -69,34 +54,7 @@ module _ (x : Words) (first : x .first < 2 ^ 64) (second : x .second < 2 ^ 64) (
       (bytes-append two (wide 8 (x .third)) (bytes-append (wide 8 (x .first)) (wide 8 (x .second)) (bytes-wide 8 (x .first)) (bytes-wide 8 (x .second))) (bytes-wide 8 (x .third)))
       (bytes-wide 8 (x .last))
 
-  -- 32 lent bytes are then those of the number
-  pub words-in : (l : List ℕ) → length l ≡ 32 → wordsInto x l ≡ bytesOf (valueOf x)
-  unfolding wordsInto
-  words-in l h =
-      let a = sets l 0 (wide 8 (x .first)) in
-      let b = sets l 0 two in
-      let c = sets l 0 three in
-      let la : length a ≡ 32 = length-sets l 0 (wide 8 (x .first)) ∙ h in
-      let lb : length b ≡ 32 = length-sets l 0 two ∙ h in
-      let lc : length c ≡ 32 = length-sets l 0 three ∙ h in
-      ap (λ (y : List ℕ). wordInto (wordInto (wordInto y 8 (x .second)) 16 (x .third)) 24 (x .last)) (word-in l 0 (x .first) (omega arith))
-      ∙ ap (λ (y : List ℕ). wordInto (wordInto y 16 (x .third)) 24 (x .last)) (word-in a 8 (x .second) (omega arith) ∙ sets-sets (wide 8 (x .first)) (wide 8 (x .second)) l 0)
-      ∙ ap (λ (y : List ℕ). wordInto y 24 (x .last)) (word-in b 16 (x .third) (omega arith) ∙ sets-sets two (wide 8 (x .third)) l 0)
-      ∙ word-in c 24 (x .last) (omega arith)
-      ∙ sets-sets three (wide 8 (x .last)) l 0
-      ∙ sets-whole four l (sym h)
-      ∙ frame-is four (valueOf x) refl bytes-four number-four
-
--- and so those of a number that they hold
-pub held-in : (x : Words) (n : ℕ) → Held x n → n < 2 ^ 256 → (l : List ℕ) → length l ≡ 32 → wordsInto x l ≡ bytesOf n
-held-in x n s small l h = words-in x (s .first) (s .second) (s .third) (s .last) l h ∙ ap bytesOf (held-whole x n s small)
-
--- ---- none of them
-
-pub none-in : (x : Words) (l : List ℕ) → length l < 8 → wordsInto x l ≡ l
-unfolding wordsInto
-none-in x l h =
-    ap (λ (y : List ℕ). wordInto (wordInto (wordInto y 8 (x .second)) 16 (x .third)) 24 (x .last)) (no-word-in l 0 (x .first) (omega arith))
-    ∙ ap (λ (y : List ℕ). wordInto (wordInto y 16 (x .third)) 24 (x .last)) (no-word-in l 8 (x .second) (omega arith))
-    ∙ ap (λ (y : List ℕ). wordInto y 24 (x .last)) (no-word-in l 16 (x .third) (omega arith))
-    ∙ no-word-in l 24 (x .last) (omega arith)
+  -- each word put where the one before it ends
+  pub four-put : {l a b c d : List ℕ} {i j k n : ℕ} → length l ≡ 32 → Wrote l a 0 i (wide 8 (x .first)) → Wrote a b i j (wide 8 (x .second)) → Wrote b c j k (wide 8 (x .third)) → Wrote c d k n (wide 8 (x .last))
+      → d ≡ bytesOf (valueOf x)
+  four-put h e f g m = whole (sym h) (((e then f) then g) then m) ∙ frame-is four (valueOf x) refl bytes-four number-four

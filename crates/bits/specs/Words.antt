@@ -1,13 +1,10 @@
--- A number of 256 bits in four words of 64, as code holds it, fields put behind what stands in it, and the words put into a lent
--- slice: how a frame is put together.
+-- A number of 256 bits in four words of 64, as code holds it, and fields put behind what stands in it: how a frame is put
+-- together.
 use Prim.Native.Nat.{ℕ, _+_, _-_, _*_, _/_, _%_, _^_}
 use mathlib.Core.Bool.{cond}
 use mathlib.Core.List.{List, [], _∷_}
 use lib.Bits.{bitOr}
-use lib.Dec.{eqb, leb}
-use lib.ListN.{length}
-use lib.Seq.{sets}
-use Rattle.lent.specs.Numbers.{wide}
+use lib.Dec.{eqb}
 use Rattle.bits.specs.declared.words.Words.{Words}
 
 -- the number that the words are
@@ -46,11 +43,3 @@ unfoldable pub pushedUntil : Words → List ℕ → List ℕ → Words
 pushedUntil x [] vs = x
 pushedUntil x (w ∷ ws) [] = x
 pushedUntil x (w ∷ ws) (v ∷ vs) = cond (eqb (w % 64) 0) x (pushedUntil (pushed x (w % 64) v) ws vs)
-
--- lent bytes after a word went into the eight from `at` on: as they were, where there are not so many
-unfoldable pub wordInto : List ℕ → ℕ → ℕ → List ℕ
-wordInto lent at w = cond (leb (at + 8) (length lent)) (sets lent at (wide 8 w)) lent
-
--- after the four words went in, one behind the other
-unfoldable pub wordsInto : Words → List ℕ → List ℕ
-wordsInto x lent = wordInto (wordInto (wordInto (wordInto lent 0 (x .first)) 8 (x .second)) 16 (x .third)) 24 (x .last)

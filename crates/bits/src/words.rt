@@ -1,9 +1,10 @@
 // A frame's number of 256 bits in four words, the first the most significant: how a frame is put together, one
 // field behind the other, where nothing is copied for a field.
 ghost use mathlib.Core.Path.{_≡_};
-ghost use Prim.Native.Nat.{_≤_, _<_};
+ghost use Prim.Native.Nat.{_<_};
 ghost use Rattle.lent.specs.Numbers.{wide};
-ghost use Rattle.bits.specs.Words.{carried, pushed, pushedUntil, wordInto, wordsInto, wordsOf};
+ghost use Rattle.bits.specs.Frame.{bytesOf, copiedInto};
+ghost use Rattle.bits.specs.Words.{carried, pushed, pushedUntil, valueOf, wordsOf};
 use lent::byte_of;
 use lent::put_bytes;
 
@@ -22,7 +23,7 @@ fn carry(high: u64, low: u64, width: usize) -> u64
     (high << width) | (low >> (64 - width))
 }
 
-// The bytes of a word.
+// The bytes of a word, as an array: the compiler makes one store of it, where of eight bytes put by a loop behind others it makes eight.
 fn word_bytes(word: u64) -> [u8; 8]
     ensures { λ r. ⌜ r ≡ wide 8 word ⌝ }
 {
@@ -36,17 +37,6 @@ fn word_bytes(word: u64) -> [u8; 8]
         byte_of(word, 1),
         byte_of(word, 0),
     ]
-}
-
-// A word into the eight bytes from `at` on, where the slice has them. Each word asks for itself: of eight bytes that stand
-// behind a test the compiler makes one store, of all 32 behind one test it makes 32.
-fn put_word(out: &mut [u8], at: usize, word: u64)
-    requires { ⌜ at ≤ 24 ⌝ }
-    ensures { λ _. ⌜ now (out .exit) ≡ wordInto (now (out .entry)) at word ⌝ }
-{
-    if at + 8 <= out.len() {
-        put_bytes(out, at, &word_bytes(word));
-    }
 }
 
 impl Words {
@@ -78,14 +68,16 @@ impl Words {
         }
     }
 
-    // The words into a lent slice, one behind the other, as many as find room: 32 bytes are then those of the number.
+    // The 32 bytes of the number, into a lent slice; a slice of another length stays as it was.
     pub fn put(self, out: &mut [u8])
-        ensures { λ _. ⌜ now (out .exit) ≡ wordsInto self (now (out .entry)) ⌝ }
+        ensures { λ _. ⌜ now (out .exit) ≡ copiedInto (bytesOf (valueOf self)) (now (out .entry)) ⌝ }
     {
-        put_word(out, 0, self.first);
-        put_word(out, 8, self.second);
-        put_word(out, 16, self.third);
-        put_word(out, 24, self.last);
+        if out.len() == 32 {
+            let second = put_bytes(out, 0, &word_bytes(self.first));
+            let third = put_bytes(out, second, &word_bytes(self.second));
+            let last = put_bytes(out, third, &word_bytes(self.third));
+            put_bytes(out, last, &word_bytes(self.last));
+        }
     }
 }
 

@@ -1,10 +1,9 @@
 -- The pieces that are pushed, one behind the other, are the front of the frame; with the parity behind them they are the frame.
 use Rattle.report.specs.declared.body.Body.{Body}
 use mathlib.Core.Bool.{Bool, _||_, cond, false, true}
-use Rattle.bits.proofs.Putting.{held-in}
-use Rattle.bits.proofs.Pushing.{Held, held-all, held-none, pushed-append, until-padded}
+use Rattle.bits.proofs.Pushing.{Held, held-all, held-none, held-whole, pushed-append, until-padded}
 use Rattle.bits.specs.declared.words.Words.{Words}
-use Rattle.bits.specs.Words.{pushed, pushedAll, pushedUntil, wordsInto, wordsOf}
+use Rattle.bits.specs.Words.{pushed, pushedAll, pushedUntil, valueOf, wordsOf}
 use Rattle.bits.proofs.Bytes.{number-bytesOf}
 use Rattle.rows.specs.Layout.{Layout, Row, allRows, common, ending, noCategory, slotsRows}
 use mathlib.Core.List.{List, [], _++_, map-append, _∷_}
@@ -207,23 +206,22 @@ module _ (r : Record) (s : Shaped r) (v : Valid r) where
       subst (λ (y : Words). Held y (encode ws vs)) (sym e) (subst (Held (pushedAll (wordsOf 0) ws vs)) whole fields)
 
   module _ (x : Words) (e : x ≡ pushedAll (wordsOf 0) (frontWidths (layout (r .body))) (frontValues r)) where
-    -- in a lent frame, with room for the parity behind them
-    pub front-put : (lent : List ℕ) → length lent ≡ 32 → wordsInto (pushed x 30 0) lent ≡ bytesOf (front r * 2 ^ 30)
-    front-put lent l =
-        held-in (pushed x 30 0) (front r * 2 ^ 30)
+    -- with room for the parity behind them
+    pub front-number : valueOf (pushed x 30 0) ≡ front r * 2 ^ 30
+    front-number =
+        held-whole (pushed x 30 0) (front r * 2 ^ 30)
         (subst (Held (pushed x 30 0)) (add-zero (front r * 2 ^ 30)) (held-all (30 ∷ []) (0 ∷ []) x (front r) ((lit< tt, lit≤ tt), tt) (lit< tt, tt) (held-front x e)))
-        front-small lent l
+        front-small
 
     -- with the parity of that frame behind them
-    pub whole-put : (f lent : List ℕ) (p : ℕ) → f ≡ bytesOf (front r * 2 ^ 30) → p ≡ parityOf f → length lent ≡ 32
-        → wordsInto (pushed (pushed x 24 p) 6 0) lent ≡ bytesOf (frame r)
+    pub whole-number : (f : List ℕ) (p : ℕ) → f ≡ bytesOf (front r * 2 ^ 30) → p ≡ parityOf f → valueOf (pushed (pushed x 24 p) 6 0) ≡ frame r
     unfolding frame
-    whole-put f lent p o q l =
+    whole-number f p o q =
         let n : number f ≡ front r * 2 ^ 30 = ap number o ∙ number-bytesOf (front r * 2 ^ 30) ∙ mod-eq-of-lt front-small in
         let parity : p ≡ parityOfFront (front r) = q ∙ parity-of-front f ∙ ap parityOfFront (ap (λ (y : ℕ). y / 2 ^ 30) n ∙ shl-shr (front r) 30) in
         let fits : p < 2 ^ 24 = subst (λ (y : ℕ). y < 2 ^ 24) (sym q) (parity-fits-its-field f) in
         let is : front r * 2 ^ 30 + (p * 2 ^ 6 + 0) ≡ (front r * 2 ^ 24 + parityOfFront (front r)) * 2 ^ 6 = together (front r) p ∙ ap (λ (y : ℕ). (front r * 2 ^ 24 + y) * 2 ^ 6) parity in
-        held-in (pushed (pushed x 24 p) 6 0) ((front r * 2 ^ 24 + parityOfFront (front r)) * 2 ^ 6)
+        held-whole (pushed (pushed x 24 p) 6 0) ((front r * 2 ^ 24 + parityOfFront (front r)) * 2 ^ 6)
         (subst (Held (pushed (pushed x 24 p) 6 0)) is
         (held-all (24 ∷ 6 ∷ []) (p ∷ 0 ∷ []) x (front r) ((lit< tt, lit≤ tt), ((lit< tt, lit≤ tt), tt)) (fits, (lit< tt, tt)) (held-front x e)))
-        (ended-lt (front r) (parityOfFront (front r)) (subst (λ (y : ℕ). y < 2 ^ 24) parity fits) (front-lt r s (valid-keeps r s v))) lent l
+        (ended-lt (front r) (parityOfFront (front r)) (subst (λ (y : ℕ). y < 2 ^ 24) parity fits) (front-lt r s (valid-keeps r s v)))

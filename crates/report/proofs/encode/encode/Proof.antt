@@ -6,13 +6,13 @@ use Prim.Native.Nat.{ℕ, _*_, _^_}
 use lib.ListN.{length}
 use Rattle.bits.specs.Frame.{bytesOf}
 use Rattle.bits.specs.declared.words.Words.{Words}
-use Rattle.bits.specs.Words.{pushed, wordsInto}
+use Rattle.bits.specs.Words.{pushed, valueOf}
 use Rattle.bits.proofs.Arrays.{unmapped}
-use Rattle.bits.proofs.Inside.{frame-lent}
+use Rattle.bits.proofs.Inside.{frame-lent, right-size}
 use Rattle.parity.specs.Parity.{parityOf}
 use Rattle.report.specs.Runs.Writing.{front, frame}
 use Rattle.report.proofs.Shaped.{Shaped}
-use Rattle.report.proofs.Writing.Encoding.{front-put, whole-put}
+use Rattle.report.proofs.Writing.Encoding.{front-number, whole-number}
 use Rattle.report.proofs.encode.encode.Statement.{statement}
 use Rattle.report.proofs.encode.encode.Tie as tie
 
@@ -30,8 +30,8 @@ first-put c =
     let f = push .before in
     let s = f .before .before in
     c .put .ensures
-    ∙ ap (λ (x : Words). wordsInto x (s .args .lent .now)) (push .push .ensures)
-    ∙ front-put (s .args .r) (shaped s) (s .pre .0) (f .front .result) (f .front .ensures) (s .args .lent .now) (s .pre .1 .1)
+    ∙ right-size (s .args .lent .now) _ _ (s .pre .1 .1)
+    ∙ ap bytesOf (ap (λ (x : Words). valueOf x) (push .push .ensures) ∙ front-number (s .args .r) (shaped s) (s .pre .0) (f .front .result) (f .front .ensures))
 
 -- and after all of them did
 all-put : (c : tie.After-put2) → c .put2 .last .1 .0 ≡ bytesOf (frame (c .before .before .before .before .before .before .before .before .before .before .before .before .before .args .r))
@@ -45,9 +45,11 @@ all-put c =
     let lent : List ℕ = put .put .last .1 .0 in
     let size : length lent ≡ 32 = ap length (first-put put) in
     c .put2 .ensures
-    ∙ ap (λ (x : Words). wordsInto x lent) (six .push3 .ensures ∙ ap (λ (x : Words). pushed x 6 0) (more .push2 .ensures))
-    ∙ whole-put (s .args .r) (shaped s) (s .pre .0) (f .front .result) (f .front .ensures) lent lent (p .parity .result) (first-put put)
-    (p .parity .ensures ∙ ap parityOf (frame-lent lent size)) size
+    ∙ right-size lent _ _ size
+    ∙ ap bytesOf
+    (ap (λ (x : Words). valueOf x) (six .push3 .ensures ∙ ap (λ (x : Words). pushed x 6 0) (more .push2 .ensures))
+    ∙ whole-number (s .args .r) (shaped s) (s .pre .0) (f .front .result) (f .front .ensures) lent (p .parity .result) (first-put put)
+    (p .parity .ensures ∙ ap parityOf (frame-lent lent size)))
 
 front-requires : tie.Need-front-requires
 front-requires c κs = (c .before .pre .0, c .before .pre .1 .0)
