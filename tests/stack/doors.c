@@ -74,7 +74,7 @@ static struct door doors[] = {
     {"lz_read, refused by a field", call_refused, 1487, 0},
     {"lz_read", call_read, 1487, 0},
     {"lz_read_line", call_read_line, 1615, 0},
-    {"lz_write", call_write, 2255, 0},
+    {"lz_write", call_write, 2271, 0},
     {"lz_write_line", call_write_line, 8, 0},
     {"lz_slots_used", call_slots_used, 905, 0},
     {"lz_open", call_open, 1240, 0},
