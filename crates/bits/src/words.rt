@@ -23,7 +23,8 @@ fn carry(high: u64, low: u64, width: usize) -> u64
     (high << width) | (low >> (64 - width))
 }
 
-// The bytes of a word, as an array: the compiler makes one store of it, where of eight bytes put by a loop behind others it makes eight.
+// The bytes of a word, as an array: the compiler makes one store of it, where of eight bytes that a loop puts behind
+// others it makes eight.
 fn word_bytes(word: u64) -> [u8; 8]
     ensures { λ r. ⌜ r ≡ wide 8 word ⌝ }
 {

@@ -167,9 +167,9 @@ fn last_slot(bytes: &[u8], stray: bool) -> Slot
     slot_at(bytes, 15)
 }
 
-// The slots, the last of which tells of what is stray. Each is read at a place that the compiler knows, so that it goes from the
-// bytes into the record, where a loop would fill an array first. The last one goes first: behind its test the compiler makes one load
-// of a place's eight bytes, and before it one of each byte.
+// The slots, the last of which tells of what is stray. Each is read at a place that the compiler knows, so that it goes from
+// the bytes into the record, where a loop would fill an array first. The last one goes first: behind its test the compiler
+// makes one load of a place's eight bytes, and before it one of each byte.
 fn slots_of(bytes: &[u8], stray: bool) -> [Slot; SLOT_COUNT]
     requires { ⌜ length (now bytes) ≡ 251 ⌝ }
     ensures { λ r. ⌜ r ≡ slotsOrMisplaced stray (slotsFrom (now (bytes .entry))) ⌝ }

@@ -88,8 +88,8 @@ fn front(r: Record, fields: Fields) -> Words
     inner.push(6, 1).push(6, r.reserved as u64)
 }
 
-// The frame of a valid record, whose fields these are, into a lent one. The parity is that of all bits before it, which have to
-// stand in a frame first.
+// The frame of a valid record, whose fields these are, into a lent one. The parity is that of all bits before it, which
+// have to stand in a frame first.
 pub(crate) fn encode(r: Record, fields: Fields, lent: &mut [u8])
     requires { ⌜ Valid r × ((fields ≡ fieldsIn (layout (r .body)) (sidesOf (r .body) (r .spares))) × (length (now lent) ≡ 32)) ⌝ }
     ensures { λ _. ⌜ now (lent .exit) ≡ bytesOf (frame r) ⌝ }
