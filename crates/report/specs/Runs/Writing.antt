@@ -45,10 +45,6 @@ tidy r =
     tidySlots (partWidths (l .slots)) (l .slots .count) (r .slots)
     && ((hasSpare (l .behind) || eqb (r .spares .second) 0) && empty (drop (length (l .text)) (r .text)))
 
--- the same, as the table in numbers tells it
-abbrev pub tidyBy : Table → List Slot → List ℕ → Spares → Bool
-tidyBy t ss text z = tidySlots (t .widths) (t .count) ss && ((t .second || eqb (z .second) 0) && (t .text || empty text))
-
 unfoldable pub writeAnswer : Record → ℕ → Verdict
 writeAnswer r size =
     unless (eqb size 32) Length
@@ -90,7 +86,11 @@ writeOf r buffer = written (writeAnswer r (length buffer)) r buffer
 abbrev pub Valid : Record → Type 0
 Valid r = writeAnswer r 32 ≡ Fine
 
--- ---- how it is written
+-- ---- how it is asked and written, which contracts of private functions need
+
+-- `tidy`, as the table in numbers tells it
+abbrev pub tidyBy : Table → List Slot → List ℕ → Spares → Bool
+tidyBy t ss text z = tidySlots (t .widths) (t .count) ss && ((t .second || eqb (z .second) 0) && (t .text || empty text))
 
 -- the rows in front, the slots, the text, and the rows behind, one behind the other
 unfoldable pub bodyPushed : Words → Fields → List Slot → List ℕ → Words
