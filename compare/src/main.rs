@@ -7,6 +7,7 @@
 //! counted.
 
 mod calls;
+mod damage;
 mod door;
 mod histories;
 mod lent;
@@ -53,6 +54,13 @@ const COMPARISONS: &[(&str, Comparison)] = &[
     ("reading, slices of 0 to 40 bytes", reading::slice_lengths),
     ("reading, buffers of other lengths", reading::buffer_lengths),
     ("reading, document 004", reading::document_004),
+    ("damage, every pattern of eight bits", damage::every_pattern_of_eight),
+    ("damage, every pattern of 24 bits at three places", damage::every_pattern_of_24),
+    ("damage, two bits up to 23 apart", damage::two_bits),
+    ("damage, runs of up to 24 bits", damage::runs),
+    ("damage, any of 24 bits", damage::any_damage),
+    ("damage within 25 bits", damage::within_25_bits),
+    ("damage behind the frame", damage::behind_the_frame),
     ("writing, records of all kinds", writing::any_records),
     ("writing, fields at their bounds", writing::boundaries),
     ("writing, every arrival of every area", writing::arrivals),

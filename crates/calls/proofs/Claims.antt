@@ -1,7 +1,8 @@
 -- What calls through the doors come to, one behind the other, over the bytes that a program in C sees.
 use mathlib.Core.Path.{_≡_}
 use mathlib.Core.List.{List, [], _∷_, _++_, map}
-use Prim.Native.Nat.{ℕ, _≤_}
+use mathlib.Core.Logic.{_⊎_}
+use Prim.Native.Nat.{ℕ, _*_, _^_, _≤_}
 use lib.ListN.{length, drop}
 use Rattle.bits.specs.Frame.{Bytes}
 use Rattle.pages.specs.declared.name.Name.{Name}
@@ -11,6 +12,7 @@ use Rattle.bulletin.specs.declared.count.Count.{Count}
 use Rattle.report.specs.Conforms.{Conforms}
 use Rattle.report.specs.Records.{recordOf}
 use Rattle.record_bytes.specs.Packed.{packed}
+use Rattle.damage.specs.Damage.{Damaged}
 use Rattle.histories.specs.Frames.{Frame, storeAfter}
 use Rattle.record_bytes.specs.Unpacked.{recordFrom}
 use Rattle.store_bytes.specs.Stores.{nameFrom, storeBytes}
@@ -19,6 +21,7 @@ use Rattle.inserter.specs.Meanings.{slotsAnswer}
 use Rattle.inserter.specs.Answers.{callResult, countAnswer, mergeInto, openInto, readInto, readLineInto, textInto, wordBytes, writeInto, writeLineInto}
 use Rattle.calls.specs.Calls.{takesInto}
 use Rattle.calls.proofs.RoundTrip as RoundTrip
+use Rattle.calls.proofs.Damage as Damage
 use Rattle.calls.proofs.Takings as Takings
 
 -- "a conforming frame is read": `lz_read` answers 0 and hands over its record ..
@@ -43,6 +46,12 @@ written-then-read-is-the-record = RoundTrip.written-then-read
 pub a-printed-line-is-read-as-its-frame : (frame line bytes : List ℕ) → Bytes frame → length line ≡ 63 → writeLineInto frame line .answer ≡ 0
     → readLineInto (writeLineInto frame line .buffer) bytes ≡ readInto frame bytes
 a-printed-line-is-read-as-its-frame = RoundTrip.printed-then-read
+
+-- "change at least one bit, all changed bits lying within 24 consecutive bits of the 250": what `lz_read` answers 0 to it answers 3 or 4 to with
+-- such a change, and leaves the lent bytes
+pub a-damaged-frame-is-refused : (frame damaged bytes : List ℕ) (k : ℕ) → length bytes ≡ 251 → readInto frame bytes .answer ≡ 0 → Damaged k frame damaged
+    → (readInto damaged bytes ≡ callResult (3 * 2 ^ 24) bytes) ⊎ (readInto damaged bytes ≡ callResult (4 * 2 ^ 24) bytes)
+a-damaged-frame-is-refused = Damage.damaged-read
 
 -- "every name in range is opened": `lz_open` answers 0 and leaves the store that took no frame yet
 pub a-name-in-range-is-opened : (name buffer : List ℕ) → length name ≡ 8 → length buffer ≡ 1205 → InRange (nameFrom name)

@@ -1,3 +1,4 @@
 pub mod RoundTrip
+pub mod Damage
 pub mod Takings
 pub mod Claims

@@ -46,7 +46,7 @@ record-whole l e = rw (eq-eqb (length l) 251 e)
 
 -- ---- what an answer of 0 tells of a reading and of a writing
 
-read-zero : (got : Reading) (buffer : List ℕ) → readingInto got buffer .answer ≡ 0 → (got .answer ≡ Fine) × (readingInto got buffer .buffer ≡ packed (got .«record»))
+pub read-zero : (got : Reading) (buffer : List ℕ) → readingInto got buffer .answer ≡ 0 → (got .answer ≡ Fine) × (readingInto got buffer .buffer ≡ packed (got .«record»))
 unfolding readingInto
 read-zero got buffer e = zero-tells (eqb (length buffer) 251) (got .answer) (packed (got .«record»)) buffer e
 

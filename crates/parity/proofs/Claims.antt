@@ -1,7 +1,8 @@
 -- What this crate claims of its definitions.
 use mathlib.Core.Path.{_≡_, refl, sym, ap, _∙_}
 use mathlib.Core.Bool.{true}
-use Prim.Native.Nat.{ℕ, _*_, _/_, _^_, _<_}
+use mathlib.Core.Logic.{_⊎_}
+use Prim.Native.Nat.{ℕ, _+_, _*_, _/_, _^_, _≤_, _<_}
 use native.Mathlib.Omega.{arith}
 use mathlib.Core.List.{List}
 use lib.Bits.{bitXor}
@@ -16,6 +17,7 @@ use Rattle.parity.proofs.Linear.{sum, after-sum}
 use Rattle.parity.proofs.Front.{parity-of-front, no-parity}
 use Rattle.parity.proofs.Groups.{group-more}
 use Rattle.parity.proofs.EveryBit.{one-bit-counts}
+use Rattle.parity.proofs.Near.{same-all-over}
 
 -- A parity is a number of 24 bits.
 pub parity-fits-its-field : (s : List ℕ) → parityOf s < 2 ^ 24
@@ -33,6 +35,11 @@ pub each-of-226-bits-counts : (s t : List ℕ) (k : ℕ) → k < 226 → ((i : �
 unfolding parityOf
 each-of-226-bits-counts s t k h same n e =
     n (one-bit-counts (λ i. fieldOf s i 1) (λ i. fieldOf t i 1) k 226 h (λ i. field-lt s i 1) (λ i. field-lt t i 1) same e)
+
+-- Frames with right parities are far apart: where two of them agree in all of their 250 bits but 24 in a row, from bit k on, they agree in these too.
+pub right-frames-are-far-apart : (s t : List ℕ) (k : ℕ) → k + 23 ≤ 249 → ((i : ℕ) → i < 250 → (i < k) ⊎ (k + 23 < i) → fieldOf s i 1 ≡ fieldOf t i 1)
+    → parityOf s ≡ fieldOf s 226 24 → parityOf t ≡ fieldOf t 226 24 → (i : ℕ) → i < 250 → fieldOf s i 1 ≡ fieldOf t i 1
+right-frames-are-far-apart = same-all-over
 
 -- The published check value of CRC-24Q, that of the nine bytes "123456789", here as bits 154 to 225 behind zeros: so the
 -- generator is that of the paper, and bits go in the most significant first, from zero, with no change at the end.

@@ -38,7 +38,7 @@ silent-bit (suc zero) hb e = absurd (omega (arith, e))
 silent-bit (suc (suc b)) hb e = absurd (omega arith)
 
 -- one step keeps registers apart ..
-registers-apart : (c d b : ℕ) → c < 2 ^ 24 → d < 2 ^ 24 → step c b ≡ step d b → c ≡ d
+pub registers-apart : (c d b : ℕ) → c < 2 ^ 24 → d < 2 ^ 24 → step c b ≡ step d b → c ≡ d
 registers-apart c d b hc hd e =
     let twice : 0 ≡ (b + b) % 2 = omega arith in
     same-number c d

@@ -57,7 +57,7 @@ beside-zeros : (w x i : ℕ) → sum zeros (bitsOf w x) i ≡ bitsOf w x i
 beside-zeros w x i = omega arith
 
 -- so a register that takes zeros comes to what its own bits come to
-held : (x : ℕ) → x < 2 ^ 24 → after x zeros 24 ≡ registerOf x
+pub held : (x : ℕ) → x < 2 ^ 24 → after x zeros 24 ≡ registerOf x
 unfolding registerOf
 held x h =
     let gone : x * 2 ^ 24 % 2 ^ 24 ≡ 0 = omega arith in

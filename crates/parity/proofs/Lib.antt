@@ -8,4 +8,5 @@ pub mod Groups
 pub mod Digits
 pub mod Arms
 pub mod Taken
+pub mod Near
 pub mod Settled

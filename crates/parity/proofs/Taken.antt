@@ -20,12 +20,12 @@ use Rattle.parity.proofs.Digits.{by-digits}
 abbrev pub taken : List ℕ → ℕ → ℕ
 taken s n = after 0 (λ i. fieldOf s i 1) n
 
-field-bit : (s : List ℕ) (a w i : ℕ) → a + w ≤ 256 → i < w → fieldOf s (a + i) 1 ≡ bitsOf w (fieldOf s a w) i
+pub field-bit : (s : List ℕ) (a w i : ℕ) → a + w ≤ 256 → i < w → fieldOf s (a + i) 1 ≡ bitsOf w (fieldOf s a w) i
 field-bit s a w i h l =
     let e : 256 - (a + i + 1) ≡ 256 - (a + w) + (w - (i + 1)) = omega arith in
     ap (λ (k : ℕ). number s / 2 ^ k % 2) e ∙ sym (window (number s) (256 - (a + w)) w (w - (i + 1)) 1 (omega arith))
 
-after-add : (c : ℕ) (f : ℕ → ℕ) (m n : ℕ) → after c f (m + n) ≡ after (after c f m) (λ i. f (m + i)) n
+pub after-add : (c : ℕ) (f : ℕ → ℕ) (m n : ℕ) → after c f (m + n) ≡ after (after c f m) (λ i. f (m + i)) n
 after-add c f m zero = ap (after c f) (add-zero m)
 after-add c f m (suc n) = ap (after c f) (add-suc m n) ∙ ap (λ (x : ℕ). step x (f (m + n))) (after-add c f m n)
 

@@ -1,0 +1,4 @@
+pub mod Claims
+pub mod Bits
+pub mod Refused
+pub mod Examples
