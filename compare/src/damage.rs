@@ -7,7 +7,7 @@ use crate::reading::{agree, frame_of};
 use crate::{door, pattern, Count};
 use reference::answer::Answer;
 use reference::bits::Frame;
-use reference::damage::{promised_number, Damage, FRAME_BITS, PROMISED_BITS};
+use reference::damage::{promised_number, unseen_by_parity, Damage, FRAME_BITS, PROMISED_BITS};
 use reference::generate::{any_category, valid_frame};
 use reference::random::Random;
 use reference::read::read;
@@ -22,11 +22,6 @@ const PATTERN_BITS: usize = 8;
 /// Where every pattern of 24 bits is tried: the first bits of a frame, those in
 /// its middle and its parity.
 const PLACES: [usize; 3] = [0, 113, FRAME_BITS - PROMISED_BITS];
-
-/// The ones of the generator, 1864CFB: the narrowest damage that leaves a parity
-/// right.
-const GENERATOR_BITS: usize = 25;
-const GENERATOR: u64 = 0x186_4CFB;
 
 /// Every pattern of eight bits at every place, in a frame of each category.
 pub fn every_pattern_of_eight(count: &mut Count) {
@@ -82,7 +77,7 @@ pub fn any_damage(count: &mut Count) {
 /// of document 004: of it nothing is promised, and some of it is read.
 pub fn within_25_bits(count: &mut Count) {
     for record in samples::all() {
-        for damage in Damage::everywhere(GENERATOR_BITS, GENERATOR) {
+        for damage in unseen_by_parity() {
             let damaged = damage.done_to(&frame_of(&record));
             agree(count, &damaged);
             if let Ok(other) = read(&damaged) {

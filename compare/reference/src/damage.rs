@@ -3,6 +3,7 @@
 //! where they lie within 24 and the frame was read before.
 
 use crate::bits::{bit, set_bit, Frame};
+use crate::parity::GENERATOR;
 use crate::record::PREAMBLES;
 
 /// The bits of a frame, without its padding.
@@ -37,6 +38,12 @@ impl Damage {
         }
         damaged
     }
+}
+
+/// The narrowest damage that leaves a parity right, at every place: the ones of the
+/// generator, which has 25 bits.
+pub fn unseen_by_parity() -> impl Iterator<Item = Damage> {
+    Damage::everywhere(25, GENERATOR.into())
 }
 
 /// "refused, with 3 or 4 and nothing else": 3 comes before 4, so it is the number

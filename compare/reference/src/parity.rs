@@ -6,7 +6,7 @@ pub mod by_bits;
 pub mod by_table;
 
 /// The generator with its leading one: a polynomial of degree 24.
-const GENERATOR: u32 = 0x186_4CFB;
+pub(crate) const GENERATOR: u32 = 0x186_4CFB;
 
 /// The coefficient of degree 24, the only one a remainder must not have.
 const DEGREE_24: u32 = 1 << 24;

@@ -2,15 +2,11 @@
 //! cannot be said, of the reference alone.
 
 use reference::bits::{bit, Frame};
-use reference::damage::{promised_number, Damage, FRAME_BITS, PROMISED_BITS};
+use reference::damage::{promised_number, unseen_by_parity, Damage, FRAME_BITS, PROMISED_BITS};
 use reference::read::read;
 use reference::record::Refusal;
 use reference::samples;
 use reference::write::write;
-
-/// The ones of the generator, 1864CFB: 25 bits from its first to its last.
-const GENERATOR_BITS: usize = 25;
-const GENERATOR: u64 = 0x186_4CFB;
 
 fn frames() -> Vec<Frame> {
     let frame_of = |record| {
@@ -68,7 +64,7 @@ fn a_run_of_up_to_24_changed_bits_is_refused_as_promised() {
 fn a_damage_within_25_bits_may_be_read() {
     let mut read_all_the_same = 0;
     for frame in frames() {
-        for damage in Damage::everywhere(GENERATOR_BITS, GENERATOR) {
+        for damage in unseen_by_parity() {
             let answer = read(&damage.done_to(&frame));
             assert_ne!(answer, Err(Refusal::plain(4)), "{damage:?}");
             read_all_the_same += usize::from(answer.is_ok());
