@@ -21,6 +21,7 @@ use Rattle.report.specs.Records.{recordAs, recordOf}
 use Rattle.report.specs.Runs.Reading.{outerOf, readSays}
 use Rattle.report.proofs.Categories.{Each}
 use Rattle.damage.specs.Damage.{changes, Changed, Damaged}
+use Rattle.damage.proofs.Bits.{Same}
 
 -- the frame of a line of 63 digits
 abbrev pub frameOf : ℕ → List ℕ
@@ -39,7 +40,7 @@ firstThree s = map {B = ℕ × ℕ} (λ (x : Slot). (x .strength, x .place)) (ta
 module _ (w k : ℕ) (s t : List ℕ) (inside : k + w ≤ 250) (l : length s ≡ 32) (m : length t ≡ 32)
     (front : fieldOf s 0 k ≡ fieldOf t 0 k) (behind : fieldOf s (k + w) (256 - (k + w)) ≡ fieldOf t (k + w) (256 - (k + w)))
     (n : ℕ) (some : changes 256 s t ≡ suc n) where
-  same-part : (a u i : ℕ) → a + u ≤ 256 → i < u → fieldOf s a u ≡ fieldOf t a u → fieldOf s (a + i) 1 ≡ fieldOf t (a + i) 1
+  same-part : (a u i : ℕ) → a + u ≤ 256 → i < u → fieldOf s a u ≡ fieldOf t a u → Same s t (a + i)
   same-part a u i h j e = field-bit s a u i h j ∙ ap (λ (v : ℕ). bitsOf u v i) e ∙ sym (field-bit t a u i h j)
 
   pub changed-between : Changed w k s t
@@ -48,10 +49,10 @@ module _ (w k : ℕ) (s t : List ℕ) (inside : k + w ≤ 250) (l : length s ≡
     came = m;
     inside = omega (arith, inside);
     kept = λ i h o. ⊎-elim
-        (λ p. subst (λ (j : ℕ). fieldOf s j 1 ≡ fieldOf t j 1) (zero-add i) (same-part 0 k i (omega arith) p front))
+        (λ p. subst (Same s t) (zero-add i) (same-part 0 k i (omega arith) p front))
         (λ p.
         let there : k + w + (i - (k + w)) ≡ i = omega arith in
-        subst (λ (j : ℕ). fieldOf s j 1 ≡ fieldOf t j 1) there (same-part (k + w) (256 - (k + w)) (i - (k + w)) (omega arith) (omega arith) behind))
+        subst (Same s t) there (same-part (k + w) (256 - (k + w)) (i - (k + w)) (omega arith) (omega arith) behind))
         o;
     some = omega (arith, some);
   }
