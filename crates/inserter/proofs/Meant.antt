@@ -1,15 +1,22 @@
 -- What the doors say of a number, in the words that a program in C sees.
-use mathlib.Core.Path.{_≡_, ap}
+use mathlib.Core.Path.{_≡_, refl, ap}
+use mathlib.Core.Logic.{_↔_}
+use native.Mathlib.Omega.{arith}
 use Prim.Native.Nat.{ℕ, _+_, _*_, _/_, _^_, _≤_, _<_}
 use mathlib.Core.List.{List}
 use Rattle.hypocenter.proofs.Claims.{depth-501-is-deeper, depth-511-is-unknown, each-depth-is-told-in-kilometres, each-magnitude-is-told-in-tenths, magnitude-126-is-above-8, magnitude-127-is-unknown, no-other-code-is-a-depth, no-other-code-is-a-magnitude}
 use Rattle.ash_fall.proofs.Claims.{each-place-has-a-prefecture, no-other-place-has-a-prefecture}
 use Rattle.tsunami.proofs.Claims.{each-height-is-told-by-its-code, each-time-is-told, height-14-is-unknown, hour-31-with-minute-63-has-arrived, no-other-code-is-a-height, nothing-else-is-an-arrival}
 use Rattle.volcano.proofs.Claims.{day-0-with-hour-31-and-minute-63-is-unknown, each-activity-time-is-told, no-code-past-7-is-an-ambiguity, nothing-else-is-an-activity-time, up-to-3-all-is-valid, with-4-the-minute-is-not-valid, with-5-the-day-alone-is-valid, with-6-and-7-nothing-is-valid}
-use Rattle.report.proofs.Reading.Used.{few}
+use Rattle.report.proofs.Reading.Used.{few, InPrefecture}
+use Rattle.place_list.specs.declared.Standing.{Standing}
+use Rattle.place_list.specs.declared.Standing.the-variants.{Listed, Unlisted, Outside}
+use Rattle.place_list.specs.Standing.{standingOf}
+use Rattle.place_list.proofs.Claims.{a-place-is-listed-exactly-where-it-is-an-entry, a-place-is-outside-exactly-where-it-names-no-prefecture, a-place-is-unlisted-exactly-where-it-is-no-entry-and-names-a-prefecture}
+use Rattle.place_list.proofs.Found.{Entry}
 use Rattle.record_bytes.specs.Unpacked.{recordFrom}
 use Rattle.record_bytes.proofs.Accepted.{record-shaped}
-use Rattle.inserter.specs.Meanings.{activityAnswer, activityWord, arrivalAnswer, arrivalWord, depthAnswer, depthWord, heightAnswer, heightWord, magnitudeAnswer, magnitudeWord, prefectureAnswer, prefectureWord, slotsAnswer, validityAnswer, validityWord}
+use Rattle.inserter.specs.Meanings.{activityAnswer, activityWord, arrivalAnswer, arrivalWord, depthAnswer, depthWord, heightAnswer, heightWord, magnitudeAnswer, magnitudeWord, placeAnswer, placeWord, prefectureAnswer, prefectureWord, slotsAnswer, validityAnswer, validityWord}
 
 -- ---- a depth
 
@@ -85,13 +92,51 @@ none-valid = (ap validityWord (with-6-and-7-nothing-is-valid .0), ap validityWor
 pub no-ambiguity : (code : ℕ) → 7 < code → validityAnswer code ≡ 0
 no-ambiguity code h = ap validityWord (no-code-past-7-is-an-ambiguity code h)
 
--- ---- a prefecture, and slots
+-- ---- a prefecture
 
 pub in-prefecture : (place : ℕ) → 100000 ≤ place → place ≤ 4799999 → prefectureAnswer place ≡ place / 100000
 in-prefecture place low high = ap prefectureWord (each-place-has-a-prefecture place low high)
 
 pub nowhere : (place : ℕ) → ((100000 ≤ place) × (place ≤ 4799999) → ⊥) → prefectureAnswer place ≡ 0
 nowhere place out = ap prefectureWord (no-other-place-has-a-prefecture place out)
+
+-- ---- a place
+
+told-apart : (s t : Standing) → placeWord s ≡ placeWord t → s ≡ t
+told-apart Listed Listed e = refl
+told-apart Listed Unlisted e = absurd (omega (arith, e))
+told-apart Listed Outside e = absurd (omega (arith, e))
+told-apart Unlisted Listed e = absurd (omega (arith, e))
+told-apart Unlisted Unlisted e = refl
+told-apart Unlisted Outside e = absurd (omega (arith, e))
+told-apart Outside Listed e = absurd (omega (arith, e))
+told-apart Outside Unlisted e = absurd (omega (arith, e))
+told-apart Outside Outside e = refl
+
+-- an answer has one word, and a word one answer
+by-word : (place : ℕ) (s : Standing) {P : Type 0} → standingOf place ≡ s ↔ P → placeAnswer place ≡ placeWord s ↔ P
+by-word place s law = (λ e. law .0 (told-apart (standingOf place) s e), λ p. ap placeWord (law .1 p))
+
+pub told-listed : (place : ℕ) → placeAnswer place ≡ 1 ↔ Entry place
+told-listed place = by-word place Listed (a-place-is-listed-exactly-where-it-is-an-entry place)
+
+pub told-unlisted : (place : ℕ) → placeAnswer place ≡ 2 ↔ ((Entry place → ⊥) × ((1 ≤ place / 100000) × (place / 100000 ≤ 47)))
+told-unlisted place = by-word place Unlisted (a-place-is-unlisted-exactly-where-it-is-no-entry-and-names-a-prefecture place)
+
+pub told-outside : (place : ℕ) → placeAnswer place ≡ 0 ↔ ((1 ≤ place / 100000) × (place / 100000 ≤ 47) → ⊥)
+told-outside place = by-word place Outside (a-place-is-outside-exactly-where-it-names-no-prefecture place)
+
+-- where a place lies outside, no prefecture is told, and the other way round
+pub outside-nowhere : (place : ℕ) → placeAnswer place ≡ 0 ↔ prefectureAnswer place ≡ 0
+outside-nowhere place = (λ e. nowhere place (λ r. told-outside place .0 e (omega (arith, r .0), omega (arith, r .1))), λ e. told-outside place .1 (λ d. in-one d e))
+  where
+    in-one : (1 ≤ place / 100000) × (place / 100000 ≤ 47) → prefectureAnswer place ≡ 0 → ⊥
+    in-one d e = omega (arith, d .0, e, in-prefecture place (omega (arith, d .0)) (omega (arith, d .1)))
+
+pub used-not-outside : (place : ℕ) → InPrefecture place → placeAnswer place ≡ 0 → ⊥
+used-not-outside place p e = omega (arith, p .1 .1 .0, ap prefectureWord (p .1 .0), outside-nowhere place .0 e)
+
+-- ---- slots
 
 pub sixteen-at-most : (bytes : List ℕ) → slotsAnswer bytes ≤ 16
 sixteen-at-most bytes = few (recordFrom bytes) (record-shaped bytes .slots)

@@ -10,6 +10,9 @@ use Rattle.ash_fall.specs.declared.meaning.Prefecture.{Prefecture}
 use Rattle.ash_fall.specs.declared.meaning.Prefecture.the-variants.{Number, Nowhere}
 use Rattle.hypocenter.specs.Hypocenter.{depthOf, magnitudeOf}
 use Rattle.ash_fall.specs.Meaning.{prefectureOf}
+use Rattle.place_list.specs.declared.Standing.{Standing}
+use Rattle.place_list.specs.declared.Standing.the-variants.{Listed, Unlisted, Outside}
+use Rattle.place_list.specs.Standing.{standingOf}
 use Rattle.tsunami.specs.declared.meaning.Arrival.{Arrival}
 use Rattle.tsunami.specs.declared.meaning.Arrival.the-variants.{At, Arrived, OutOfRange as NoArrival}
 use Rattle.tsunami.specs.declared.meaning.Height.{Height}
@@ -58,6 +61,15 @@ prefectureWord Nowhere = 0
 
 abbrev pub prefectureAnswer : ℕ → ℕ
 prefectureAnswer place = prefectureWord (prefectureOf place)
+
+-- "listed, unlisted but within a prefecture, or outside"
+abbrev pub placeWord : Standing → ℕ
+placeWord Listed = 1
+placeWord Unlisted = 2
+placeWord Outside = 0
+
+abbrev pub placeAnswer : ℕ → ℕ
+placeAnswer place = placeWord (standingOf place)
 
 -- a time has its hour in front of its minute
 abbrev pub arrivalWord : Arrival → ℕ

@@ -1,11 +1,12 @@
 // What a number of a record says. No table has a first row for a number that it does not know: such a
-// number is told as 0, which is neither a depth, a magnitude, a prefecture, an arrival, a height, a time nor what is
+// number is told as 0, which is neither a depth, a magnitude, a prefecture, a place, an arrival, a height, a time nor what is
 // valid of one.
 ghost use mathlib.Core.Path.{_≡_};
-ghost use Rattle.inserter.specs.Meanings.{depthAnswer, magnitudeAnswer, prefectureAnswer, arrivalAnswer, heightAnswer, activityAnswer, validityAnswer, slotsAnswer};
+ghost use Rattle.inserter.specs.Meanings.{depthAnswer, magnitudeAnswer, prefectureAnswer, placeAnswer, arrivalAnswer, heightAnswer, activityAnswer, validityAnswer, slotsAnswer};
 use ash_fall::meaning::Prefecture;
 use hypocenter::meaning::Depth;
 use hypocenter::meaning::Magnitude;
+use place_list::Standing;
 use tsunami::meaning::Arrival;
 use tsunami::meaning::Height;
 use volcano::meaning::ActivityTime;
@@ -47,6 +48,19 @@ pub extern "C" fn lz_prefecture(place: u64) -> u32
     match Prefecture::of(place) {
         Prefecture::Number(prefecture) => prefecture as u32,
         Prefecture::Nowhere => 0,
+    }
+}
+
+// 1 where the list of places has this one, 2 where it does not but its first digits are those of a prefecture; 0 where it lies
+// in none.
+#[no_mangle]
+pub extern "C" fn lz_place(place: u64) -> u32
+    ensures { λ r. ⌜ r ≡ placeAnswer place ⌝ }
+{
+    match Standing::of(place) {
+        Standing::Listed => 1,
+        Standing::Unlisted => 2,
+        Standing::Outside => 0,
     }
 }
 

@@ -1,0 +1,194 @@
+-- What the search finds: the place, where the table has it.
+use mathlib.Core.Path.{_≡_, _∙_, refl, sym, ap, subst}
+use mathlib.Core.Bool.{Bool, true, false, _||_, false≢true}
+use mathlib.Core.Logic.{⊎-elim}
+use mathlib.Core.List.{List, [], _∷_, _++_, map}
+use Prim.Native.Nat.{ℕ, zero, suc, _+_, _-_, _*_, _≤_, _<_}
+use native.Mathlib.Omega.{arith}
+use lib.Dec.{eqb, ltb}
+use lib.ListN.{length, getD}
+use borrow.Author.Tests.{eqb-true, eqb-false, eq-eqb, ltb-true, ltb-false}
+use Rattle.place_list.specs.Codes.{codes, codeAt, rowOf, lasts}
+use Rattle.place_list.specs.Search.{entryOf, looks, rowSteps, rowFor, codeSteps, foundIn, looked}
+use Rattle.place_list.specs.Standing.{among, listed}
+use Rattle.place_list.proofs.Halves.{Each, First, by-halves}
+use Rattle.place_list.proofs.Rules.{there-are-1792, inside, not-falling, in-row, last-in-row, the-last-code}
+
+-- ---- a list has a number exactly where one of its entries is that
+
+pub record At (place : ℕ) (l : List ℕ) : Type 0 where
+  pub index : ℕ
+  pub within : index < length l
+  pub here : getD l index 0 ≡ place
+
+or-right : (a b : Bool) → b ≡ true → a || b ≡ true
+or-right true b t = refl
+or-right false b t = t
+
+pub among-at : (l : List ℕ) (k place : ℕ) → k < length l → getD l k 0 ≡ place → among place l ≡ true
+among-at [] k place h e = absurd (omega (arith, h))
+among-at (x ∷ xs) zero place h e = ap (λ (b : Bool). b || among place xs) (eq-eqb x place e)
+among-at (x ∷ xs) (suc k) place h e = or-right (eqb x place) (among place xs) (among-at xs k place (omega (arith, h)) e)
+
+pub at-among : (l : List ℕ) (place : ℕ) → among place l ≡ true → At place l
+at-among [] place e = absurd (false≢true e)
+at-among (x ∷ xs) place e = by (eqb x place) refl e (at-among xs place)
+  where
+    by : (b : Bool) → eqb x place ≡ b → b || among place xs ≡ true → (among place xs ≡ true → At place xs) → At place (x ∷ xs)
+    by true q e later = record { index = 0; within = omega arith; here = eqb-true x place q }
+    by false q e later = let k = later e in record { index = suc (k .index); within = omega (arith, k .within); here = k .here }
+
+-- ---- and so has the table
+
+-- an entry of the table that is the place
+pub record Entry (place : ℕ) : Type 0 where
+  pub index : ℕ
+  pub within : index < 1792
+  pub here : codeAt index ≡ place
+
+pub entry-listed : (k : ℕ) → k < 1792 → listed (codeAt k) ≡ true
+unfolding listed codeAt
+entry-listed k h = among-at codes k (getD codes k 0) (inside h) refl
+
+pub listed-entry : (place : ℕ) → listed place ≡ true → Entry place
+unfolding listed codeAt
+listed-entry place e =
+    let a = at-among codes place e in
+    record { index = a .index; within = subst (λ (n : ℕ). a .index < n) there-are-1792 (a .within); here = a .here }
+
+-- the code at p is the first of all that is not below the place
+record FirstOfAll (place p : ℕ) : Type 0 where
+  inside : p < 1792
+  before : (i : ℕ) → i < p → codeAt i < place
+  reached : place ≤ codeAt p
+
+-- where it is another than the place, the table does not have the place
+first-decides : (place p : ℕ) → FirstOfAll place p → eqb (codeAt p) place ≡ listed place
+first-decides place p f = by (eqb (codeAt p) place) refl (listed place) refl
+  where
+    other : eqb (codeAt p) place ≡ false → Entry place → ⊥
+    other e k = before-or-behind (ltb (k .index) p) refl
+      where
+        before-or-behind : (b : Bool) → ltb (k .index) p ≡ b → ⊥
+        before-or-behind true l = omega (arith, f .before (k .index) (ltb-true (k .index) p l), k .here)
+        before-or-behind false l =
+            eqb-false (codeAt p) place e (omega (arith, f .reached, not-falling p (k .index) (ltb-false (k .index) p l) (k .within), k .here))
+
+    by : (b : Bool) → eqb (codeAt p) place ≡ b → (l : Bool) → listed place ≡ l → b ≡ l
+    by true e l q = sym (entry-listed p (f .inside)) ∙ ap listed (eqb-true (codeAt p) place e) ∙ q
+    by false e true q = absurd (other e (listed-entry place q))
+    by false e false q = refl
+
+-- ---- the steps among the rows, and then in the row; what they look at is in a list
+
+rows-rise : (i j : ℕ) → i ≤ j → j < 56 → entryOf lasts i ≤ entryOf lasts j
+rows-rise i j h m =
+    omega (arith, last-in-row i (omega (arith, h, m)), last-in-row j m, not-falling (32 * i + 31) (32 * j + 31) (omega (arith, h)) (omega (arith, m)))
+
+row-rises : (row : ℕ) → row < 56 → (i j : ℕ) → i ≤ j → j < 31 → entryOf (rowOf row) i ≤ entryOf (rowOf row) j
+row-rises row r i j h m =
+    omega (arith, in-row row i (omega (arith, h, m)), in-row row j (omega (arith, m)), not-falling (32 * row + i) (32 * row + j) (omega (arith, h)) (omega (arith, m, r)))
+
+-- each entry of a list is among them
+each-among : (l : List ℕ) → Each (λ k. among k l ≡ true) l
+each-among l = by l l (λ k e. e)
+  where
+    by : (l m : List ℕ) → ((k : ℕ) → among k m ≡ true → among k l ≡ true) → Each (λ k. among k l ≡ true) m
+    by l [] h = tt
+    by l (x ∷ xs) h = (h x (among-at (x ∷ xs) 0 x (omega arith) refl), by l xs (λ k e. h k (or-right (eqb x k) (among k xs) e)))
+
+row-steps : (place : ℕ) → First (entryOf lasts) 56 place (λ k. among k (looks (entryOf lasts) place rowSteps 0) ≡ true) (rowFor place)
+unfolding rowFor
+row-steps place = by-halves (entryOf lasts) 56 place rowSteps _ rows-rise refl (each-among (looks (entryOf lasts) place rowSteps 0))
+
+code-steps : (place : ℕ) → rowFor place < 56 → First (entryOf (rowOf (rowFor place))) 31 place (λ k. among k (looks (entryOf (rowOf (rowFor place))) place codeSteps 0) ≡ true) (foundIn (rowOf (rowFor place)) place)
+unfolding foundIn
+code-steps place h =
+    let row = rowOf (rowFor place) in
+    by-halves (entryOf row) 31 place codeSteps _ (row-rises (rowFor place) h) refl (each-among (looks (entryOf row) place codeSteps 0))
+
+-- behind all rows, the table does not have the place
+pub behind-all : (place : ℕ) → rowFor place ≡ 56 → false ≡ listed place
+behind-all place e = by (listed place) refl
+  where
+    last-below : entryOf lasts 55 < place
+    last-below = row-steps place .before 55 (omega (arith, e))
+
+    by : (b : Bool) → listed place ≡ b → false ≡ b
+    by true q =
+        let k = listed-entry place q in
+        absurd (omega (arith, last-below, last-in-row 55 (omega arith), not-falling (k .index) 1791 (omega (arith, k .within)) (omega arith), k .here))
+    by false q = refl
+
+-- the first code that is not below the place, in the first row whose last is not, is the first of all
+first-of-all : (place row k : ℕ) {SeenRow SeenCode : ℕ → Type 0} → row < 56 → First (entryOf lasts) 56 place SeenRow row → First (entryOf (rowOf row)) 31 place SeenCode k → FirstOfAll place (32 * row + k)
+first-of-all place row k h f g =
+    record {
+      inside = omega (arith, h, g .inside);
+      before = λ i l. by i l (ltb i (32 * row)) refl;
+      reached =
+          ⊎-elim
+          (λ e. omega (arith, row-reached, last-in-row row h, ap (λ (k : ℕ). codeAt (32 * row + k)) e))
+          (λ r. omega (arith, r .0, in-row row k (omega (arith, g .inside))))
+          (g .reached);
+    }
+  where
+    row-reached : place ≤ entryOf lasts row
+    row-reached = ⊎-elim (λ e. absurd (omega (arith, h, e))) (λ r. r .0) (f .reached)
+
+    by : (i : ℕ) → i < 32 * row + k → (b : Bool) → ltb i (32 * row) ≡ b → codeAt i < place
+    by i l true e =
+        let m : i < 32 * row = ltb-true i (32 * row) e in
+        let r : row - 1 < row = omega (arith, m) in
+        omega (arith, f .before (row - 1) r, last-in-row (row - 1) (omega (arith, r, h)), not-falling i (32 * (row - 1) + 31) (omega (arith, m)) (omega (arith, m, h)))
+    by i l false e =
+        let m : 32 * row ≤ i = ltb-false i (32 * row) e in
+        let n : i - 32 * row < k = omega (arith, m, l) in
+        let s : 32 * row + (i - 32 * row) ≡ i = omega (arith, m) in
+        omega (arith, g .before (i - 32 * row) n, in-row row (i - 32 * row) (omega (arith, n, g .inside)), ap codeAt s)
+
+-- the code that the steps end at is the place exactly where the table has it
+pub found : (place : ℕ) → rowFor place < 56 → eqb (entryOf (rowOf (rowFor place)) (foundIn (rowOf (rowFor place)) place)) place ≡ listed place
+found place h =
+    let row = rowFor place in
+    let k = foundIn (rowOf row) place in
+    let g = code-steps place h in
+    ap (λ (code : ℕ). eqb code place) (in-row row k (omega (arith, g .inside)))
+    ∙ first-decides place (32 * row + k) (first-of-all place row k h (row-steps place) g)
+
+-- ---- what is compared at last was looked at
+
+among-map : (f : ℕ → ℕ) (k : ℕ) (l : List ℕ) → among k l ≡ true → among (f k) (map f l) ≡ true
+among-map f k (x ∷ xs) e = by (eqb x k) refl e (among-map f k xs)
+  where
+    by : (b : Bool) → eqb x k ≡ b → b || among k xs ≡ true → (among k xs ≡ true → among (f k) (map f xs) ≡ true) → among (f k) (f x ∷ map f xs) ≡ true
+    by true q e later = ap (λ (b : Bool). b || among (f k) (map f xs)) (eq-eqb (f x) (f k) (ap f (eqb-true x k q)))
+    by false q e later = or-right (eqb (f x) (f k)) (among (f k) (map f xs)) (later e)
+among-map f k [] e = absurd (false≢true e)
+
+among-front : (k : ℕ) (l m : List ℕ) → among k l ≡ true → among k (l ++ m) ≡ true
+among-front k [] m e = absurd (false≢true e)
+among-front k (x ∷ xs) m e = by (eqb x k) e (among-front k xs m)
+  where
+    by : (b : Bool) → b || among k xs ≡ true → (among k xs ≡ true → among k (xs ++ m) ≡ true) → b || among k (xs ++ m) ≡ true
+    by true e later = refl
+    by false e later = later e
+
+among-behind : (k : ℕ) (l m : List ℕ) → among k m ≡ true → among k (l ++ m) ≡ true
+among-behind k [] m e = e
+among-behind k (x ∷ xs) m e = or-right (eqb x k) (among k (xs ++ m)) (among-behind k xs m e)
+
+-- .. in the row, or as the last of it among the rows
+pub seen-at-last : (place : ℕ) → rowFor place < 56 → among (32 * rowFor place + foundIn (rowOf (rowFor place)) place) (looked place) ≡ true
+seen-at-last place h =
+    let row = rowFor place in
+    let rows = looks (entryOf lasts) place rowSteps 0 in
+    let inner = looks (entryOf (rowOf row)) place codeSteps 0 in
+    let ends : List ℕ = map (λ r. 32 * r + 31) rows in
+    let starts : List ℕ = map (λ k. 32 * row + k) inner in
+    ⊎-elim
+    (λ e.
+    subst (λ (k : ℕ). among (32 * row + k) (looked place) ≡ true) (sym e)
+    (among-front (32 * row + 31) ends starts (among-map (λ r. 32 * r + 31) row rows (⊎-elim (λ q. absurd (omega (arith, h, q))) (λ r. r .1) (row-steps place .reached)))))
+    (λ r. among-behind _ ends starts (among-map (λ k. 32 * row + k) (foundIn (rowOf row) place) inner (r .1)))
+    (code-steps place h .reached)

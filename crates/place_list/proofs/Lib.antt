@@ -1,0 +1,7 @@
+pub mod Claims
+pub mod Found
+pub mod Halves
+pub mod Rules
+pub mod Settled
+pub mod Standings
+pub mod Tests
