@@ -422,6 +422,18 @@ uint32_t lz_validity(uint8_t ambiguity);
 uint32_t lz_prefecture(uint64_t place);
 
 /*
+ * Answers how a place of category 8 or 9 stands to the list of places, the 1,792
+ * codes of table 4.1.2-33 of IS-QZSS-DCR-010: one of the three below. A report may
+ * name a place that is not in the list, so reading does not ask for it, and an
+ * unlisted place is no fault. LZ_OUTSIDE is answered exactly where lz_prefecture
+ * answers 0; a report that is read has no such place, but an empty slot does.
+ */
+#define LZ_OUTSIDE 0   /* it lies in no prefecture */
+#define LZ_LISTED 1    /* the list has it */
+#define LZ_UNLISTED 2  /* the list does not have it, but it lies in a prefecture */
+uint32_t lz_standing(uint64_t place);
+
+/*
  * Answers how many slots of a record are used, 0 to 16: those in front of the
  * first that is zero in all of its bytes. In a record that was read, so are those
  * behind it. In any other, what stands in bytes 9 to 40 where the category has

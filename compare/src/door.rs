@@ -89,6 +89,7 @@ mod raw {
         pub fn lz_activity(day: u8, hour: u8, minute: u8) -> u32;
         pub fn lz_validity(ambiguity: u8) -> u32;
         pub fn lz_prefecture(place: u64) -> u32;
+        pub fn lz_standing(place: u64) -> u32;
         pub fn lz_slots_used(record_bytes: *const u8, record_length: usize) -> u32;
         pub fn one_field(frame: *const u8, frame_length: usize, first: usize, width: usize) -> u64;
     }
@@ -231,6 +232,13 @@ pub fn validity(ambiguity: u8) -> u32 {
 pub fn prefecture(place: u64) -> u32 {
     // As with a depth.
     unsafe { raw::lz_prefecture(place) }
+}
+
+/// How a place stands to the list of places: 1 where it is listed, 2 where it is not
+/// but lies in a prefecture, or 0.
+pub fn standing(place: u64) -> u32 {
+    // As with a depth.
+    unsafe { raw::lz_standing(place) }
 }
 
 /// How many slots the record of the bytes uses.

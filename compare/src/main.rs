@@ -17,6 +17,7 @@ mod measure;
 mod one_field;
 mod packed;
 mod parity;
+mod places;
 mod reading;
 mod spares;
 mod store_lengths;
@@ -83,6 +84,12 @@ const COMPARISONS: &[(&str, Comparison)] = &[
     ("meanings, every ambiguity", meanings::validities),
     ("meanings, every place and wider ones", meanings::places),
     ("meanings, slots in record bytes of other lengths", meanings::record_lengths),
+    ("places, every number of 23 bits", places::every_place),
+    ("places, every code, its neighbours and what looks like them", places::look_alikes),
+    ("places, any numbers", places::any_numbers),
+    ("places, document 004", places::document_004),
+    ("places, frames with places of all kinds", places::frames),
+    ("places, frames with every code and its neighbours", places::codes_in_frames),
     ("lines of all kinds", lines::any_lines),
     ("lines, every byte at every place", lines::characters),
     ("lines of other lengths", lines::line_lengths),

@@ -12,7 +12,7 @@ use reference::random::Random;
 use reference::record::{Category, Record, Time};
 
 /// How many bits a place has in a frame.
-const PLACE_BITS: u32 = 23;
+pub const PLACE_BITS: u32 = 23;
 
 /// Every code that 16 bits hold.
 pub fn depths(count: &mut Count) {

@@ -58,6 +58,11 @@ pub fn packed(record: &Record) -> Bytes {
     bytes
 }
 
+/// The place that stands in the bytes of a slot.
+pub fn place_of(slot: &[u8]) -> u64 {
+    slot[part_bytes(Part::Place)].iter().fold(0, |sum, &byte| 256 * sum + u64::from(byte))
+}
+
 /// The bytes in which a category has nothing: those behind its last row, those of
 /// the slots and parts of slots it does not have, and the text unless it has one.
 /// Without a category it is all that categories have.

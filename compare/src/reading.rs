@@ -4,7 +4,7 @@
 use crate::calls;
 use crate::lent::{refused, Outcome};
 use crate::meanings::agree_on_slots;
-use crate::packed::{packed, Bytes, LENGTH, SLOTS, SLOT_LENGTH, TEXT};
+use crate::packed::{packed, place_of, Bytes, LENGTH, SLOTS, SLOT_LENGTH, TEXT};
 use crate::spares::{note, numbers};
 use crate::values::{self, value_of};
 use crate::{door, pattern, tuned, Count};
@@ -228,8 +228,7 @@ pub fn bytes_of(frame: &Frame) -> Bytes {
 /// The places of the slots that are used.
 fn places(bytes: &Bytes) -> Vec<u64> {
     let slots = bytes[SLOTS..TEXT].chunks(SLOT_LENGTH);
-    let place = |slot: &[u8]| slot[4..].iter().fold(0, |sum, &byte| 256 * sum + u64::from(byte));
-    slots.filter(|slot| slot.iter().any(|&byte| byte != 0)).map(place).collect()
+    slots.filter(|slot| slot.iter().any(|&byte| byte != 0)).map(place_of).collect()
 }
 
 /// The text of one delivery's pages, by page number, without the zeros that

@@ -65,6 +65,7 @@ void check_heights(void);
 void check_activities(void);
 void check_validities(void);
 void check_prefectures(void);
+void check_standings(void);
 void check_slots_used(void);
 
 /* bulletins.c */

@@ -46,6 +46,7 @@ static const struct group groups[] = {
     {"times of an activity", check_activities},
     {"what is valid by an ambiguity", check_validities},
     {"prefectures", check_prefectures},
+    {"the list of places", check_standings},
     {"slots used", check_slots_used},
     {"opening a store", check_opening},
     {"new, same, disputed", check_taking},

@@ -127,6 +127,33 @@ void check_prefectures(void)
     }
 }
 
+/*
+ * The first and the last code of table 4.1.2-33, one of its first and one of its
+ * last part, the two islands whose codes do not end in 00, and what document 004
+ * names. The numbers beside a code are not listed.
+ */
+void check_standings(void)
+{
+    static const uint64_t listed[] = {110000,  120200,  169001,  169002,  4321400,
+                                      4342800, 4343300, 4735500, 4799999};
+    static const uint64_t unlisted[] = {100000, 109999, 110001, 169000, 169003, 4321399, 4799998};
+    static const uint64_t outside[] = {0, 1, 47, 99999, 4800000, UINT32_MAX,
+                                       (UINT64_C(1) << 32) + 110000, UINT64_MAX};
+    for (size_t i = 0; i < COUNT(listed); i++) {
+        SAME_WORD(LZ_LISTED, lz_standing(listed[i]));
+    }
+    for (size_t i = 0; i < COUNT(unlisted); i++) {
+        SAME_WORD(LZ_UNLISTED, lz_standing(unlisted[i]));
+    }
+    for (size_t i = 0; i < COUNT(outside); i++) {
+        SAME_WORD(LZ_OUTSIDE, lz_standing(outside[i]));
+    }
+    for (uint32_t prefecture = 1; prefecture <= 47; prefecture++) {
+        SAME_WORD(LZ_UNLISTED, lz_standing(UINT64_C(100000) * prefecture));
+        SAME_WORD(LZ_LISTED, lz_standing(UINT64_C(100000) * prefecture + 99999));
+    }
+}
+
 static void slots_used_are(int line, uint32_t expected, const uint8_t *record, size_t length)
 {
     uint8_t lent[LZ_RECORD_BYTES + 1];

@@ -52,6 +52,7 @@ static void call_height(void) { answer = lz_height(4); }
 static void call_activity(void) { answer = lz_activity(31, 23, 59); }
 static void call_validity(void) { answer = lz_validity(5); }
 static void call_prefecture(void) { answer = lz_prefecture(4600000); }
+static void call_standing(void) { answer = lz_standing(4600000); }
 
 /*
  * What each was measured to take when its row was written, and the most that it
@@ -95,6 +96,7 @@ static struct door doors[] = {
     {"lz_activity", call_activity, 8, 0},
     {"lz_validity", call_validity, 8, 0},
     {"lz_prefecture", call_prefecture, 8, 0},
+    {"lz_standing", call_standing, 0, 0},
 };
 
 /*

@@ -8,6 +8,7 @@ mod histories;
 mod lines;
 mod malformed_records;
 mod numbers;
+mod places;
 mod records;
 mod stores;
 
@@ -17,6 +18,7 @@ pub use histories::*;
 pub use lines::*;
 pub use malformed_records::*;
 pub use numbers::*;
+pub use places::*;
 pub use records::*;
 pub use stores::*;
 

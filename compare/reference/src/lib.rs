@@ -5,8 +5,8 @@
 //!
 //! `read` and `write` work on frames, `line` on lines of digits; `parity` is the
 //! parity of a frame in three ways; `meaning` says what numbers of a record mean;
-//! `listing` is the listing of a file of frames; `damage` is what may happen to a
-//! frame on its way.
+//! `place` is the list of places; `listing` is the listing of a file of frames;
+//! `damage` is what may happen to a frame on its way.
 //! `store` is the page store, `history` a second account of it, and `player`
 //! drives both, and any other, through the same steps, each with its `answer`.
 //! `generate` builds inputs for all of them, `samples` holds the values of
@@ -24,6 +24,7 @@ pub mod line;
 pub mod listing;
 pub mod meaning;
 pub mod parity;
+pub mod place;
 pub mod player;
 pub mod random;
 pub mod read;

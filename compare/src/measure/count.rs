@@ -1,8 +1,9 @@
 //! Calls one function again and again, so that its instructions can be counted: the
 //! proved one through the static library, the tuned one or the plain one, over the
-//! frames of standard input, which must be valid, or over a bulletin of 63 full
-//! pages. It prints how many calls it made. What two runs differ in, divided by the
-//! calls in which they differ, is what one call takes; `tests/instructions` does so:
+//! frames of standard input, which must be valid, over a bulletin of 63 full pages
+//! or over the list of places. It prints how many calls it made. What two runs differ
+//! in, divided by the calls in which they differ, is what one call takes;
+//! `tests/instructions` does so:
 //!
 //! valgrind --tool=callgrind --callgrind-out-file=/dev/null compare count proved read 2 < LINES
 
@@ -14,6 +15,7 @@ use reference::bits::Frame;
 use reference::line::{frame_of_line, read_line, write_line};
 use reference::meaning::slots_used;
 use reference::parity::by_bits;
+use reference::place::{standing, CODES};
 use reference::read::read;
 use reference::record::Record;
 use reference::store::{Store, StoreBytes, STORE_BYTES};
@@ -149,6 +151,7 @@ impl Inputs {
             "activity" => self.over(&[31], |&day| unknown(door::activity(day, 23, 59))),
             "validity" => self.over(&[4], |&code| unknown(door::validity(code))),
             "prefecture" => self.over(&[4_600_000], |&place| unknown(door::prefecture(place))),
+            "standing" => self.over(&places(), |&place| u64::from(door::standing(place) > 2)),
             _ => return None,
         })
     }
@@ -197,9 +200,17 @@ impl Inputs {
             "merge" => self.over(&[self.even], |e| black_box(self.odd).merge(e).is_err().into()),
             "count" => self.over(&[self.full], |s| black_box(s.report()).0.is_err().into()),
             "text" => self.over(&[self.full], |s| s.text(&mut text).is_err().into()),
+            "standing" => {
+                self.over(&places(), |&place| u64::from(black_box(standing(place)) as u8 > 2))
+            }
             _ => return None,
         })
     }
+}
+
+/// Each place of the list and the number behind it, so that half of them are listed.
+fn places() -> Vec<u64> {
+    CODES.iter().map(|&code| u64::from(code)).flat_map(|code| [code, code + 1]).collect()
 }
 
 fn number(answer: Answer) -> u64 {

@@ -28,7 +28,7 @@ use Rattle.bulletin.specs.Text.{textAnswer}
 use Rattle.store_bytes.specs.Stores.{nameFrom, storeOrZeros}
 use Rattle.parity.specs.Parity.{parityOf}
 use Rattle.inserter.specs.Answers.{answerWord, countAnswer, InBytes, IsRefusal, mergeInto, openInto, openValue, parityAnswer, readInto, readLineInto, readLineValue, readValue, takeInto, takeValue, takenWord, textInto, wordBytes, writeInto, writeLineInto, writeValue}
-use Rattle.inserter.specs.Meanings.{activityAnswer, arrivalAnswer, depthAnswer, heightAnswer, magnitudeAnswer, placeAnswer, placeWord, prefectureAnswer, slotsAnswer, validityAnswer}
+use Rattle.inserter.specs.Meanings.{activityAnswer, arrivalAnswer, depthAnswer, heightAnswer, magnitudeAnswer, standingAnswer, standingWord, prefectureAnswer, slotsAnswer, validityAnswer}
 use Rattle.bits.specs.Frame.{fieldOf}
 use Rattle.slots.specs.Slots.{noSlot}
 use Rattle.report.specs.Conforms.{Conforms}
@@ -250,21 +250,21 @@ pub no-other-prefecture-is-told : (place : ℕ) → ((100000 ≤ place) × (plac
 no-other-prefecture-is-told = Meant.nowhere
 
 -- "Answer listed, unlisted but within a prefecture, or outside": 1, 2 and 0, each exactly there ..
-pub a-place-is-told-as-1-exactly-where-it-is-listed : (place : ℕ) → placeAnswer place ≡ 1 ↔ Entry place
+pub a-place-is-told-as-1-exactly-where-it-is-listed : (place : ℕ) → standingAnswer place ≡ 1 ↔ Entry place
 a-place-is-told-as-1-exactly-where-it-is-listed = Meant.told-listed
 
-pub a-place-is-told-as-2-exactly-where-it-is-unlisted-within-a-prefecture : (place : ℕ) → placeAnswer place ≡ 2 ↔ ((Entry place → ⊥) × ((1 ≤ place / 100000) × (place / 100000 ≤ 47)))
+pub a-place-is-told-as-2-exactly-where-it-is-unlisted-within-a-prefecture : (place : ℕ) → standingAnswer place ≡ 2 ↔ ((Entry place → ⊥) × ((1 ≤ place / 100000) × (place / 100000 ≤ 47)))
 a-place-is-told-as-2-exactly-where-it-is-unlisted-within-a-prefecture = Meant.told-unlisted
 
-pub a-place-is-told-as-0-exactly-where-no-prefecture-is : (place : ℕ) → placeAnswer place ≡ 0 ↔ prefectureAnswer place ≡ 0
+pub a-place-is-told-as-0-exactly-where-no-prefecture-is : (place : ℕ) → standingAnswer place ≡ 0 ↔ prefectureAnswer place ≡ 0
 a-place-is-told-as-0-exactly-where-no-prefecture-is = Meant.outside-nowhere
 
 -- .. so 100000, which the table does not have, lies in prefecture 1
-pub place-100000-is-told-as-unlisted-in-prefecture-1 : (placeAnswer 100000 ≡ 2) × (prefectureAnswer 100000 ≡ 1)
-place-100000-is-told-as-unlisted-in-prefecture-1 = (ap placeWord place-100000-is-unlisted, Meant.in-prefecture 100000 (lit≤ tt) (lit≤ tt))
+pub place-100000-is-told-as-unlisted-in-prefecture-1 : (standingAnswer 100000 ≡ 2) × (prefectureAnswer 100000 ≡ 1)
+place-100000-is-told-as-unlisted-in-prefecture-1 = (ap standingWord place-100000-is-unlisted, Meant.in-prefecture 100000 (lit≤ tt) (lit≤ tt))
 
 -- "The standard allows unlisted codes, so reading refuses no more than it did": whatever place a report that is read names is 1 or 2 ..
-pub a-used-place-is-never-told-as-0 : (s : List ℕ) → Conforms s → (fieldOf s 17 4 ≡ 8) ⊎ (fieldOf s 17 4 ≡ 9) → (i : ℕ) → i < usedOf (recordOf s) → placeAnswer (getD (recordOf s .slots) i noSlot .place) ≡ 0 → ⊥
+pub a-used-place-is-never-told-as-0 : (s : List ℕ) → Conforms s → (fieldOf s 17 4 ≡ 8) ⊎ (fieldOf s 17 4 ≡ 9) → (i : ℕ) → i < usedOf (recordOf s) → standingAnswer (getD (recordOf s .slots) i noSlot .place) ≡ 0 → ⊥
 a-used-place-is-never-told-as-0 s c category i u =
     ⊎-elim
     (λ e. Meant.used-not-outside _ (used-places-of-a-volcano-report-lie-in-a-prefecture s c e i u))
@@ -272,8 +272,8 @@ a-used-place-is-never-told-as-0 s c category i u =
     category
 
 -- .. and what an empty slot has is 0, never the first row of the table
-pub an-empty-slot-is-told-as-0 : placeAnswer (noSlot .place) ≡ 0
-an-empty-slot-is-told-as-0 = ap placeWord place-0-is-outside
+pub an-empty-slot-is-told-as-0 : standingAnswer (noSlot .place) ≡ 0
+an-empty-slot-is-told-as-0 = ap standingWord place-0-is-outside
 
 -- "values with names, not hours": 1 with hour and minute of the arrival, 4 where the wave has arrived, and 0 for "a mixture" and
 -- whatever else says nothing

@@ -16,7 +16,7 @@ use Rattle.place_list.proofs.Claims.{a-place-is-listed-exactly-where-it-is-an-e
 use Rattle.place_list.proofs.Found.{Entry}
 use Rattle.record_bytes.specs.Unpacked.{recordFrom}
 use Rattle.record_bytes.proofs.Accepted.{record-shaped}
-use Rattle.inserter.specs.Meanings.{activityAnswer, activityWord, arrivalAnswer, arrivalWord, depthAnswer, depthWord, heightAnswer, heightWord, magnitudeAnswer, magnitudeWord, placeAnswer, placeWord, prefectureAnswer, prefectureWord, slotsAnswer, validityAnswer, validityWord}
+use Rattle.inserter.specs.Meanings.{activityAnswer, activityWord, arrivalAnswer, arrivalWord, depthAnswer, depthWord, heightAnswer, heightWord, magnitudeAnswer, magnitudeWord, standingAnswer, standingWord, prefectureAnswer, prefectureWord, slotsAnswer, validityAnswer, validityWord}
 
 -- ---- a depth
 
@@ -102,7 +102,7 @@ nowhere place out = ap prefectureWord (no-other-place-has-a-prefecture place out
 
 -- ---- a place
 
-told-apart : (s t : Standing) → placeWord s ≡ placeWord t → s ≡ t
+told-apart : (s t : Standing) → standingWord s ≡ standingWord t → s ≡ t
 told-apart Listed Listed e = refl
 told-apart Listed Unlisted e = absurd (omega (arith, e))
 told-apart Listed Outside e = absurd (omega (arith, e))
@@ -114,26 +114,26 @@ told-apart Outside Unlisted e = absurd (omega (arith, e))
 told-apart Outside Outside e = refl
 
 -- an answer has one word, and a word one answer
-by-word : (place : ℕ) (s : Standing) {P : Type 0} → standingOf place ≡ s ↔ P → placeAnswer place ≡ placeWord s ↔ P
-by-word place s law = (λ e. law .0 (told-apart (standingOf place) s e), λ p. ap placeWord (law .1 p))
+by-word : (place : ℕ) (s : Standing) {P : Type 0} → standingOf place ≡ s ↔ P → standingAnswer place ≡ standingWord s ↔ P
+by-word place s law = (λ e. law .0 (told-apart (standingOf place) s e), λ p. ap standingWord (law .1 p))
 
-pub told-listed : (place : ℕ) → placeAnswer place ≡ 1 ↔ Entry place
+pub told-listed : (place : ℕ) → standingAnswer place ≡ 1 ↔ Entry place
 told-listed place = by-word place Listed (a-place-is-listed-exactly-where-it-is-an-entry place)
 
-pub told-unlisted : (place : ℕ) → placeAnswer place ≡ 2 ↔ ((Entry place → ⊥) × ((1 ≤ place / 100000) × (place / 100000 ≤ 47)))
+pub told-unlisted : (place : ℕ) → standingAnswer place ≡ 2 ↔ ((Entry place → ⊥) × ((1 ≤ place / 100000) × (place / 100000 ≤ 47)))
 told-unlisted place = by-word place Unlisted (a-place-is-unlisted-exactly-where-it-is-no-entry-and-names-a-prefecture place)
 
-pub told-outside : (place : ℕ) → placeAnswer place ≡ 0 ↔ ((1 ≤ place / 100000) × (place / 100000 ≤ 47) → ⊥)
+pub told-outside : (place : ℕ) → standingAnswer place ≡ 0 ↔ ((1 ≤ place / 100000) × (place / 100000 ≤ 47) → ⊥)
 told-outside place = by-word place Outside (a-place-is-outside-exactly-where-it-names-no-prefecture place)
 
 -- where a place lies outside, no prefecture is told, and the other way round
-pub outside-nowhere : (place : ℕ) → placeAnswer place ≡ 0 ↔ prefectureAnswer place ≡ 0
+pub outside-nowhere : (place : ℕ) → standingAnswer place ≡ 0 ↔ prefectureAnswer place ≡ 0
 outside-nowhere place = (λ e. nowhere place (λ r. told-outside place .0 e (omega (arith, r .0), omega (arith, r .1))), λ e. told-outside place .1 (λ d. in-one d e))
   where
     in-one : (1 ≤ place / 100000) × (place / 100000 ≤ 47) → prefectureAnswer place ≡ 0 → ⊥
     in-one d e = omega (arith, d .0, e, in-prefecture place (omega (arith, d .0)) (omega (arith, d .1)))
 
-pub used-not-outside : (place : ℕ) → InPrefecture place → placeAnswer place ≡ 0 → ⊥
+pub used-not-outside : (place : ℕ) → InPrefecture place → standingAnswer place ≡ 0 → ⊥
 used-not-outside place p e = omega (arith, p .1 .1 .0, ap prefectureWord (p .1 .0), outside-nowhere place .0 e)
 
 -- ---- slots

@@ -50,8 +50,8 @@ lz-magnitude-is-settled κs a x y = answer
 pub lz-prefecture-is-settled : Settled inserter.meanings.lz_prefecture.ended inserter.meanings.lz_prefecture.Reads.Post
 lz-prefecture-is-settled κs a x y = answer
 
-pub lz-place-is-settled : Settled inserter.meanings.lz_place.ended inserter.meanings.lz_place.Reads.Post
-lz-place-is-settled κs a x y = answer
+pub lz-standing-is-settled : Settled inserter.meanings.lz_standing.ended inserter.meanings.lz_standing.Reads.Post
+lz-standing-is-settled κs a x y = answer
 
 pub lz-slots-used-is-settled : Settled inserter.meanings.lz_slots_used.ended inserter.meanings.lz_slots_used.Reads.Post
 lz-slots-used-is-settled κs a x y = answer

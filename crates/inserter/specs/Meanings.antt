@@ -63,13 +63,13 @@ abbrev pub prefectureAnswer : ℕ → ℕ
 prefectureAnswer place = prefectureWord (prefectureOf place)
 
 -- "listed, unlisted but within a prefecture, or outside"
-abbrev pub placeWord : Standing → ℕ
-placeWord Listed = 1
-placeWord Unlisted = 2
-placeWord Outside = 0
+abbrev pub standingWord : Standing → ℕ
+standingWord Listed = 1
+standingWord Unlisted = 2
+standingWord Outside = 0
 
-abbrev pub placeAnswer : ℕ → ℕ
-placeAnswer place = placeWord (standingOf place)
+abbrev pub standingAnswer : ℕ → ℕ
+standingAnswer place = standingWord (standingOf place)
 
 -- a time has its hour in front of its minute
 abbrev pub arrivalWord : Arrival → ℕ

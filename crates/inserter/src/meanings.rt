@@ -2,7 +2,7 @@
 // number is told as 0, which is neither a depth, a magnitude, a prefecture, a place, an arrival, a height, a time nor what is
 // valid of one.
 ghost use mathlib.Core.Path.{_≡_};
-ghost use Rattle.inserter.specs.Meanings.{depthAnswer, magnitudeAnswer, prefectureAnswer, placeAnswer, arrivalAnswer, heightAnswer, activityAnswer, validityAnswer, slotsAnswer};
+ghost use Rattle.inserter.specs.Meanings.{depthAnswer, magnitudeAnswer, prefectureAnswer, standingAnswer, arrivalAnswer, heightAnswer, activityAnswer, validityAnswer, slotsAnswer};
 use ash_fall::meaning::Prefecture;
 use hypocenter::meaning::Depth;
 use hypocenter::meaning::Magnitude;
@@ -54,8 +54,8 @@ pub extern "C" fn lz_prefecture(place: u64) -> u32
 // 1 where the list of places has this one, 2 where it does not but its first digits are those of a prefecture; 0 where it lies
 // in none.
 #[no_mangle]
-pub extern "C" fn lz_place(place: u64) -> u32
-    ensures { λ r. ⌜ r ≡ placeAnswer place ⌝ }
+pub extern "C" fn lz_standing(place: u64) -> u32
+    ensures { λ r. ⌜ r ≡ standingAnswer place ⌝ }
 {
     match Standing::of(place) {
         Standing::Listed => 1,

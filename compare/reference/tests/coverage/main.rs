@@ -147,6 +147,11 @@ fn boundary_inputs_reach_every_field() {
     }
 }
 
+/// Whether a slot may name this place.
+fn allows_place(category: Category, place: u64) -> bool {
+    slot_layout(category).count > 0 && place_field(category, 0).allows(place)
+}
+
 /// The builders pick their categories from lists, which must be those of the tables.
 #[test]
 fn the_lists_of_categories_leave_none_out() {
@@ -156,6 +161,7 @@ fn the_lists_of_categories_leave_none_out() {
     assert_eq!(those(|category| slot_layout(category).count > 0), WITH_SLOTS);
     assert_eq!(those(|category| slot_layout(category).parts(0).len() > 1), WITH_PARTS);
     assert_eq!(those(|category| !groups(category).is_empty()), WITH_GROUPS);
+    assert_eq!(those(|category| allows_place(category, 4_321_400)), WITH_PLACES);
 }
 
 #[test]
