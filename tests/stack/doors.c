@@ -96,7 +96,7 @@ static struct door doors[] = {
     {"lz_activity", call_activity, 8, 0},
     {"lz_validity", call_validity, 8, 0},
     {"lz_prefecture", call_prefecture, 8, 0},
-    {"lz_standing", call_standing, 0, 0},
+    {"lz_standing", call_standing, 492, 0},
 };
 
 /*
