@@ -1,27 +1,30 @@
 -- What is claimed of the list of places (document 02, f).
-use mathlib.Core.Path.{_≡_, _∙_, refl, sym, ap}
-use mathlib.Core.Bool.{Bool, true, false, _||_, true≢false}
+use mathlib.Core.Path.{_≡_, refl}
+use mathlib.Core.Bool.{true}
 use mathlib.Core.Logic.{_↔_}
-use mathlib.Core.List.{List, [], _∷_}
-use Prim.Native.Nat.{ℕ, zero, suc, _+_, _*_, _/_, _%_, _≤_, _<_}
+use Prim.Native.Nat.{ℕ, zero, _+_, _*_, _/_, _≤_, _<_}
 use native.Mathlib.Omega.{arith}
-use lib.Dec.{eqb}
 use lib.ListN.{length}
-use Rattle.place_list.specs.Codes.{codes, codeAt, rowOf}
-use Rattle.place_list.specs.Search.{rowFor, foundIn, looked}
+use Rattle.place_list.specs.Codes.{codes, codeAt}
+use Rattle.place_list.specs.Search.{rowOf, rowFor, foundIn, looked}
 use Rattle.place_list.specs.Standing.{among, listed, inPrefecture, standingOf}
-use Rattle.place_list.specs.declared.Standing.{Standing}
 use Rattle.place_list.specs.declared.Standing.the-variants.{Listed, Unlisted, Outside}
 use Rattle.place_list.proofs.Found as Found
 use Rattle.place_list.proofs.Found.{Entry}
 use Rattle.place_list.proofs.Rules as Rules
-use Rattle.place_list.proofs.Standings.{below, beyond, endings, entry-is-listed, given, is-outside, listed-within, meant, others-listed, within-digits}
+use Rattle.place_list.proofs.Tests.{added, endings}
+use Rattle.place_list.proofs.Standings.{below, beyond, entry-is-listed, given, is-outside, listed-within, meant, others-listed, within-digits}
 
 -- ---- the table
 
 -- "Hold all codes of table 4.1.2-33 as printed in document 001": so many were counted there
 pub the-table-has-1792-codes : length codes ≡ 1792
 the-table-has-1792-codes = Rules.there-are-1792
+
+-- .. and they add up to this there: a code that was copied wrongly into the definitions and the code alike is found by it
+pub the-codes-add-up-to-3800813856 : added codes ≡ 3800813856
+unfolding codes
+the-codes-add-up-to-3800813856 = refl
 
 -- "That the table rises strictly"
 pub the-table-rises : (i j : ℕ) → i < j → j < 1792 → codeAt i < codeAt j

@@ -8,11 +8,11 @@ use native.Mathlib.Omega.{arith}
 use lib.Dec.{eqb, ltb}
 use lib.ListN.{length, getD}
 use borrow.Author.Tests.{eqb-true, eqb-false, eq-eqb, ltb-true, ltb-false}
-use Rattle.place_list.specs.Codes.{codes, codeAt, rowOf, lasts}
-use Rattle.place_list.specs.Search.{entryOf, looks, rowSteps, rowFor, codeSteps, foundIn, looked}
+use Rattle.place_list.specs.Codes.{codes, codeAt}
+use Rattle.place_list.specs.Search.{rowOf, lasts, entryOf, looks, rowSteps, rowFor, codeSteps, foundIn, looked}
 use Rattle.place_list.specs.Standing.{among, listed}
 use Rattle.place_list.proofs.Halves.{Each, First, by-halves}
-use Rattle.place_list.proofs.Rules.{there-are-1792, inside, not-falling, in-row, last-in-row, the-last-code}
+use Rattle.place_list.proofs.Rules.{there-are-1792, inside, not-falling, in-row, last-in-row}
 
 -- ---- a list has a number exactly where one of its entries is that
 

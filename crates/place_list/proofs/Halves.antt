@@ -1,6 +1,6 @@
 -- The search by halves, in any numbers that do not fall: it ends at the first that is not below the place, or behind all, and has
 -- looked at the number that it ends at.
-use mathlib.Core.Path.{_≡_, _∙_, refl, sym, ap, subst}
+use mathlib.Core.Path.{_≡_, _∙_, refl, sym, subst}
 use mathlib.Core.Bool.{Bool, true, false, _&&_, cond}
 use mathlib.Core.Logic.{_⊎_, inl, inr, ⊎-elim}
 use mathlib.Core.List.{List, [], _∷_}

@@ -3,12 +3,13 @@ use mathlib.Core.Path.{_≡_, _∙_, refl, sym, ap, subst}
 use mathlib.Core.Bool.{Bool, true, false}
 use lib.Dec.{eqb}
 use borrow.Author.Tests.{eqb-true, eqb-false}
-use mathlib.Core.List.{List, [], _∷_}
+use mathlib.Core.List.{List}
 use Prim.Native.Nat.{ℕ, zero, suc, _+_, _*_, _≤_, _<_}
 use native.Mathlib.Omega.{arith}
-use lib.ListN.{length, getD, take, drop}
+use lib.ListN.{length, getD, drop}
 use lib.Seq.{getD-take, getD-drop}
-use Rattle.place_list.specs.Codes.{codes, codeAt, rowOf, lastsOf, lasts}
+use Rattle.place_list.specs.Codes.{codes, codeAt}
+use Rattle.place_list.specs.Search.{rowOf, lastsOf, lasts}
 use Rattle.place_list.specs.Standing.{inPrefecture}
 use Rattle.place_list.proofs.Tests.{rises, rises-at, every, every-at}
 

@@ -1,8 +1,7 @@
 -- How a place stands to the table, by where it lies.
 use mathlib.Core.Path.{_≡_, _∙_, refl, sym, ap, subst}
 use mathlib.Core.Bool.{Bool, true, false, _&&_, cond, true≢false}
-use mathlib.Core.List.{List, [], _∷_}
-use Prim.Native.Nat.{ℕ, zero, suc, _+_, _*_, _/_, _%_, _≤_, _<_}
+use Prim.Native.Nat.{ℕ, zero, suc, _+_, _*_, _/_, _≤_, _<_}
 use native.Mathlib.Omega.{arith}
 use lib.Dec.{leb, eqb}
 use borrow.Author.Tests.{le-leb, lt-leb, leb-true, eqb-true, eqb-false}
@@ -123,8 +122,3 @@ all-others = refl
 
 pub others-listed : (p : ℕ) → 1 ≤ p → p ≤ 47 → standingOf (p * 100000 + 99999) ≡ Listed
 others-listed p low high = is-listed (p * 100000 + 99999) (others-at 47 p all-others low high)
-
--- how many numbers end in 99999
-abbrev pub endings : List ℕ → ℕ
-endings [] = 0
-endings (x ∷ xs) = cond (eqb (x % 100000) 99999) 1 0 + endings xs

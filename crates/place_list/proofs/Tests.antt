@@ -1,10 +1,10 @@
 -- Tests that are computed over a whole list, and the laws that turn each into a fact at every entry.
 use mathlib.Core.Path.{_≡_, refl}
-use mathlib.Core.Bool.{Bool, true, false, _&&_, false≢true}
+use mathlib.Core.Bool.{Bool, true, false, _&&_, cond, false≢true}
 use mathlib.Core.List.{List, [], _∷_}
-use Prim.Native.Nat.{ℕ, zero, suc, _≤_, _<_}
+use Prim.Native.Nat.{ℕ, zero, suc, _+_, _%_, _<_}
 use native.Mathlib.Omega.{arith}
-use lib.Dec.{ltb}
+use lib.Dec.{ltb, eqb}
 use lib.ListN.{length, getD}
 use borrow.Author.Tests.{ltb-true}
 
@@ -44,3 +44,13 @@ pub every-at : (test : ℕ → Bool) (l : List ℕ) → every test l ≡ true �
 every-at test [] e k h = absurd (omega (arith, h))
 every-at test (x ∷ xs) e zero h = left (test x) (every test xs) e
 every-at test (x ∷ xs) e (suc k) h = every-at test xs (right (test x) (every test xs) e) k (omega (arith, h))
+
+-- ---- what is counted: how many numbers end in 99999, and what they add up to
+
+abbrev pub endings : List ℕ → ℕ
+endings [] = 0
+endings (x ∷ xs) = cond (eqb (x % 100000) 99999) 1 0 + endings xs
+
+abbrev pub added : List ℕ → ℕ
+added [] = 0
+added (x ∷ xs) = x + added xs

@@ -1,7 +1,7 @@
 -- Table 4.1.2-33 of document 001, "Local Government": its codes.
-use Prim.Native.Nat.{ℕ, zero, suc, _*_}
+use Prim.Native.Nat.{ℕ}
 use mathlib.Core.List.{List, [], _∷_}
-use lib.ListN.{getD, take, drop}
+use lib.ListN.{getD}
 
 -- "all codes of table 4.1.2-33 as printed in document 001, with the special 'other' codes ending in 99999, in rising order"
 unfoldable pub codes : List ℕ
@@ -122,15 +122,3 @@ codes =
 -- .. one of them, by how many stand before it
 unfoldable pub codeAt : ℕ → ℕ
 codeAt k = getD codes k 0
-
--- .. 32 to a row
-unfoldable pub rowOf : ℕ → List ℕ
-rowOf row = take 32 (drop (32 * row) codes)
-
--- .. and the last of each row
-abbrev pub lastsOf : ℕ → List ℕ → List ℕ
-lastsOf zero l = []
-lastsOf (suc rows) l = getD l 31 0 ∷ lastsOf rows (drop 32 l)
-
-unfoldable pub lasts : List ℕ
-lasts = lastsOf 56 codes

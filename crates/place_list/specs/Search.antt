@@ -1,10 +1,28 @@
--- The search for a place in numbers that rise, by halves: what its steps leave, what they look at, and how many there are.
-use Prim.Native.Nat.{ℕ, _+_, _-_, _*_}
-use mathlib.Core.Bool.{Bool, _&&_, cond}
+-- How the code holds the codes and searches them. No contract that a caller sees speaks of it: a place is listed where the codes
+-- have it.
+use Prim.Native.Nat.{ℕ, zero, suc, _+_, _-_, _*_}
+use mathlib.Core.Bool.{cond}
 use mathlib.Core.List.{List, [], _∷_, _++_, map}
-use lib.Dec.{ltb, eqb}
-use lib.ListN.{getD}
-use Rattle.place_list.specs.Codes.{rowOf, lasts}
+use lib.Dec.{ltb}
+use lib.ListN.{getD, take, drop}
+use Rattle.place_list.specs.Codes.{codes}
+
+-- ---- the table: 32 codes to a row, and the last of each row
+
+unfoldable pub rowOf : ℕ → List ℕ
+rowOf row = take 32 (drop (32 * row) codes)
+
+abbrev pub lastsOf : ℕ → List ℕ → List ℕ
+lastsOf zero l = []
+lastsOf (suc rows) l = getD l 31 0 ∷ lastsOf rows (drop 32 l)
+
+unfoldable pub lasts : List ℕ
+lasts = lastsOf 56 codes
+
+abbrev pub entryOf : List ℕ → ℕ → ℕ
+entryOf l k = getD l k 0
+
+-- ---- the search for a place in numbers that rise, by halves
 
 -- one step looks at one number, the last of as many as it has: where that is below the place, they are left out
 abbrev pub past : (ℕ → ℕ) → ℕ → ℕ → ℕ → ℕ
@@ -20,8 +38,7 @@ abbrev pub looks : (ℕ → ℕ) → ℕ → List ℕ → ℕ → List ℕ
 looks number place [] from = []
 looks number place (step ∷ steps) from = (from + step - 1) ∷ looks number place steps (past number place from step)
 
-abbrev pub entryOf : List ℕ → ℕ → ℕ
-entryOf l k = getD l k 0
+-- ---- its steps
 
 -- the steps among 56 rows, by their last codes: they end at the first row whose last code is not below the place, or behind all rows
 abbrev pub rowSteps : List ℕ

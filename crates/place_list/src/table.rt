@@ -1,7 +1,7 @@
 // The table: all codes in rising order, 32 to a row.
 ghost use mathlib.Core.Path.{_≡_};
 ghost use Prim.Native.Nat.{_<_};
-ghost use Rattle.place_list.specs.Codes.{rowOf};
+ghost use Rattle.place_list.specs.Search.{rowOf};
 
 // A row of the table. The compiler keeps what the arms of a `match` give beside the code; of a constant array with all codes
 // each call would build 7 KB on the stack.

@@ -1,12 +1,11 @@
 -- `place_list::search::is_listed` meets its contract: the steps among the rows and then in the row find what the table has.
-use mathlib.Core.Path.{_≡_, _∙_, sym, ap}
+use mathlib.Core.Path.{_∙_, sym, ap}
 use Prim.Native.Nat.{ℕ, _<_}
 use mathlib.Core.List.{List}
 use native.Mathlib.Omega.{arith}
 use lib.Dec.{eqb}
 use borrow.Author.Needs.{needs}
-use Rattle.place_list.specs.Codes.{rowOf}
-use Rattle.place_list.specs.Search.{entryOf, rowFor, foundIn}
+use Rattle.place_list.specs.Search.{rowOf, entryOf, rowFor, foundIn}
 use Rattle.place_list.proofs.Found.{found, behind-all}
 use Rattle.place_list.proofs.search.is_listed.Statement.{statement}
 use Rattle.place_list.proofs.search.is_listed.Tie as tie

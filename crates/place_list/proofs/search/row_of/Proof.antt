@@ -4,8 +4,8 @@ use Prim.Native.Nat.{ℕ}
 use mathlib.Core.List.{List, [], _∷_}
 use native.Mathlib.Omega.{arith}
 use borrow.Author.Needs.{needs}
-use Rattle.place_list.specs.Codes.{codes, lasts}
-use Rattle.place_list.specs.Search.{entryOf, search as searched, rowFor}
+use Rattle.place_list.specs.Codes.{codes}
+use Rattle.place_list.specs.Search.{lasts, entryOf, search as searched, rowFor}
 use Rattle.place_list.proofs.search.row_of.Statement.{statement}
 use Rattle.place_list.proofs.search.row_of.Tie as tie
 

@@ -1,6 +1,7 @@
 -- `place_list::table::row` meets its contract: each arm has the codes of its row.
 use Rattle.settled.proofs.Arms.{arm, last-arm}
-use Rattle.place_list.specs.Codes.{codes, rowOf}
+use Rattle.place_list.specs.Codes.{codes}
+use Rattle.place_list.specs.Search.{rowOf}
 use Rattle.place_list.proofs.table.row.Statement.{statement}
 use Rattle.place_list.proofs.table.row.Tie as tie
 
