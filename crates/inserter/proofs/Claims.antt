@@ -36,7 +36,7 @@ use Rattle.report.specs.Meaning.{usedOf}
 use Rattle.report.specs.Records.{recordOf}
 use Rattle.report.proofs.Claims.{used-places-lie-in-a-prefecture, used-places-of-a-volcano-report-lie-in-a-prefecture}
 use Rattle.place_list.proofs.Claims.{place-0-is-outside, place-100000-is-unlisted}
-use Rattle.place_list.proofs.Found.{Entry}
+use Rattle.place_list.proofs.Entries.{Entry}
 use Rattle.inserter.proofs.Meant as Meant
 use Rattle.inserter.proofs.Said as Said
 use Rattle.inserter.proofs.ValuesSaid as ValuesSaid

@@ -13,7 +13,7 @@ use Rattle.place_list.specs.declared.Standing.{Standing}
 use Rattle.place_list.specs.declared.Standing.the-variants.{Listed, Unlisted, Outside}
 use Rattle.place_list.specs.Standing.{standingOf}
 use Rattle.place_list.proofs.Claims.{a-place-is-listed-exactly-where-it-is-an-entry, a-place-is-outside-exactly-where-it-names-no-prefecture, a-place-is-unlisted-exactly-where-it-is-no-entry-and-names-a-prefecture}
-use Rattle.place_list.proofs.Found.{Entry}
+use Rattle.place_list.proofs.Entries.{Entry}
 use Rattle.record_bytes.specs.Unpacked.{recordFrom}
 use Rattle.record_bytes.proofs.Accepted.{record-shaped}
 use Rattle.inserter.specs.Meanings.{activityAnswer, activityWord, arrivalAnswer, arrivalWord, depthAnswer, depthWord, heightAnswer, heightWord, magnitudeAnswer, magnitudeWord, standingAnswer, standingWord, prefectureAnswer, prefectureWord, slotsAnswer, validityAnswer, validityWord}

@@ -10,7 +10,7 @@ use Rattle.place_list.specs.Search.{rowOf, rowFor, foundIn, looked}
 use Rattle.place_list.specs.Standing.{among, listed, inPrefecture, standingOf}
 use Rattle.place_list.specs.declared.Standing.the-variants.{Listed, Unlisted, Outside}
 use Rattle.place_list.proofs.Found as Found
-use Rattle.place_list.proofs.Found.{Entry}
+use Rattle.place_list.proofs.Entries.{Entry}
 use Rattle.place_list.proofs.Rules as Rules
 use Rattle.place_list.proofs.Tests.{added, endings}
 use Rattle.place_list.proofs.Standings.{below, beyond, entry-is-listed, given, is-outside, listed-within, meant, others-listed, within-digits}

@@ -1,4 +1,5 @@
 pub mod Claims
+pub mod Entries
 pub mod Found
 pub mod Halves
 pub mod Rules

@@ -9,7 +9,7 @@ use Rattle.place_list.specs.Codes.{codes}
 use Rattle.place_list.specs.Standing.{listed, inPrefecture, standingOf}
 use Rattle.place_list.specs.declared.Standing.{Standing}
 use Rattle.place_list.specs.declared.Standing.the-variants.{Listed, Unlisted, Outside}
-use Rattle.place_list.proofs.Found.{Entry, entry-listed, listed-entry}
+use Rattle.place_list.proofs.Entries.{Entry, entry-listed, listed-entry}
 use Rattle.place_list.proofs.Rules.{in-prefecture}
 use Rattle.place_list.proofs.Tests.{left, right}
 
@@ -70,19 +70,10 @@ is-outside place p = by (listed place) refl
 pub entry-is-listed : (place : ℕ) → Entry place → listed place ≡ true
 entry-is-listed place k = ap listed (sym (k .here)) ∙ entry-listed (k .index) (k .within)
 
-pub no-entry : (place : ℕ) → (Entry place → ⊥) → listed place ≡ false
-no-entry place n = by (listed place) refl
-  where
-    by : (b : Bool) → listed place ≡ b → b ≡ false
-    by true e = absurd (n (listed-entry place e))
-    by false e = refl
-
-pub no-prefecture : (place : ℕ) → (Digits place → ⊥) → inPrefecture place ≡ false
-no-prefecture place n = by (inPrefecture place) refl
-  where
-    by : (b : Bool) → inPrefecture place ≡ b → b ≡ false
-    by true e = absurd (n (within-digits place e))
-    by false e = refl
+-- a test that passes only where something is so fails where it is not
+fails : {P : Type 0} (test : Bool) → (test ≡ true → P) → (P → ⊥) → test ≡ false
+fails true law n = absurd (n (law refl))
+fails false law n = refl
 
 abbrev pub Meant : ℕ → Standing → Type 0
 Meant place Listed = Entry place
@@ -99,8 +90,8 @@ meant place s e = subst (Meant place) e (by (listed place) refl (inPrefecture pl
 
 pub given : (place : ℕ) (s : Standing) → Meant place s → standingOf place ≡ s
 given place Listed k = is-listed place (entry-is-listed place k)
-given place Unlisted n = is-unlisted place (no-entry place (n .0)) (digits-within place (n .1))
-given place Outside n = is-outside place (no-prefecture place n)
+given place Unlisted n = is-unlisted place (fails (listed place) (listed-entry place) (n .0)) (digits-within place (n .1))
+given place Outside n = is-outside place (fails (inPrefecture place) (within-digits place) n)
 
 -- ---- the codes for other places
 
