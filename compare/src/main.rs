@@ -90,6 +90,7 @@ const COMPARISONS: &[(&str, Comparison)] = &[
     ("places, document 004", places::document_004),
     ("places, frames with places of all kinds", places::frames),
     ("places, frames with every code and its neighbours", places::codes_in_frames),
+    ("places, several faults at once", places::several_faults),
     ("lines of all kinds", lines::any_lines),
     ("lines, every byte at every place", lines::characters),
     ("lines of other lengths", lines::line_lengths),

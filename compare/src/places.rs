@@ -8,7 +8,9 @@ use crate::{door, Count};
 use reference::answer::Answer;
 use reference::bits::Frame;
 use reference::fields::slot_layout;
-use reference::generate::{any_place, frame_with_places, place_field, WITH_PLACES};
+use reference::generate::{
+    any_place, frame_with_places, place_field, raw_frame, RawValue, WITH_PLACES,
+};
 use reference::place::{standing, Standing, CODES};
 use reference::random::Random;
 use reference::record::{Category, Refusal};
@@ -99,6 +101,31 @@ pub fn codes_in_frames(count: &mut Count) {
                 let is_read = (LOWEST..=HIGHEST).contains(&place);
                 let expected = if is_read { Answer::FINE } else { refusal.into() };
                 agree_on_frame(count, &frame, &places, expected);
+            }
+        }
+    }
+}
+
+/// Frames with two places out of range, of which the first is told, and with one
+/// behind an empty slot, where the gap is told before the place.
+pub fn several_faults(count: &mut Count) {
+    const WRONG: [u64; 6] = [1, 99_999, 100_000, 109_999, 4_800_000, (1 << PLACE_BITS) - 1];
+    let mut random = Random::new(136);
+    for category in WITH_PLACES {
+        let slots = slot_layout(category);
+        for slot in 0..slots.count - 1 {
+            for (first, second) in WRONG.iter().flat_map(|&a| WRONG.map(|b| (a, b))) {
+                let mut places = any_places(&mut random, category, slot + 2);
+                (places[slot], places[slot + 1]) = (first, second);
+                let frame = frame_with_places(&mut random, category, &places);
+                let refusal = Refusal::out_of_range(place_field(category, slot).first, first);
+                agree_on_frame(count, &frame, &places, refusal.into());
+                if slot > 0 {
+                    let empty =
+                        RawValue { first: slots.slot_first(slot), width: slots.width, value: 0 };
+                    let refusal = Refusal::slot_after_empty(slots.slot_first(slot + 1));
+                    agree_on_frame(count, &raw_frame(&frame, &[empty]), &places, refusal.into());
+                }
             }
         }
     }

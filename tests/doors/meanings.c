@@ -130,7 +130,7 @@ void check_prefectures(void)
 /*
  * The first and the last code of table 4.1.2-33, one of its first and one of its
  * last part, the two islands whose codes do not end in 00, and what document 004
- * names. The numbers beside a code are not listed.
+ * names; and numbers beside these that are not listed.
  */
 void check_standings(void)
 {

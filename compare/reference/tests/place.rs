@@ -22,11 +22,24 @@ fn each_is(expected: Standing, places: &[u64]) {
 }
 
 /// Part 1 has three columns of 25 codes, parts 2 to 15 have three of 40, and the
-/// columns of part 16 have 13, 13 and 11.
+/// columns of part 16 have 13, 13 and 11. The first code of each part stands behind as
+/// many as the parts before it have.
 #[test]
 fn as_many_codes_as_are_printed() {
-    assert_eq!(CODES.len(), 3 * 25 + 14 * 3 * 40 + 13 + 13 + 11);
-    assert_eq!(CODES.len(), 1_792);
+    const FIRST: [u32; 16] = [
+        110_000, 142_700, 230_400, 536_800, 822_400, 1_123_800, 1_321_100, 1_721_000, 2_045_200,
+        2_322_600, 2_721_300, 3_020_800, 3_520_600, 4_020_500, 4_342_300, 4_721_000,
+    ];
+    let mut before = 0;
+    for (part, code) in FIRST.into_iter().enumerate() {
+        assert_eq!(CODES[before], code);
+        before += match part {
+            0 => 3 * 25,
+            15 => 13 + 13 + 11,
+            _ => 3 * 40,
+        };
+    }
+    assert_eq!(before, CODES.len());
 }
 
 /// So no code is there twice.

@@ -15,7 +15,7 @@ use reference::bits::Frame;
 use reference::line::{frame_of_line, read_line, write_line};
 use reference::meaning::slots_used;
 use reference::parity::by_bits;
-use reference::place::{standing, CODES};
+use reference::place::{standing, Standing, CODES};
 use reference::read::read;
 use reference::record::Record;
 use reference::store::{Store, StoreBytes, STORE_BYTES};
@@ -151,7 +151,7 @@ impl Inputs {
             "activity" => self.over(&[31], |&day| unknown(door::activity(day, 23, 59))),
             "validity" => self.over(&[4], |&code| unknown(door::validity(code))),
             "prefecture" => self.over(&[4_600_000], |&place| unknown(door::prefecture(place))),
-            "standing" => self.over(&places(), |&place| u64::from(door::standing(place) > 2)),
+            "standing" => self.over(&places(), |&place| unknown(door::standing(place))),
             _ => return None,
         })
     }
@@ -201,16 +201,20 @@ impl Inputs {
             "count" => self.over(&[self.full], |s| black_box(s.report()).0.is_err().into()),
             "text" => self.over(&[self.full], |s| s.text(&mut text).is_err().into()),
             "standing" => {
-                self.over(&places(), |&place| u64::from(black_box(standing(place)) as u8 > 2))
+                self.over(&places(), |&place| u64::from(standing(place) == Standing::Outside))
             }
             _ => return None,
         })
     }
 }
 
-/// Each place of the list and the number behind it, so that half of them are listed.
+/// Each place of the list and the number behind it, which is hardly ever listed too;
+/// behind the last one lies no place.
 fn places() -> Vec<u64> {
-    CODES.iter().map(|&code| u64::from(code)).flat_map(|code| [code, code + 1]).collect()
+    let mut places: Vec<u64> =
+        CODES.iter().map(|&code| u64::from(code)).flat_map(|code| [code, code + 1]).collect();
+    places.pop();
+    places
 }
 
 fn number(answer: Answer) -> u64 {

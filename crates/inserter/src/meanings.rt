@@ -1,6 +1,6 @@
 // What a number of a record says. No table has a first row for a number that it does not know: such a
 // number is told as 0, which is neither a depth, a magnitude, a prefecture, a place, an arrival, a height, a time nor what is
-// valid of one.
+// valid of one. A place that the list does not have may still be one, and is told as 2.
 ghost use mathlib.Core.Path.{_≡_};
 ghost use Rattle.inserter.specs.Meanings.{depthAnswer, magnitudeAnswer, prefectureAnswer, standingAnswer, arrivalAnswer, heightAnswer, activityAnswer, validityAnswer, slotsAnswer};
 use ash_fall::meaning::Prefecture;

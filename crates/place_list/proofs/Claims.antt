@@ -2,7 +2,7 @@
 use mathlib.Core.Path.{_≡_, refl}
 use mathlib.Core.Bool.{true}
 use mathlib.Core.Logic.{_↔_}
-use Prim.Native.Nat.{ℕ, zero, _+_, _*_, _/_, _≤_, _<_}
+use Prim.Native.Nat.{ℕ, _+_, _*_, _/_, _≤_, _<_}
 use native.Mathlib.Omega.{arith}
 use lib.ListN.{length}
 use Rattle.place_list.specs.Codes.{codes, codeAt}
@@ -94,7 +94,7 @@ place-0-is-no-entry k = a-listed-place-is-never-outside 0 k place-0-is-outside
 
 -- ---- the search
 
--- at most eleven codes are looked at ..
+-- eleven codes are looked at, one by each step, and none where a place is outside ..
 pub eleven-codes-are-looked-at : (place : ℕ) → length (looked place) ≡ 11
 eleven-codes-are-looked-at place = refl
 

@@ -54,7 +54,7 @@ codeSteps = 16 ∷ 8 ∷ 4 ∷ 2 ∷ 1 ∷ []
 unfoldable pub foundIn : List ℕ → ℕ → ℕ
 foundIn row place = search (entryOf row) place codeSteps 0
 
--- which codes of the table are looked at, each by how many stand before it
+-- which codes of the table are looked at where there is such a row, each by how many stand before it
 abbrev pub looked : ℕ → List ℕ
 looked place =
     map (λ row. 32 * row + 31) (looks (entryOf lasts) place rowSteps 0)

@@ -23,7 +23,7 @@ fn past(codes: &[u32], place: u32, from: usize, step: usize) -> usize
 }
 
 // The first row whose last code is not below the place; 56 where there is none.
-fn row_of(place: u32) -> u8
+fn row_for(place: u32) -> u8
     ensures { λ r. ⌜ r ≡ rowFor place ⌝ }
     ensures within { λ r. ⌜ r ≤ 56 ⌝ }
 {
@@ -54,7 +54,8 @@ fn stands_in(codes: &[u32], place: u32) -> bool
 pub(crate) fn is_listed(place: u32) -> bool
     ensures { λ r. ⌜ r ≡ listed place ⌝ }
 {
-    let number = row_of(place);
+    let number = row_for(place);
+    // above all codes
     if number == 56 {
         return false;
     }

@@ -11,7 +11,7 @@ use Rattle.place_list.proofs.search.is_listed.Statement.{statement}
 use Rattle.place_list.proofs.search.is_listed.Tie as tie
 
 returns : tie.Need-returns
-returns c = behind-all (c .before .before .args .place) (sym (c .before .row-of .ensures .0) ∙ c .if1 .taken)
+returns c = behind-all (c .before .before .args .place) (sym (c .before .row-for .ensures .0) ∙ c .if1 .taken)
 
 returns-2 : tie.Need-returns-2
 returns-2 c =
@@ -19,9 +19,9 @@ returns-2 c =
     let inside = row .before in
     let number = inside .before in
     let place = number .before .args .place in
-    let h : rowFor place < 56 = omega (arith, number .row-of .ensures .0, number .row-of .ensures .1, inside .if1 .left) in
+    let h : rowFor place < 56 = omega (arith, number .row-for .ensures .0, number .row-for .ensures .1, inside .if1 .left) in
     c .stands-in .ensures
-    ∙ ap (λ (l : List ℕ). eqb (entryOf l (foundIn l place)) place) (row .row .ensures ∙ ap rowOf (number .row-of .ensures .0))
+    ∙ ap (λ (l : List ℕ). eqb (entryOf l (foundIn l place)) place) (row .row .ensures ∙ ap rowOf (number .row-for .ensures .0))
     ∙ found place h
 
 pub is-listed-spec : {M : Type 1} → statement M

@@ -1,4 +1,4 @@
--- `place_list::search::row_of` meets its contract: six steps, each from where the one before it ended.
+-- `place_list::search::row_for` meets its contract: six steps, each from where the one before it ended.
 use mathlib.Core.Path.{_∙_, ap}
 use Prim.Native.Nat.{ℕ}
 use mathlib.Core.List.{List, [], _∷_}
@@ -6,8 +6,8 @@ use native.Mathlib.Omega.{arith}
 use borrow.Author.Needs.{needs}
 use Rattle.place_list.specs.Codes.{codes}
 use Rattle.place_list.specs.Search.{lasts, entryOf, search as searched, rowFor}
-use Rattle.place_list.proofs.search.row_of.Statement.{statement}
-use Rattle.place_list.proofs.search.row_of.Tie as tie
+use Rattle.place_list.proofs.search.row_for.Statement.{statement}
+use Rattle.place_list.proofs.search.row_for.Tie as tie
 
 returns : tie.Need-returns
 unfolding rowFor lasts codes
@@ -27,7 +27,7 @@ returns c =
       omega arith,
     )
 
-pub row-of-spec : {M : Type 1} → statement M
-row-of-spec =
+pub row-for-spec : {M : Type 1} → statement M
+row-for-spec =
     tie.close
     (tie.spec (λ c. search needs) (λ c κs. search needs) (λ c. search needs) (λ c κs. search needs) (λ c. search needs) (λ c κs. search needs) (λ c. search needs) (λ c κs. search needs) (λ c. search needs) (λ c κs. search needs) (λ c. search needs) (λ c κs. search needs) (λ c. search needs) returns)
