@@ -35,9 +35,11 @@ use Rattle.report.specs.Conforms.{Conforms}
 use Rattle.report.specs.Meaning.{usedOf}
 use Rattle.report.specs.Records.{recordOf}
 use Rattle.report.proofs.Claims.{used-places-lie-in-a-prefecture, used-places-of-a-volcano-report-lie-in-a-prefecture}
-use Rattle.place_list.proofs.Claims.{place-0-is-outside, place-100000-is-unlisted}
+use Rattle.place_list.proofs.Claims.{place-0-is-outside, place-100000-is-unlisted, place-110001-is-unlisted}
+use Rattle.report.specs.Runs.Writing.{writeOf}
 use Rattle.place_list.proofs.Entries.{Entry}
 use Rattle.inserter.proofs.Meant as Meant
+use Rattle.inserter.proofs.Unlisted.{read-all-the-same, unlistedReport}
 use Rattle.inserter.proofs.Said as Said
 use Rattle.inserter.proofs.ValuesSaid as ValuesSaid
 use Rattle.inserter.proofs.Kept as Kept
@@ -263,7 +265,12 @@ a-place-is-told-as-0-exactly-where-no-prefecture-is = Meant.outside-nowhere
 pub place-100000-is-told-as-unlisted-in-prefecture-1 : (standingAnswer 100000 ≡ 2) × (prefectureAnswer 100000 ≡ 1)
 place-100000-is-told-as-unlisted-in-prefecture-1 = (ap standingWord place-100000-is-unlisted, Meant.in-prefecture 100000 (lit≤ tt) (lit≤ tt))
 
--- "The standard allows unlisted codes, so reading refuses no more than it did": whatever place a report that is read names is 1 or 2 ..
+-- "The standard allows unlisted codes, so reading refuses no more than it did": a report with such a place is written, and read ..
+pub a-report-with-an-unlisted-place-is-read : (standingAnswer (getD (unlistedReport .slots) 0 noSlot .place) ≡ 2)
+    × ((buffer : List ℕ) → length buffer ≡ 32 → readOf (writeOf unlistedReport buffer) ≡ record { answer = Fine; «record» = unlistedReport })
+a-report-with-an-unlisted-place-is-read = (ap standingWord place-110001-is-unlisted, read-all-the-same)
+
+-- .. whatever place a volcano or an ash fall report that is read names is 1 or 2 ..
 pub a-used-place-is-never-told-as-0 : (s : List ℕ) → Conforms s → (fieldOf s 17 4 ≡ 8) ⊎ (fieldOf s 17 4 ≡ 9) → (i : ℕ) → i < usedOf (recordOf s) → standingAnswer (getD (recordOf s .slots) i noSlot .place) ≡ 0 → ⊥
 a-used-place-is-never-told-as-0 s c category i u =
     ⊎-elim

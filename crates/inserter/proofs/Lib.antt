@@ -10,4 +10,5 @@ pub mod Kept
 pub mod Counting
 pub mod Meant
 pub mod Said
+pub mod Unlisted
 pub mod ValuesSaid

@@ -82,6 +82,10 @@ pub place-100000-is-unlisted : standingOf 100000 ≡ Unlisted
 unfolding standingOf listed inPrefecture codes
 place-100000-is-unlisted = refl
 
+pub place-110001-is-unlisted : standingOf 110001 ≡ Unlisted
+unfolding standingOf listed inPrefecture codes
+place-110001-is-unlisted = refl
+
 pub place-4800000-is-outside : standingOf 4800000 ≡ Outside
 place-4800000-is-outside = is-outside 4800000 (beyond 4800000 (omega arith))
 
@@ -99,5 +103,5 @@ pub eleven-codes-are-looked-at : (place : ℕ) → length (looked place) ≡ 11
 eleven-codes-are-looked-at place = refl
 
 -- .. and the one that the place is compared with at last is one of them
-pub the-code-compared-at-last-was-looked-at : (place : ℕ) → rowFor place < 56 → among (32 * rowFor place + foundIn (rowOf (rowFor place)) place) (looked place) ≡ true
-the-code-compared-at-last-was-looked-at = Found.seen-at-last
+pub the-code-compared-at-last-was-looked-at : (place : ℕ) → place ≤ 4799999 → among (32 * rowFor place + foundIn (rowOf (rowFor place)) place) (looked place) ≡ true
+the-code-compared-at-last-was-looked-at place h = Found.seen-at-last place (Found.reaches-a-row place h)

@@ -14,21 +14,21 @@ use Rattle.place_list.proofs.Rules.{there-are-1792, inside}
 
 -- ---- a list has a number exactly where one of its entries is that
 
-pub record At (place : ℕ) (l : List ℕ) : Type 0 where
-  pub index : ℕ
-  pub within : index < length l
-  pub here : getD l index 0 ≡ place
+record At (place : ℕ) (l : List ℕ) : Type 0 where
+  index : ℕ
+  within : index < length l
+  here : getD l index 0 ≡ place
 
 or-right : (a b : Bool) → b ≡ true → a || b ≡ true
 or-right true b t = refl
 or-right false b t = t
 
-pub among-at : (l : List ℕ) (k place : ℕ) → k < length l → getD l k 0 ≡ place → among place l ≡ true
+among-at : (l : List ℕ) (k place : ℕ) → k < length l → getD l k 0 ≡ place → among place l ≡ true
 among-at [] k place h e = absurd (omega (arith, h))
 among-at (x ∷ xs) zero place h e = ap (λ (b : Bool). b || among place xs) (eq-eqb x place e)
 among-at (x ∷ xs) (suc k) place h e = or-right (eqb x place) (among place xs) (among-at xs k place (omega (arith, h)) e)
 
-pub at-among : (l : List ℕ) (place : ℕ) → among place l ≡ true → At place l
+at-among : (l : List ℕ) (place : ℕ) → among place l ≡ true → At place l
 at-among [] place e = absurd (false≢true e)
 at-among (x ∷ xs) place e = by (eqb x place) refl e (at-among xs place)
   where

@@ -12,7 +12,7 @@ use Rattle.place_list.specs.Search.{rowOf, lasts, entryOf, looks, rowSte
 use Rattle.place_list.specs.Standing.{among, listed}
 use Rattle.place_list.proofs.Entries.{Entry, among-behind, among-front, among-map, each-among, entry-listed, listed-entry}
 use Rattle.place_list.proofs.Halves.{First, by-halves}
-use Rattle.place_list.proofs.Rules.{not-falling, in-row, last-in-row}
+use Rattle.place_list.proofs.Rules.{not-falling, in-row, last-in-row, the-last-code}
 
 -- the code at p is the first of all that is not below the place
 record FirstOfAll (place p : ℕ) : Type 0 where
@@ -57,17 +57,25 @@ code-steps place h =
     let row = rowOf (rowFor place) in
     by-halves (entryOf row) 31 place codeSteps _ (row-rises (rowFor place) h) refl (each-among (looks (entryOf row) place codeSteps 0))
 
--- behind all rows, the table does not have the place
+-- behind all rows, the place is above every code ..
+above-all : (place : ℕ) → rowFor place ≡ 56 → codeAt 1791 < place
+above-all place e = omega (arith, row-steps place .before 55 (omega (arith, e)), last-in-row 55 (omega arith))
+
+pub reaches-a-row : (place : ℕ) → place ≤ 4799999 → rowFor place < 56
+reaches-a-row place h = by (eqb (rowFor place) 56) refl
+  where
+    by : (b : Bool) → eqb (rowFor place) 56 ≡ b → rowFor place < 56
+    by true e = absurd (omega (arith, h, above-all place (eqb-true (rowFor place) 56 e), the-last-code))
+    by false e = omega (arith, row-steps place .inside, eqb-false (rowFor place) 56 e)
+
+-- .. and the table does not have it
 pub behind-all : (place : ℕ) → rowFor place ≡ 56 → false ≡ listed place
 behind-all place e = by (listed place) refl
   where
-    last-below : entryOf lasts 55 < place
-    last-below = row-steps place .before 55 (omega (arith, e))
-
     by : (b : Bool) → listed place ≡ b → false ≡ b
     by true q =
         let k = listed-entry place q in
-        absurd (omega (arith, last-below, last-in-row 55 (omega arith), not-falling (k .index) 1791 (omega (arith, k .within)) (omega arith), k .here))
+        absurd (omega (arith, above-all place e, not-falling (k .index) 1791 (omega (arith, k .within)) (omega arith), k .here))
     by false q = refl
 
 -- the first code that is not below the place, in the first row whose last is not, is the first of all

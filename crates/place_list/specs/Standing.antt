@@ -7,6 +7,7 @@ use Rattle.place_list.specs.Codes.{codes}
 use Rattle.place_list.specs.declared.Standing.{Standing}
 use Rattle.place_list.specs.declared.Standing.the-variants.{Listed, Unlisted, Outside}
 
+-- one of the numbers is the place
 abbrev pub among : ℕ → List ℕ → Bool
 among place [] = false
 among place (code ∷ others) = eqb code place || among place others
