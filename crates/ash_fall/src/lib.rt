@@ -1,4 +1,6 @@
 // Category 9, ash fall: what stands from bit 43 to bit 213. Its places are slots.
+#![tactic(auto)]
+
 ghost use Rattle.std.specs.Prelude.{◌≡◌, []};
 ghost use Rattle.bits.specs.Frame.{frame_in};
 ghost use Rattle.rows.specs.Runs.Questions.{◌then◌};
@@ -42,7 +44,7 @@ pub fn table() -> Table
     }
 }
 
-#[derive(Drop)]
+#[derive(Clone, Copy)]
 pub struct Eruption {
     pub time: Time,
     pub warning: u8,

@@ -2,7 +2,7 @@
 ghost use Rattle.std.specs.Prelude.{◌≡◌};
 ghost use Rattle.ash_fall.specs.Meaning.{prefecture_of};
 
-#[derive(Drop)]
+#[derive(Clone, Copy)]
 pub enum Prefecture {
     // 1 to 47.
     Number(u8),

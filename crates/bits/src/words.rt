@@ -7,7 +7,7 @@ ghost use Rattle.bits.specs.Words.{carried, pushed, pushed_until, value_of, word
 
 use lent::{byte_of, put_bytes};
 
-#[derive(Drop)]
+#[derive(Clone, Copy)]
 pub struct Words {
     pub first: u64,
     pub second: u64,

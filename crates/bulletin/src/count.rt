@@ -7,7 +7,7 @@ use crate::store::Store;
 use rows::refusal::{Refusal, Verdict};
 
 // Lowest is 0 where every page is held. A refused report gives zeros.
-#[derive(Drop)]
+#[derive(Clone, Copy)]
 pub struct Count {
     pub answer: Verdict,
     pub held: u8,

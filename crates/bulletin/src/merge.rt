@@ -8,7 +8,7 @@ use pages::page::{Kept, Page};
 use rows::refusal::{Refusal, Verdict};
 
 // A store after a merge: where that is refused, the first store as it was.
-#[derive(Drop)]
+#[derive(Clone, Copy)]
 pub struct Merging {
     pub answer: Verdict,
     pub store: Store,

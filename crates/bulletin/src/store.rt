@@ -8,14 +8,14 @@ use pages::name::Name;
 use pages::page::Page;
 use rows::refusal::Verdict;
 
-#[derive(Drop)]
+#[derive(Clone, Copy)]
 pub struct Store {
     pub name: Name,
     pub pages: [Page; Store::PAGES],
 }
 
 // A store that was asked for: where that is refused, a store of zeros.
-#[derive(Drop)]
+#[derive(Clone, Copy)]
 pub struct Opening {
     pub answer: Verdict,
     pub store: Store,

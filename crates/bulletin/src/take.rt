@@ -12,7 +12,7 @@ use report::write::write_answer;
 use rows::refusal::{Refusal, Verdict};
 
 // What a taking answers.
-#[derive(Drop)]
+#[derive(Clone, Copy)]
 pub enum Taken {
     New,
     Same,
@@ -21,14 +21,14 @@ pub enum Taken {
 }
 
 // A store after a taking: where that is refused, the store as it was.
-#[derive(Drop)]
+#[derive(Clone, Copy)]
 pub struct Taking {
     pub answer: Taken,
     pub store: Store,
 }
 
 // Which page of the bulletin a record brings.
-#[derive(Drop)]
+#[derive(Clone, Copy)]
 enum Admission {
     Number(u8),
     Refused(Refusal),

@@ -9,7 +9,7 @@ use pages::page::Page;
 use rows::refusal::{Refusal, Verdict};
 
 // The answer, and how many bytes were written.
-#[derive(Drop)]
+#[derive(Clone, Copy)]
 pub struct Telling {
     pub answer: Verdict,
     pub length: usize,

@@ -1,4 +1,6 @@
 // Category 11, flood: what stands from bit 43 to bit 213. Its areas are slots, and beside them it has nothing but spares.
+#![tactic(auto)]
+
 ghost use Rattle.std.specs.Prelude.{◌≡◌};
 ghost use Rattle.bits.specs.Frame.{frame_in};
 ghost use Rattle.rows.specs.Runs.Questions.{◌then◌};

@@ -10,7 +10,7 @@ use rows::fields::one_byte;
 use rows::refusal::Verdict;
 
 // Side 0 is north or east, 1 is south or west.
-#[derive(Drop)]
+#[derive(Clone, Copy)]
 pub struct Angle {
     pub side: u8,
     pub degrees: u8,

@@ -1,4 +1,6 @@
 // Category 2, hypocenter: what stands from bit 43 to bit 213.
+#![tactic(auto)]
+
 ghost use Rattle.std.specs.Prelude.{◌≡◌, []};
 ghost use Rattle.bits.specs.Frame.{frame_in};
 ghost use Rattle.rows.specs.Runs.Questions.{◌then◌};
@@ -43,7 +45,7 @@ pub fn table() -> Table
 }
 
 // What its depth and its magnitude say is told by `Depth::of` and `Magnitude::of`.
-#[derive(Drop)]
+#[derive(Clone, Copy)]
 pub struct Quake {
     pub notification1: u16,
     pub notification2: u16,

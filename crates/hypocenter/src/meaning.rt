@@ -3,7 +3,7 @@
 ghost use Rattle.std.specs.Prelude.{◌≡◌};
 ghost use Rattle.hypocenter.specs.Hypocenter.{depth_of, magnitude_of};
 
-#[derive(Drop)]
+#[derive(Clone, Copy)]
 pub enum Depth {
     // Kilometres, 0 to 500.
     Kilometres(u16),
@@ -27,7 +27,7 @@ impl Depth {
     }
 }
 
-#[derive(Drop)]
+#[derive(Clone, Copy)]
 pub enum Magnitude {
     // In tenths, 1 to 101; 101 says more than 10.0.
     InRange(u8),

@@ -4,6 +4,7 @@ use mathlib.Core.Path.{◌≡◌}
 use mathlib.Core.List.{List}
 use Rattle.inserter.specs.Answers.{CallResult, call_result}
 use Rattle.inserter.proofs as inserter
+use Rattle.inserter.specs.contracts as promised
 use Rattle.settled.specs.Settled.{Settled}
 use Rattle.settled.proofs.Law.{answer, read_off, first, second, third}
 
@@ -11,86 +12,86 @@ use Rattle.settled.proofs.Law.{answer, read_off, first, second, third}
 parts : {U : Type 0} (at : List ℕ → U) {x y : ℕ} {b c : List ℕ} {z : CallResult} → call_result x b ≡ z → call_result y c ≡ z → ◌≡◌ {A = ℕ × U} (x, at b) (y, at c)
 parts at = read_off (λ l. (l.answer, at l.buffer))
 
-pub lz_parity_is_settled : Settled inserter.frames.lz_parity.ended inserter.frames.lz_parity.Reads.Post
+pub lz_parity_is_settled : Settled promised.frames.lz_parity.ended inserter.frames.lz_parity.Reads.Post
 lz_parity_is_settled κs a x y = answer
 
-pub lz_read_is_settled : Settled inserter.frames.lz_read.ended inserter.frames.lz_read.Reads.Post
+pub lz_read_is_settled : Settled promised.frames.lz_read.ended inserter.frames.lz_read.Reads.Post
 lz_read_is_settled κs a x y = parts second
 
-pub lz_write_is_settled : Settled inserter.frames.lz_write.ended inserter.frames.lz_write.Reads.Post
+pub lz_write_is_settled : Settled promised.frames.lz_write.ended inserter.frames.lz_write.Reads.Post
 lz_write_is_settled κs a x y = parts second
 
-pub lz_read_line_is_settled : Settled inserter.lines.lz_read_line.ended inserter.lines.lz_read_line.Reads.Post
+pub lz_read_line_is_settled : Settled promised.lines.lz_read_line.ended inserter.lines.lz_read_line.Reads.Post
 lz_read_line_is_settled κs a x y = parts second
 
-pub lz_write_line_is_settled : Settled inserter.lines.lz_write_line.ended inserter.lines.lz_write_line.Reads.Post
+pub lz_write_line_is_settled : Settled promised.lines.lz_write_line.ended inserter.lines.lz_write_line.Reads.Post
 lz_write_line_is_settled κs a x y = parts second
 
-pub lz_open_is_settled : Settled inserter.stores.lz_open.ended inserter.stores.lz_open.Reads.Post
+pub lz_open_is_settled : Settled promised.stores.lz_open.ended inserter.stores.lz_open.Reads.Post
 lz_open_is_settled κs a x y = parts second
 
-pub lz_take_is_settled : Settled inserter.stores.lz_take.ended inserter.stores.lz_take.Reads.Post
+pub lz_take_is_settled : Settled promised.stores.lz_take.ended inserter.stores.lz_take.Reads.Post
 lz_take_is_settled κs a x y = parts first
 
-pub lz_merge_is_settled : Settled inserter.stores.lz_merge.ended inserter.stores.lz_merge.Reads.Post
+pub lz_merge_is_settled : Settled promised.stores.lz_merge.ended inserter.stores.lz_merge.Reads.Post
 lz_merge_is_settled κs a x y = parts first
 
-pub lz_count_is_settled : Settled inserter.stores.lz_count.ended inserter.stores.lz_count.Reads.Post
+pub lz_count_is_settled : Settled promised.stores.lz_count.ended inserter.stores.lz_count.Reads.Post
 lz_count_is_settled κs a x y = answer
 
-pub lz_text_is_settled : Settled inserter.stores.lz_text.ended inserter.stores.lz_text.Reads.Post
+pub lz_text_is_settled : Settled promised.stores.lz_text.ended inserter.stores.lz_text.Reads.Post
 lz_text_is_settled κs a x y = parts second
 
-pub lz_depth_is_settled : Settled inserter.meanings.lz_depth.ended inserter.meanings.lz_depth.Reads.Post
+pub lz_depth_is_settled : Settled promised.meanings.lz_depth.ended inserter.meanings.lz_depth.Reads.Post
 lz_depth_is_settled κs a x y = answer
 
-pub lz_magnitude_is_settled : Settled inserter.meanings.lz_magnitude.ended inserter.meanings.lz_magnitude.Reads.Post
+pub lz_magnitude_is_settled : Settled promised.meanings.lz_magnitude.ended inserter.meanings.lz_magnitude.Reads.Post
 lz_magnitude_is_settled κs a x y = answer
 
-pub lz_prefecture_is_settled : Settled inserter.meanings.lz_prefecture.ended inserter.meanings.lz_prefecture.Reads.Post
+pub lz_prefecture_is_settled : Settled promised.meanings.lz_prefecture.ended inserter.meanings.lz_prefecture.Reads.Post
 lz_prefecture_is_settled κs a x y = answer
 
-pub lz_standing_is_settled : Settled inserter.meanings.lz_standing.ended inserter.meanings.lz_standing.Reads.Post
+pub lz_standing_is_settled : Settled promised.meanings.lz_standing.ended inserter.meanings.lz_standing.Reads.Post
 lz_standing_is_settled κs a x y = answer
 
-pub lz_slots_used_is_settled : Settled inserter.meanings.lz_slots_used.ended inserter.meanings.lz_slots_used.Reads.Post
+pub lz_slots_used_is_settled : Settled promised.meanings.lz_slots_used.ended inserter.meanings.lz_slots_used.Reads.Post
 lz_slots_used_is_settled κs a x y = answer
 
-pub lz_arrival_is_settled : Settled inserter.meanings.lz_arrival.ended inserter.meanings.lz_arrival.Reads.Post
+pub lz_arrival_is_settled : Settled promised.meanings.lz_arrival.ended inserter.meanings.lz_arrival.Reads.Post
 lz_arrival_is_settled κs a x y = answer
 
-pub lz_height_is_settled : Settled inserter.meanings.lz_height.ended inserter.meanings.lz_height.Reads.Post
+pub lz_height_is_settled : Settled promised.meanings.lz_height.ended inserter.meanings.lz_height.Reads.Post
 lz_height_is_settled κs a x y = answer
 
-pub lz_activity_is_settled : Settled inserter.meanings.lz_activity.ended inserter.meanings.lz_activity.Reads.Post
+pub lz_activity_is_settled : Settled promised.meanings.lz_activity.ended inserter.meanings.lz_activity.Reads.Post
 lz_activity_is_settled κs a x y = answer
 
-pub lz_validity_is_settled : Settled inserter.meanings.lz_validity.ended inserter.meanings.lz_validity.Reads.Post
+pub lz_validity_is_settled : Settled promised.meanings.lz_validity.ended inserter.meanings.lz_validity.Reads.Post
 lz_validity_is_settled κs a x y = answer
 
-pub lz_read_value_is_settled : Settled inserter.values.lz_read_value.ended inserter.values.lz_read_value.Reads.Post
+pub lz_read_value_is_settled : Settled promised.values.lz_read_value.ended inserter.values.lz_read_value.Reads.Post
 lz_read_value_is_settled κs a x y = answer
 
-pub lz_read_line_value_is_settled : Settled inserter.values.lz_read_line_value.ended inserter.values.lz_read_line_value.Reads.Post
+pub lz_read_line_value_is_settled : Settled promised.values.lz_read_line_value.ended inserter.values.lz_read_line_value.Reads.Post
 lz_read_line_value_is_settled κs a x y = answer
 
-pub lz_read_sentence_is_settled : Settled inserter.sentences.lz_read_sentence.ended inserter.sentences.lz_read_sentence.Reads.Post
+pub lz_read_sentence_is_settled : Settled promised.sentences.lz_read_sentence.ended inserter.sentences.lz_read_sentence.Reads.Post
 lz_read_sentence_is_settled κs a x y = parts second
 
-pub lz_write_sentence_is_settled : Settled inserter.sentences.lz_write_sentence.ended inserter.sentences.lz_write_sentence.Reads.Post
+pub lz_write_sentence_is_settled : Settled promised.sentences.lz_write_sentence.ended inserter.sentences.lz_write_sentence.Reads.Post
 lz_write_sentence_is_settled κs a x y = parts third
 
-pub lz_read_sentence_value_is_settled : Settled inserter.values.lz_read_sentence_value.ended inserter.values.lz_read_sentence_value.Reads.Post
+pub lz_read_sentence_value_is_settled : Settled promised.values.lz_read_sentence_value.ended inserter.values.lz_read_sentence_value.Reads.Post
 lz_read_sentence_value_is_settled κs a x y = answer
 
-pub lz_write_sentence_value_is_settled : Settled inserter.values.lz_write_sentence_value.ended inserter.values.lz_write_sentence_value.Reads.Post
+pub lz_write_sentence_value_is_settled : Settled promised.values.lz_write_sentence_value.ended inserter.values.lz_write_sentence_value.Reads.Post
 lz_write_sentence_value_is_settled κs a x y = answer
 
-pub lz_write_value_is_settled : Settled inserter.values.lz_write_value.ended inserter.values.lz_write_value.Reads.Post
+pub lz_write_value_is_settled : Settled promised.values.lz_write_value.ended inserter.values.lz_write_value.Reads.Post
 lz_write_value_is_settled κs a x y = answer
 
-pub lz_open_value_is_settled : Settled inserter.values.lz_open_value.ended inserter.values.lz_open_value.Reads.Post
+pub lz_open_value_is_settled : Settled promised.values.lz_open_value.ended inserter.values.lz_open_value.Reads.Post
 lz_open_value_is_settled κs a x y = answer
 
-pub lz_take_value_is_settled : Settled inserter.values.lz_take_value.ended inserter.values.lz_take_value.Reads.Post
+pub lz_take_value_is_settled : Settled promised.values.lz_take_value.ended inserter.values.lz_take_value.Reads.Post
 lz_take_value_is_settled κs a x y = answer

@@ -3,6 +3,8 @@
 // and what it leaves in a lent buffer, on every input. A refusal of document 01 is told by its number,
 // and then no lent buffer was touched; 255 says that a name, or a buffer for an answer, has a length
 // that no call takes.
+#![tactic(auto)]
+
 pub mod frames; // parity, reading, writing
 pub mod lines; // a frame as 63 digits
 pub mod meanings; // what a number of a record says

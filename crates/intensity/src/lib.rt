@@ -1,4 +1,6 @@
 // Category 3, seismic intensity: what stands from bit 43 to bit 213. The prefectures that shake are slots.
+#![tactic(auto)]
+
 ghost use Rattle.std.specs.Prelude.{◌≡◌, []};
 ghost use Rattle.bits.specs.Frame.{frame_in};
 ghost use Rattle.rows.specs.Runs.Questions.{◌then◌};
@@ -41,7 +43,7 @@ pub fn table() -> Table
     }
 }
 
-#[derive(Drop)]
+#[derive(Clone, Copy)]
 pub struct Shaking {
     pub time: Time,
 }

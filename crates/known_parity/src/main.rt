@@ -1,4 +1,6 @@
 // Prints the parity of frames whose parity is known from elsewhere, and whether it stands in them.
+#![tactic(auto)]
+
 use bits::words::Words;
 use libc::STDOUT_FILENO;
 

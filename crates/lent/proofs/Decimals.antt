@@ -34,6 +34,7 @@ decimal_one (suc n) h = simp (lt-ltb (suc n) 10 h)
 
 pub decimal_more : (n : ℕ) → 10 ≤ n → decimal n ≡ decimal (n / 10) ++ ((48 + n % 10) ∷ [])
 unfolding figures decimal
+decimal_more zero h = elim h [ ]
 decimal_more (suc n) h = simp (le-ltb (suc n) 10 h, same_figures n (suc n / 10) (suc n / 10) (omega (arith, smaller (suc n) h)) (omega arith))
 
 pub length-decimal_one : (n : ℕ) → n < 10 → length (decimal n) ≡ 1

@@ -4,6 +4,7 @@ use mathlib.Core.Path.{◌≡◌}
 use mathlib.Core.List.{List}
 use Rattle.lent.specs.Writing.{Wrote}
 use Rattle.lent.proofs as lent
+use Rattle.lent.specs.contracts as promised
 use Rattle.settled.specs.Settled.{Settled}
 use Rattle.settled.proofs.Law.{answer, both}
 
@@ -15,14 +16,14 @@ place_and_buffer in_place v w = both in_place (v.place, v.bytes) (w.place, w.byt
 abbrev of_three : List ℕ → List ℕ × (Unit {0} × (Unit {0} × Unit {0}))
 of_three b = (b, (tt, (tt, tt)))
 
-pub put_byte_is_settled : Settled lent.put_byte.ended lent.put_byte.Reads.Post
+pub put_byte_is_settled : Settled promised.put_byte.ended lent.put_byte.Reads.Post
 put_byte_is_settled κs a x y = place_and_buffer of_three
 
-pub put_bytes_is_settled : Settled lent.put_bytes.ended lent.put_bytes.Reads.Post
+pub put_bytes_is_settled : Settled promised.put_bytes.ended lent.put_bytes.Reads.Post
 put_bytes_is_settled κs a x y = place_and_buffer of_three
 
-pub put_decimal_is_settled : Settled lent.put_decimal.ended lent.put_decimal.Reads.Post
+pub put_decimal_is_settled : Settled promised.put_decimal.ended lent.put_decimal.Reads.Post
 put_decimal_is_settled κs a x y = place_and_buffer of_three
 
-pub byte_of_is_settled : Settled lent.number.byte_of.ended lent.number.byte_of.Reads.Post
+pub byte_of_is_settled : Settled promised.number.byte_of.ended lent.number.byte_of.Reads.Post
 byte_of_is_settled κs a x y = answer

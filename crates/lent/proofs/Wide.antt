@@ -12,6 +12,7 @@ length-wide (suc n) v = ap suc (length-wide n v)
 
 -- byte k of n has n - 1 - k bytes behind it
 pub byte_of_wide : (n v k : ℕ) → k < n → get_or (wide n v) k 0 ≡ v / 2 ^ (8 * (n - 1 - k)) % 256
+byte_of_wide zero v k h = elim h [ ]
 byte_of_wide (suc n) v zero h = ap (λ (e : ℕ). v / 2 ^ (8 * e) % 256) (omega arith)
 byte_of_wide (suc n) v (suc k) h = byte_of_wide n v k (omega arith) ∙ ap (λ (e : ℕ). v / 2 ^ (8 * e) % 256) (omega arith)
 

@@ -1,5 +1,7 @@
 // Bytes put into a lent buffer piece by piece: each function answers where the next piece goes. A byte
 // behind the buffer's end is left out, and the answer is then past that end.
+#![tactic(auto)]
+
 mod number; // a number's bytes, and its digits
 mod put; // what is put
 

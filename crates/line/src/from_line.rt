@@ -10,7 +10,7 @@ use report::record::Record;
 use rows::refusal::{Refusal, Verdict};
 
 // The frame of a line, or 17: then the frame is that of zeros.
-#[derive(Drop)]
+#[derive(Clone, Copy)]
 pub struct Framing {
     pub answer: Verdict,
     pub frame: [u8; 32],

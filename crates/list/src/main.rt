@@ -1,5 +1,7 @@
 // Lists the frames of standard input, one a line, on standard output. What is written is settled by the
 // crate `listing`; here bytes go in and out, in blocks.
+#![tactic(auto)]
+
 ghost use Rattle.std.specs.Prelude.{◌≡◌, length};
 
 use libc::{STDIN_FILENO, STDOUT_FILENO};
@@ -25,14 +27,14 @@ fn text() -> [u8; TEXT]
 }
 
 // What comes behind a chunk: another, the end of the input, or a fault, where the listing breaks off.
-#[derive(Drop)]
+#[derive(Clone, Copy)]
 enum Next {
     Chunk,
     End,
     Fault,
 }
 
-#[derive(Drop)]
+#[derive(Clone, Copy)]
 struct Turn {
     progress: Progress,
     next: Next,

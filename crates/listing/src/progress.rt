@@ -6,7 +6,7 @@ use crate::number::least;
 
 // How many lines have ended, and the first 64 bytes of the line that has not, with zeros behind them.
 // A frame's line has 63, so these settle what is said of a line of any length.
-#[derive(Drop)]
+#[derive(Clone, Copy)]
 pub struct Progress {
     pub lines: u32,
     pub length: usize,

@@ -14,21 +14,21 @@ use rows::refusal::{Refusal, Said, Verdict};
 pub const LONGEST: usize = 48;
 
 // A number, or nothing to say.
-#[derive(Drop)]
+#[derive(Clone, Copy)]
 pub enum Entry {
     Dash,
     Number(u8),
 }
 
 // The same of a number that was refused, which may need 64 bits.
-#[derive(Drop)]
+#[derive(Clone, Copy)]
 pub enum Value {
     Dash,
     Number(u64),
 }
 
 // What is said of a line.
-#[derive(Drop)]
+#[derive(Clone, Copy)]
 pub struct Row {
     pub answer: u8,
     pub place: Entry,

@@ -15,7 +15,7 @@ pub const LIMIT: u32 = 1000000;
 
 // What a chunk came to: where the listing is behind it, how long the text is that it gave, and how
 // many of its bytes were taken.
-#[derive(Drop)]
+#[derive(Clone, Copy)]
 pub struct Step {
     pub progress: Progress,
     pub written: usize,

@@ -1,5 +1,7 @@
 // Category 4, Nankai Trough: which page of which bulletin a frame brings, and the page's text. Gathering
 // the pages of a bulletin is for the crates above.
+#![tactic(auto)]
+
 ghost use Rattle.std.specs.Prelude.{◌≡◌, []};
 ghost use Rattle.bits.specs.Frame.{frame_in};
 ghost use Rattle.bits.specs.Words.{pushed_all};
@@ -39,7 +41,7 @@ pub fn table() -> Table
 }
 
 // The kind of information (Is), and which page of how many this is. The text stands beside it.
-#[derive(Drop)]
+#[derive(Clone, Copy)]
 pub struct PageNumbers {
     pub serial: u8,
     pub number: u8,

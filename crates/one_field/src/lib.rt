@@ -1,5 +1,7 @@
 // One field of a frame, for tests from C. In the delivered library every field is read where it is wanted, without
 // a call, so that there is none whose stack and whose bytes could be measured. This is not delivered.
+#![tactic(auto)]
+
 ghost use Rattle.std.specs.Prelude.{◌≡◌};
 ghost use Rattle.bits.specs.Frame.{field_in, frame_in};
 

@@ -9,7 +9,7 @@ use rows::common::Common;
 use rows::fields::Spares;
 use rows::refusal::Verdict;
 
-#[derive(Drop)]
+#[derive(Clone, Copy)]
 pub struct Name {
     pub common: Common,
     pub serial: u8,

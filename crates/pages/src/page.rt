@@ -4,14 +4,14 @@ ghost use Rattle.pages.specs.Pages.{absent_page, held_page, disputed_page, kept_
 ghost use Rattle.rows.specs.Values.{same_bytes};
 
 // Mark 0 is absent, 1 held, 2 disputed. Only a held page has bytes.
-#[derive(Drop)]
+#[derive(Clone, Copy)]
 pub struct Page {
     pub mark: u8,
     pub text: [u8; Page::BYTES],
 }
 
 // The first of two pages, the second, or a disputed one.
-#[derive(Drop)]
+#[derive(Clone, Copy)]
 pub enum Kept {
     Own,
     Other,

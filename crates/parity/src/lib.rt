@@ -1,5 +1,7 @@
 // The parity of a frame: CRC-24Q over bits 0 to 225, by groups of bits with a table. What a wrong
 // parity leads to is for the crates above.
+#![tactic(auto)]
+
 ghost use Rattle.std.specs.Prelude.{◌≡◌, ◌^◌, ◌<◌};
 ghost use Rattle.bits.specs.Frame.{frame_in};
 ghost use Rattle.parity.specs.Parity.{parity_of, parity_right};

@@ -1,5 +1,7 @@
 // The list of places: whether a code is one of table 4.1.2-33 of document 001. Reading does not ask: a report may name a place
 // that the table does not have.
+#![tactic(auto)]
+
 ghost use Rattle.std.specs.Prelude.{◌≡◌};
 ghost use Rattle.place_list.specs.Standing.{standing_of};
 
@@ -8,7 +10,7 @@ mod table; // the codes
 
 use crate::search::is_listed;
 
-#[derive(Drop)]
+#[derive(Clone, Copy)]
 pub enum Standing {
     // The table has the place.
     Listed,

@@ -76,7 +76,7 @@ fn read_cells(bytes: &[u8], at: usize, widths: &[u8], values: &mut [u64]) -> usi
 }
 
 // A body and its spares, and the place behind the bytes that they were read from.
-#[derive(Drop)]
+#[derive(Clone, Copy)]
 struct BodyAndEnd {
     both: BodyAndSpares,
     end: usize,

@@ -32,7 +32,7 @@ use volcano::Activity;
 
 // What the category of a record has beside slots and text. `NoCategory` is none: the record of
 // zeros has it.
-#[derive(Drop)]
+#[derive(Clone, Copy)]
 pub enum Body {
     NoCategory,
     Hypocenter(Quake),
@@ -46,21 +46,21 @@ pub enum Body {
 }
 
 // Which page of a bulletin a body brings, where its category has pages.
-#[derive(Drop)]
+#[derive(Clone, Copy)]
 pub enum Paged {
     NoPages,
     Numbers(PageNumbers),
 }
 
 // A body, and the spares that stand before and behind its fields.
-#[derive(Drop)]
+#[derive(Clone, Copy)]
 pub struct BodyAndSpares {
     pub body: Body,
     pub spares: Spares,
 }
 
 // What stands from bit 43 up to bit 213, and what is found by 7 and by all rules from bit 8 to bit 213.
-#[derive(Drop)]
+#[derive(Clone, Copy)]
 pub struct Content {
     pub found: Verdict,
     pub body: Body,

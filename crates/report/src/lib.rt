@@ -1,6 +1,8 @@
 // DC Report frames of message type 43 in categories 2 (hypocenter), 3 (seismic intensity), 4 (Nankai
 // Trough), 5 (tsunami), 8 (volcano), 9 (ash fall) and 11 (flood): from lent bytes to a record or the one refusal that fits.
 // Gathering the pages of a bulletin and listing files is for the crates above.
+#![tactic(auto)]
+
 pub mod body; // what each category has
 pub mod record; // what a frame says
 mod codes; // which preambles there are

@@ -15,7 +15,7 @@ use slots::slot::Slot;
 
 // The answer, the category's code, how many slots the category has, and how many of them are used; zeros where the frame
 // is refused.
-#[derive(Drop)]
+#[derive(Clone, Copy)]
 pub struct Looked {
     pub answer: Verdict,
     pub category: u8,

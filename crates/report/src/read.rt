@@ -13,7 +13,7 @@ use rows::common::Common;
 use rows::refusal::{Refusal, Verdict};
 
 // The record of a frame, or why there is none: then the record is that of zeros.
-#[derive(Drop)]
+#[derive(Clone, Copy)]
 pub struct Reading {
     pub answer: Verdict,
     pub record: Record,

@@ -12,7 +12,7 @@ use slots::slot::Slot;
 
 // A report. What its category does not use is zero. Of its spares nobody knows what they say, and they are
 // written as they were read.
-#[derive(Drop)]
+#[derive(Clone, Copy)]
 pub struct Record {
     pub preamble: u8,
     pub reserved: u8,

@@ -8,7 +8,7 @@ ghost use Rattle.rows.specs.Values.{common_of, no_common};
 use crate::refusal::Verdict;
 
 // Classification (Rc), the time of issue, and information type (It).
-#[derive(Drop)]
+#[derive(Clone, Copy)]
 pub struct Common {
     pub rc: u8,
     pub month: u8,

@@ -4,7 +4,7 @@ ghost use Rattle.rows.specs.Values.{no_spares};
 
 // The category's code, 0 for none; how many slots it has, and how many bits the day, hour, minute, strength and
 // place of one have; whether it has text, and a second spare.
-#[derive(Drop)]
+#[derive(Clone, Copy)]
 pub struct Table {
     pub code: u8,
     pub count: usize,
@@ -15,7 +15,7 @@ pub struct Table {
 
 // The fields in front of the slots and behind them, spares among them, one behind the other, each list with
 // its widths before it. Behind the last field there are no bits and no numbers.
-#[derive(Drop)]
+#[derive(Clone, Copy)]
 pub struct Fields {
     pub table: Table,
     pub ahead: [u8; 18],
@@ -26,7 +26,7 @@ pub struct Fields {
 
 // The bits of a frame that nobody knows yet: Spare1 in front of a category's fields and Spare2 behind them, 0
 // where a category has none. A later edition may put a field there, so they are kept as they are.
-#[derive(Drop)]
+#[derive(Clone, Copy)]
 pub struct Spares {
     pub first: u64,
     pub second: u64,

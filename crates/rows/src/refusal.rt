@@ -4,7 +4,7 @@ ghost use Rattle.std.specs.Prelude.{◌≡◌};
 ghost use Rattle.rows.specs.Refusals.{plain, at, says};
 ghost use Rattle.rows.specs.Runs.Questions.{◌then◌};
 
-#[derive(Drop)]
+#[derive(Clone, Copy)]
 pub enum Refusal {
     Length, // 1
     Padding, // 2
@@ -29,7 +29,7 @@ pub enum Refusal {
 
 // What is said of a refusal: its number, and its place, value, page and mark. What its row does not
 // name is zero.
-#[derive(Drop)]
+#[derive(Clone, Copy)]
 pub struct Said {
     pub number: u8,
     pub place: u8,
@@ -136,7 +136,7 @@ impl Refusal {
 }
 
 // What has been found so far: nothing to refuse, or the first thing.
-#[derive(Drop)]
+#[derive(Clone, Copy)]
 pub enum Verdict {
     Fine,
     Refused(Refusal),

@@ -9,7 +9,7 @@ use crate::fields::one_byte;
 use crate::refusal::Verdict;
 
 // When an earthquake or an eruption was.
-#[derive(Drop)]
+#[derive(Clone, Copy)]
 pub struct Time {
     pub day: u8,
     pub hour: u8,

@@ -1,5 +1,7 @@
 // The sample reports of document 004 in the categories that are read, of both deliveries, as lines.
 // What an independent program makes of the same values is this program's `stdout`.
+#![tactic(auto)]
+
 ghost use Rattle.std.specs.Prelude.{◌≤◌};
 
 use ash_fall::Eruption;

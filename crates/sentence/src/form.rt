@@ -11,7 +11,7 @@ use rows::refusal::{Refusal, Verdict};
 pub(crate) const HEAD: [u8; 7] = [b'$', b'Q', b'Z', b'Q', b'S', b'M', b','];
 
 // 18, 19 or 20 and no satellite, or the satellite.
-#[derive(Drop)]
+#[derive(Clone, Copy)]
 pub struct Around {
     pub answer: Verdict,
     pub satellite: u8,

@@ -11,14 +11,14 @@ use report::record::Record;
 use rows::refusal::{Refusal, Verdict};
 
 // A satellite and what its frame says. Where something is refused, the satellite is 0 and the record that of zeros.
-#[derive(Drop)]
+#[derive(Clone, Copy)]
 pub struct Received {
     pub satellite: u8,
     pub reading: Reading,
 }
 
 // The same as a listing needs it, without the record.
-#[derive(Drop)]
+#[derive(Clone, Copy)]
 pub struct Heard {
     pub satellite: u8,
     pub look: Looked,

@@ -5,7 +5,7 @@ ghost use Rattle.rows.specs.Runs.Verdict.{empty};
 
 use rows::refusal::{Refusal, Verdict};
 
-#[derive(Drop)]
+#[derive(Clone, Copy)]
 pub struct Run {
     pub verdict: Verdict,
     pub gap: bool,

@@ -6,7 +6,7 @@ ghost use Rattle.slots.specs.Slots.{no_slot, slot_parts, vacant};
 // A place that a report names: when, how strong, and where. A category need not have all of it: in an
 // intensity report `strength` is the intensity and `place` the prefecture, in a tsunami report they are height
 // and region, in a flood report level and region. What a category does not have is zero.
-#[derive(Drop)]
+#[derive(Clone, Copy)]
 pub struct Slot {
     pub day: u8,
     pub hour: u8,

@@ -1,5 +1,7 @@
 // A page store as 1205 bytes at fixed places and back, and a name as 8 bytes, for callers in other
 // languages: specs/Stores.antt has the table of the places. Soundness is for the crates below.
+#![tactic(auto)]
+
 mod from_bytes;
 pub mod sizes; // how many bytes there are, and where the pages start
 mod to_bytes;

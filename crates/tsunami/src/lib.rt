@@ -1,4 +1,6 @@
 // Category 5, tsunami: what stands from bit 43 to bit 213. Its areas are slots, and nothing stands behind them.
+#![tactic(auto)]
+
 ghost use Rattle.std.specs.Prelude.{◌≡◌, []};
 ghost use Rattle.bits.specs.Frame.{frame_in};
 ghost use Rattle.rows.specs.Runs.Questions.{◌then◌};
@@ -52,7 +54,7 @@ fn is_classification(v: u8) -> bool
 }
 
 // What is warned of, and what people are told to do.
-#[derive(Drop)]
+#[derive(Clone, Copy)]
 pub struct Warning {
     pub notification1: u16,
     pub notification2: u16,

@@ -10,7 +10,7 @@ pub(crate) fn has_arrived(hour: u8, minute: u8) -> bool
     hour == 31 && minute == 63
 }
 
-#[derive(Drop)]
+#[derive(Clone, Copy)]
 pub enum Arrival {
     // An hour from 0 to 23 and a minute from 0 to 59.
     At { hour: u8, minute: u8 },
@@ -39,7 +39,7 @@ impl Arrival {
     }
 }
 
-#[derive(Drop)]
+#[derive(Clone, Copy)]
 pub enum Height {
     // 1 to 13, and 15: the code says how high by the standard's own table.
     Code(u8),

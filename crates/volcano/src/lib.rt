@@ -1,4 +1,6 @@
 // Category 8, volcano: what stands from bit 43 to bit 213. Its places are slots.
+#![tactic(auto)]
+
 ghost use Rattle.std.specs.Prelude.{◌≡◌, []};
 ghost use Rattle.bits.specs.Frame.{frame_in};
 ghost use Rattle.rows.specs.Runs.Questions.{◌then◌};
@@ -44,7 +46,7 @@ pub fn table() -> Table
 }
 
 // What a volcano did, when, and how well that is known.
-#[derive(Drop)]
+#[derive(Clone, Copy)]
 pub struct Activity {
     pub ambiguity: u8,
     pub time: Time,

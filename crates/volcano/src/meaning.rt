@@ -13,7 +13,7 @@ pub(crate) fn is_unknown(day: u8, hour: u8, minute: u8) -> bool
     hour == 31 && minute == 63
 }
 
-#[derive(Drop)]
+#[derive(Clone, Copy)]
 pub enum ActivityTime {
     // A day from 1 to 31, an hour from 0 to 23 and a minute from 0 to 59.
     At { day: u8, hour: u8, minute: u8 },
@@ -50,7 +50,7 @@ impl ActivityTime {
 }
 
 // What of day, hour and minute is valid.
-#[derive(Drop)]
+#[derive(Clone, Copy)]
 pub enum Validity {
     DayHourMinute,
     DayHour,

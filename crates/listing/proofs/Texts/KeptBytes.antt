@@ -43,6 +43,7 @@ length_padded (suc k) (x ∷ l) = ap suc (length_padded k l)
 
 get_or_padded : (k : ℕ) (l : List ℕ) (i : ℕ) → i < k → get_or (sized_to k l) i 0 ≡ get_or l i 0
 unfolding sized_to
+get_or_padded zero l i h = elim h [ ]
 get_or_padded (suc k) [] zero h = refl
 get_or_padded (suc k) [] (suc i) h = get_or_padded k [] i (omega arith)
 get_or_padded (suc k) (x ∷ l) zero h = refl
@@ -56,6 +57,7 @@ padded_take (suc k) (x ∷ l) = ap (λ (r : List ℕ). x ∷ r) (padded_take k l
 
 take_padded : (k : ℕ) (l : List ℕ) → length l ≤ k → take (length l) (sized_to k l) ≡ l
 unfolding sized_to
+take_padded zero (x ∷ l) h = elim h [ ]
 take_padded zero [] h = refl
 take_padded (suc k) [] h = refl
 take_padded (suc k) (x ∷ l) h = ap (λ (r : List ℕ). x ∷ r) (take_padded k l (omega arith))
