@@ -9,8 +9,7 @@ use borrow.Author.Tests.{eqb-true, eqb-false}
 use Rattle.rows.proofs.Rules.Spans.{in_allowed, not_allowed}
 use Rattle.rows.specs.Kept.{In}
 use Rattle.rows.specs.Layout.{two_three_or_seven}
-use Rattle.rows.proofs.codes.is_two_three_or_seven.Statement.{statement}
-use Rattle.rows.proofs.codes.is_two_three_or_seven.Tie as tie
+use Rattle.rows.proofs.codes.is_two_three_or_seven.Goals as goal
 
 between : (v : ℕ) → 2 ≤ v → v ≤ 3 → In two_three_or_seven v
 between v low high = by (eqb v 2) refl
@@ -25,19 +24,16 @@ between v low high = by (eqb v 2) refl
 none : (v : ℕ) → (v ≡ 7 → ⊥) → ((2 ≤ v) × (v ≤ 3) → ⊥) → In two_three_or_seven v → ⊥
 none v n m h = ⊎_elim (λ k. m (k.0, omega arith)) (λ h. ⊎_elim (λ k. m (omega arith, k.1)) (λ h. ⊎_elim (λ k. n (omega arith)) (λ h. h) h) h) h
 
-returns : tie.Need-returns
-returns c = sym (not_allowed two_three_or_seven _ (none _ c.before.match.rest.1 (λ k. omega arith)))
+pub returns-in_default : goal.returns-in_default
+returns-in_default c = sym (not_allowed two_three_or_seven _ (none _ c.in_default.in_default-own.rest.1 (λ k. omega arith)))
 
-returns-2 : tie.Need-returns-2
-returns-2 c = sym (not_allowed two_three_or_seven _ (none _ c.before.before.match.rest.1 (λ k. omega arith)))
+pub returns-in_default-2 : goal.returns-in_default-2
+returns-in_default-2 c = sym (not_allowed two_three_or_seven _ (none _ c.in_default.in_default-own.rest.1 (λ k. omega arith)))
 
-returns-3 : tie.Need-returns-3
-returns-3 c =
-    let seven = c.match.keys1 in
+pub returns-in-2 : goal.returns-in-2
+returns-in-2 c =
+    let seven = c.in-2.is in
     sym (in_allowed two_three_or_seven _ (inr (inr (inl (omega arith, omega arith)))))
 
-returns-4 : tie.Need-returns-4
-returns-4 c = sym (in_allowed two_three_or_seven _ (between _ (omega arith) (omega arith)))
-
-pub is-two-three-or-seven-spec : {M : Type 1} → statement M
-is-two-three-or-seven-spec = tie.close (tie.spec returns returns-2 returns-3 returns-4)
+pub returns-in-2-2 : goal.returns-in-2-2
+returns-in-2-2 c = sym (in_allowed two_three_or_seven _ (between _ (omega arith) (omega arith)))
