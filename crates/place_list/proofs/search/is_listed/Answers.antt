@@ -10,12 +10,12 @@ use Rattle.place_list.proofs.Found.{found, behind-all}
 use Rattle.place_list.proofs.search.is_listed.Goals as goal
 
 pub returns-then-number-eq56 : goal.returns-then-number-eq56
-returns-then-number-eq56 c = behind-all c.args.place (sym c.row_for-number.ensures.0 ∙ c.if-number-eq56.true)
+returns-then-number-eq56 c = behind-all c.args.place (sym c.row_for-number.ensures.value ∙ c.if-number-eq56.true)
 
 pub returns : goal.returns
 returns c =
     let place = c.args.place in
-    let h : row_for place < 56 = omega (arith, c.row_for-number.ensures.0, c.row_for-number.ensures.1, c.if-number-eq56.false) in
+    let h : row_for place < 56 = omega (arith, c.row_for-number.ensures.value, c.row_for-number.ensures.within, c.if-number-eq56.false) in
     c.stands_in.ensures
-    ∙ ap (λ (l : List ℕ). eqb (entry_of l (found_in l place)) place) (c.row-codes.ensures ∙ ap row_of c.row_for-number.ensures.0)
+    ∙ ap (λ (l : List ℕ). eqb (entry_of l (found_in l place)) place) (c.row-codes.ensures ∙ ap row_of c.row_for-number.ensures.value)
     ∙ found place h

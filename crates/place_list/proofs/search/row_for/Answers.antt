@@ -11,9 +11,9 @@ use Rattle.place_list.proofs.search.row_for.Goals as goal
 pub returns : goal.returns
 unfolding codes lasts row_for
 returns c =
-    let then : List ℕ → ℕ → ℕ = searched (entry_of lasts) c.args.place in record { value = c.past.ensures.0
-          ∙ ap (then (1 ∷ [])) c.past-of_2.ensures.0
-          ∙ ap (then (2 ∷ 1 ∷ [])) c.past-of_4.ensures.0
-          ∙ ap (then (4 ∷ 2 ∷ 1 ∷ [])) c.past-of_8.ensures.0
-          ∙ ap (then (7 ∷ 4 ∷ 2 ∷ 1 ∷ [])) c.past-of_15.ensures.0
-          ∙ ap (then (14 ∷ 7 ∷ 4 ∷ 2 ∷ 1 ∷ [])) c.past-of_29.ensures.0; within = omega arith }
+    let then : List ℕ → ℕ → ℕ = searched (entry_of lasts) c.args.place in record { value = c.past.ensures.value
+          ∙ ap (then (1 ∷ [])) c.past-of_2.ensures.value
+          ∙ ap (then (2 ∷ 1 ∷ [])) c.past-of_4.ensures.value
+          ∙ ap (then (4 ∷ 2 ∷ 1 ∷ [])) c.past-of_8.ensures.value
+          ∙ ap (then (7 ∷ 4 ∷ 2 ∷ 1 ∷ [])) c.past-of_15.ensures.value
+          ∙ ap (then (14 ∷ 7 ∷ 4 ∷ 2 ∷ 1 ∷ [])) c.past-of_29.ensures.value; within = omega arith }
