@@ -1,0 +1,36 @@
+-- `report::encode::encode` meets its contract: what it puts first is the frame without its parity, what it puts then the frame.
+use borrow.Author.Rules.{rules, length_unmapped}
+use mathlib.Core.List.{List}
+use mathlib.Core.Path.{◌≡◌, ◌∙◌, ap, sym}
+use Prim.Native.Nat.{ℕ, ◌*◌, ◌^◌}
+use lib.ListN.{length}
+use Rattle.bits.specs.Frame.{bytes_of}
+use Rattle.bits.specs.declared.words.Words.{Words}
+use Rattle.bits.specs.Words.{pushed, value_of}
+use Rattle.bits.proofs.Arrays.{unmapped}
+use Rattle.bits.proofs.Inside.{frame_lent, right_size}
+use Rattle.parity.specs.Parity.{parity_of}
+use Rattle.report.specs.Runs.Writing.{front, frame}
+use Rattle.report.proofs.Shaped.{Shaped}
+use Rattle.report.proofs.Writing.Encoding.{front-number, whole_number}
+use Rattle.report.proofs.encode.encode.Goals as goal
+
+pub front-words-requires : goal.front-words-requires
+front-words-requires c = (c.requires.0, c.requires.1.0)
+
+pub returns : goal.returns
+returns c = (let all_put : c.put-2.new.1.0 ≡ bytes_of (frame BAD (c.before.before.before.before.before.before.before.before.before.before.before.before.before.args.r)) = let s = BAD (f.before.before) in
+    let lent : List ℕ = c.?put.new.1.0 in
+    let size : length lent ≡ 32 = ap length ((let first-put : c.?put.new.1.0 ≡ bytes_of (front BAD (c.before.before.before.before.before.args.r) * 2 ^ 30) = let s = BAD (f.before.before) in
+    c.?put.ensures
+    ∙ right_size s.args.lent.now _ _ s.requires.1.1
+    ∙ ap bytes_of (ap (λ (x : Words). value_of x) c.?push.ensures ∙ front-number s.args.r (shaped s) s.requires.0 c.?front.result c.?front.ensures) in first-put)) in
+    c.put-2.ensures
+    ∙ right_size lent _ _ size
+    ∙ ap bytes_of
+    (ap (λ (x : Words). value_of x) (c.push-3.ensures ∙ ap (λ (x : Words). pushed x 6 0) c.push-2.ensures)
+    ∙ whole_number s.args.r (shaped s) s.requires.0 c.?front.result c.?front.ensures lent c.parity-parity.result ((let first-put : c.?put.new.1.0 ≡ bytes_of (front BAD (c.before.before.before.before.before.args.r) * 2 ^ 30) = let s = BAD (f.before.before) in
+    c.?put.ensures
+    ∙ right_size s.args.lent.now _ _ s.requires.1.1
+    ∙ ap bytes_of (ap (λ (x : Words). value_of x) c.?push.ensures ∙ front-number s.args.r (shaped s) s.requires.0 c.?front.result c.?front.ensures) in first-put))
+    (c.parity-parity.ensures ∙ ap parity_of (frame_lent lent size))) in all_put)
