@@ -18,7 +18,7 @@ returns c =
     let v = c.requires.1 in
     all-pushed r ((let shaped : Shaped c.args.r = let r = c.args.r in
     let good = c.well_formed.0 in
-    record { slots = unmapped _ r.slots 16 good.1.1.1.1.1.1.0.1.0.1; text = length_unmapped _ r.text 18 good.1.1.1.1.1.1.1.0.1.0.1 } in shaped)) c.requires.0 c.push-preamble.result c.push_common-head.result c.push_body-inner.result c.push-2.result
+    record { slots = good.1.1.1.1.1.1.0.1.0.1; text = good.1.1.1.1.1.1.1.0.1.0.1 } in shaped)) c.requires.0 c.push-preamble.result c.push_common-head.result c.push_body-inner.result c.push-2.result
     (c.push-preamble.ensures ∙ ap (λ (x : Words). pushed x 8 r.preamble) c.of.ensures)
     (c.push_common-head.ensures ∙ ap (λ (x : Fields). pushed_all c.push-preamble.result (widths (common no_category)) (head_values r.common x.table.code)) v)
     (c.push_body-inner.ensures ∙ ap (λ (x : Fields). body_pushed c.push_common-head.result x r.slots r.text) v)
