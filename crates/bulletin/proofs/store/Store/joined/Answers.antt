@@ -4,7 +4,7 @@ use Prim.Native.Nat.{◌≤◌, ◌+◌}
 use native.Mathlib.Omega.{arith}
 use lib.ListN.{length, get_or}
 use Rattle.pages.specs.declared.page.Kept.TheVariants.{Own, Other, Neither}
-use Rattle.pages.specs.Pages.{no_page}
+use Rattle.pages.specs.Pages.{no_page, join, disputed_page}
 use Rattle.pages.proofs.KeptPages.{joined_by}
 use Rattle.bulletin.specs.declared.store.Store.{Store}
 use Rattle.bulletin.proofs.Merging.Joins.{Joining, joining_none, joining_more, joining_stays, joining_all}
@@ -27,7 +27,8 @@ loop-i-preserved c =
     elim c.match-kept.branch [
       | in-Own w ↦ subst⁻¹ Turn w.self-is (omega arith, c.loop-i.invariant.1, joining_stays l m i r (omega arith) c.loop-i.invariant.2 (joined_by mine theirs Own c.kept.ensures w.in-Own.is))
       | in-Other w ↦ subst⁻¹ Turn w.self-is (omega arith, c.loop-i.invariant.1, joining_more l m i r theirs (omega arith) c.loop-i.invariant.2 (joined_by mine theirs Other c.kept.ensures w.in-Other.is))
-      | in-Neither w ↦ subst⁻¹ Turn w.self-is (omega arith, c.loop-i.invariant.1, joining_more l m i r w.disputed-page.result (omega arith) c.loop-i.invariant.2 (w.disputed-page.ensures ∙ joined_by mine theirs Neither c.kept.ensures w.in-Neither.is))
+      | in-Neither w ↦ let differ : disputed_page ≡ join mine theirs = joined_by mine theirs Neither c.kept.ensures w.in-Neither.is in
+          subst⁻¹ Turn w.self-is (omega arith, c.loop-i.invariant.1, joining_more l m i r _ (omega arith) c.loop-i.invariant.2 (cc))
     ]
 
 pub returns : goal.returns
