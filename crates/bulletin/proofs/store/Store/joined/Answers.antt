@@ -1,4 +1,5 @@
 -- `bulletin::store::Store::joined` meets its contract: the pages passed are joined.
+use borrow.Author.Rules.{rules}
 use mathlib.Core.Path.{◌≡◌, refl, sym, subst⁻¹, ◌∙◌}
 use Prim.Native.Nat.{◌≤◌, ◌+◌}
 use native.Mathlib.Omega.{arith}
@@ -22,7 +23,7 @@ loop-i-preserved c =
     let r = c.loop-i.self.pages in
     let mine = get_or r i no_page in
     let theirs = get_or m i no_page in
-    let long : length l ≡ 63 = c.well_formed.0.1.1.1.0.1.0.1 in
+    let long : length l ≡ 63 = search rules in
     let Turn : Store → Type 0 = λ x. (i + 1 ≤ 63) × (x.name ≡ c.args.self.name) × Joining l m (i + 1) x.pages in
     elim c.match-kept.branch [
       | in-Own w ↦ subst⁻¹ Turn w.self-is (omega arith, c.loop-i.invariant.1, joining_stays l m i r (omega arith) c.loop-i.invariant.2 (joined_by mine theirs Own c.kept.ensures w.in-Own.is))
@@ -35,7 +36,7 @@ pub returns : goal.returns
 returns c =
     let l = c.args.self.pages in
     let m = c.args.other.pages in
-    let long : length l ≡ 63 = c.well_formed.0.1.1.1.0.1.0.1 in
-    let other : length m ≡ 63 = c.well_formed.1.0.1.1.1.0.1.0.1 in
+    let long : length l ≡ 63 = search rules in
+    let other : length m ≡ 63 = search rules in
     let e = joining_all l m c.loop-i.i c.loop-i.self.pages (long ∙ sym other) (omega arith) c.loop-i.invariant.2 in
     λ j. record { name = c.loop-i.invariant.1 j; pages = e j }

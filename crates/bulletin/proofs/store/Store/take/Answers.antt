@@ -1,4 +1,5 @@
 -- `bulletin::store::Store::take` meets its contract.
+use borrow.Author.Rules.{rules}
 use mathlib.Core.Path.{◌≡◌, ap, sym, ◌∙◌}
 use native.Mathlib.Omega.{arith}
 use Rattle.bulletin.specs.Takings.{admission, admission_verdict}
@@ -25,7 +26,8 @@ pub put-requires : goal.put-requires
 put-requires c =
     let m = admits _ _ _ (sym ((let admitted : c.admit-admitted.result ≡ admission c.args.self c.args.came = let sound = sound_store_lem _ _ c.soundness-sound.ensures c.in-Fine.is in
     c.admit-admitted.ensures ∙ writable_record _ _ _ sound c.write_answer-written.ensures.value c.in-Fine-written.is in admitted)) ∙ c.in-Number.is) in
-    let d = numbered _ _ ((let shaped : Shaped c.args.came = record { slots = c.well_formed.1.0.1.1.1.1.1.1.0.1.0.1; text = c.well_formed.1.0.1.1.1.1.1.1.1.0.1.0.1 } in shaped)) m.valid m.is in
+    let shaped : Shaped c.args.came = record { slots = search rules; text = search rules } in
+    let d = numbered _ _ shaped m.valid m.is in
     let l = d.low in
     let h = d.high in
     let t = d.most in

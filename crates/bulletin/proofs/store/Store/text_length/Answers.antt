@@ -1,4 +1,5 @@
 -- `bulletin::store::Store::text_length` meets its contract: the pages in front decide.
+use borrow.Author.Rules.{rules}
 use mathlib.Core.Path.{◌≡◌, refl, sym, ap, ◌∙◌}
 use Prim.Native.Nat.{ℕ, ◌-◌, ◌*◌}
 use native.Mathlib.Omega.{arith}
@@ -18,15 +19,17 @@ overflow_add-result c =
 
 pub returns-then-n-gt0 : goal.returns-then-n-gt0
 returns-then-n-gt0 c =
-    let long = (let long_of : length c.args.self.pages ≡ 63 = c.well_formed.0.1.1.1.0.1.0.1 in long_of) in
+    let long : length c.args.self.pages ≡ 63 = search rules in
+    let eighteen : Eighteen c.args.self.pages = λ i h. search (rules, shapes) in
     let i = c.loop-i.i in
-    sym (last_page c.args.self.pages (i - 1) i c.page_length-n.result ((let eighteen-of : Eighteen c.args.self.pages = λ i h. (shapes c.args.self.pages _ c.well_formed.0.1.1.1.0.1.1 i h).long in eighteen-of)) (omega arith) (omega arith) c.page_length-n.ensures c.if-n-gt0.true) ∙ c.loop-i.invariant.1
+    sym (last_page c.args.self.pages (i - 1) i c.page_length-n.result eighteen (omega arith) (omega arith) c.page_length-n.ensures c.if-n-gt0.true) ∙ c.loop-i.invariant.1
 
 pub loop-i-preserved : goal.loop-i-preserved
 loop-i-preserved c =
-    let long = (let long_of : length c.args.self.pages ≡ 63 = c.well_formed.0.1.1.1.0.1.0.1 in long_of) in
+    let long : length c.args.self.pages ≡ 63 = search rules in
+    let eighteen : Eighteen c.args.self.pages = λ i h. search (rules, shapes) in
     let i = c.loop-i.i in
-    (omega arith, sym (page_of_zeros c.args.self.pages (i - 1) i c.page_length-n.result ((let eighteen-of : Eighteen c.args.self.pages = λ i h. (shapes c.args.self.pages _ c.well_formed.0.1.1.1.0.1.1 i h).long in eighteen-of)) (omega arith) (omega arith) c.page_length-n.ensures (omega arith)) ∙ c.loop-i.invariant.1)
+    (omega arith, sym (page_of_zeros c.args.self.pages (i - 1) i c.page_length-n.result eighteen (omega arith) (omega arith) c.page_length-n.ensures (omega arith)) ∙ c.loop-i.invariant.1)
 
 pub returns : goal.returns
 unfolding text_length
