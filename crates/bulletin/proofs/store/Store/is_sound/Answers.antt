@@ -1,6 +1,6 @@
 -- `bulletin::store::Store::is_sound` meets its contract: the pages that are left decide.
 use borrow.Author.Rules.{rules}
-use mathlib.Core.Path.{◌≡◌, refl, ◌∙◌, sym}
+use mathlib.Core.Path.{◌≡◌, ◌∙◌, sym}
 use native.Mathlib.Omega.{arith}
 use lib.ListN.{length}
 use Rattle.bulletin.specs.Stores.{sound_store}
@@ -10,9 +10,6 @@ use Rattle.bulletin.proofs.store.Store.is_sound.Goals as goal
 pub returns-then-not-is_in_range : goal.returns-then-not-is_in_range
 unfolding sound_store
 returns-then-not-is_in_range c = simp (sym c.is_in_range.ensures ∙ c.if-not-is_in_range.true)
-
-pub loop-i-init : goal.loop-i-init
-loop-i-init c = (omega arith, refl)
 
 pub returns-then-not-is_sound_at : goal.returns-then-not-is_sound_at
 unfolding sound_store

@@ -1,6 +1,6 @@
 -- `bulletin::store::Store::joined` meets its contract: the pages passed are joined.
 use borrow.Author.Rules.{rules}
-use mathlib.Core.Path.{◌≡◌, refl, sym, subst⁻¹, ◌∙◌}
+use mathlib.Core.Path.{◌≡◌, sym, subst⁻¹, ◌∙◌}
 use Prim.Native.Nat.{◌≤◌, ◌+◌}
 use native.Mathlib.Omega.{arith}
 use lib.ListN.{length, get_or}
@@ -8,12 +8,9 @@ use Rattle.pages.specs.declared.page.Kept.TheVariants.{Own, Other, Neither}
 use Rattle.pages.specs.Pages.{no_page, join, disputed_page}
 use Rattle.pages.proofs.KeptPages.{joined_by}
 use Rattle.bulletin.specs.declared.store.Store.{Store}
-use Rattle.bulletin.proofs.Merging.Joins.{Joining, joining_none, joining_more, joining_stays, joining_all}
+use Rattle.bulletin.proofs.Merging.Joins.{Joining, joining_more, joining_stays, joining_all}
 use Rattle.bulletin.proofs.store.Store.joined.Goals as goal
 use Rattle.bulletin.proofs.store.Store.joined.Goals.{in-Own, in-Other, in-Neither}
-
-pub loop-i-init : goal.loop-i-init
-loop-i-init c = (omega arith, refl, joining_none _ _)
 
 pub loop-i-preserved : goal.loop-i-preserved
 loop-i-preserved c =

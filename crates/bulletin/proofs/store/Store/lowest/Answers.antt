@@ -1,13 +1,10 @@
 -- `bulletin::store::Store::lowest` meets its contract: the pages that are left decide.
 use borrow.Author.Rules.{rules}
-use mathlib.Core.Path.{◌≡◌, refl, ◌∙◌, sym}
+use mathlib.Core.Path.{◌≡◌, ◌∙◌, sym}
 use native.Mathlib.Omega.{arith}
 use lib.ListN.{length, drop}
 use Rattle.bulletin.proofs.Stores.Counted.{lowest-past, lowest_more, lowest_here, lowest_end}
 use Rattle.bulletin.proofs.store.Store.lowest.Goals as goal
-
-pub loop-i-init : goal.loop-i-init
-loop-i-init c = (omega arith, refl)
 
 pub returns-then-i-total : goal.returns-then-i-total
 returns-then-i-total c =

@@ -1,6 +1,6 @@
 -- `bulletin::store::Store::text_length` meets its contract: the pages in front decide.
 use borrow.Author.Rules.{rules}
-use mathlib.Core.Path.{◌≡◌, refl, sym, ap, ◌∙◌}
+use mathlib.Core.Path.{◌≡◌, sym, ap, ◌∙◌}
 use Prim.Native.Nat.{ℕ, ◌-◌, ◌*◌}
 use native.Mathlib.Omega.{arith}
 use lib.ListN.{length, get_or}
@@ -9,9 +9,6 @@ use Rattle.pages.proofs.Shapes.{shapes}
 use Rattle.bulletin.specs.Text.{bytes_in_order, text_length}
 use Rattle.bulletin.proofs.Telling.PageBytes.{Eighteen, last_page, page_of_zeros, text_length-most}
 use Rattle.bulletin.proofs.store.Store.text_length.Goals as goal
-
-pub loop-i-init : goal.loop-i-init
-loop-i-init c = (omega arith, refl)
 
 pub overflow_add-result : goal.overflow_add-result
 overflow_add-result c =
