@@ -1,6 +1,6 @@
-//! Links the proved functions: the static libraries that `rt staticlib inserter`
-//! and `rt staticlib one_field` write below the repository's root. The second has
-//! one function, which is there for the comparison alone.
+//! Links the proved functions: the static libraries that `./static-library
+//! inserter one_field` writes below the repository's root. The second has one
+//! function, which is there for the comparison alone.
 
 const LIBRARIES: [&str; 2] = ["inserter", "one_field"];
 

@@ -16,7 +16,7 @@ pub fn measure() {
 }
 
 fn measure_size(frames: usize) {
-    let proved = Path::new(env!("CARGO_MANIFEST_DIR")).join("../target/bin/list");
+    let proved = Path::new(env!("CARGO_MANIFEST_DIR")).join("../crates/list/out/list");
     let (plain, tuned) = (built("list_frames"), built("list_frames_tuned"));
     let input = file_of_frames(frames);
     let ways = vec![

@@ -11,8 +11,7 @@ pub(crate) const FRAME_SIZE: usize = 32;
 
 // The parity of a lent frame in the low three bytes. A slice that is no frame has 1, the number of
 // that refusal, in the high byte, and zeros below it.
-#[unsafe(no_mangle)]
-pub extern "C" fn lz_parity(frame: &[u8]) -> u32
+pub fn lz_parity(frame: &[u8]) -> u32
     ensures { result ≡ parity_answer frame.now }
 {
     if frame.len() != FRAME_SIZE {
@@ -42,8 +41,7 @@ pub(crate) fn hand_over(reading: Reading, record_bytes: &mut [u8]) -> u32
 // Reads a lent frame. The answer has the number of the refusal in the high byte, its place in the
 // next, and is 0 where nothing is refused: then the buffer holds the record's bytes, and otherwise
 // it stays as it was. A buffer that is not 251 bytes long is 255, whatever the frame is.
-#[unsafe(no_mangle)]
-pub extern "C" fn lz_read(frame: &[u8], record_bytes: &mut [u8]) -> u32
+pub fn lz_read(frame: &[u8], record_bytes: &mut [u8]) -> u32
     ensures { call_result result record_bytes.new ≡ read_into frame.now record_bytes.old }
 {
     hand_over(report::read::read(frame), record_bytes)
@@ -52,8 +50,7 @@ pub extern "C" fn lz_read(frame: &[u8], record_bytes: &mut [u8]) -> u32
 // Writes the record of lent bytes to a lent frame. The answer is as that of `lz_read`; where
 // something is refused the frame stays as it was. Bytes that are not 251 are a record of zeros, which
 // is never written: 1 or 3.
-#[unsafe(no_mangle)]
-pub extern "C" fn lz_write(record_bytes: &[u8], frame: &mut [u8]) -> u32
+pub fn lz_write(record_bytes: &[u8], frame: &mut [u8]) -> u32
     ensures { call_result result frame.new ≡ write_into record_bytes.now frame.old }
 {
     let record = record_bytes::unpack(record_bytes);

@@ -1,4 +1,4 @@
-// The doors to C and Rust: functions on numbers and byte slices, over the proved crates. None has a
+// The doors to C and Rust, which `inserter_c` exports: functions on numbers and byte slices, over the proved crates. None has a
 // `requires`, since nobody proves what a caller in another language passes; each settles its answer
 // and what it leaves in a lent buffer, on every input. A refusal of document 01 is told by its number,
 // and then no lent buffer was touched; 255 says that a name, or a buffer for an answer, has a length

@@ -6,8 +6,7 @@ use crate::frames::hand_over;
 use crate::words::verdict_word;
 
 // Reads a line of 63 digits of either case, without a line feed: 17, then as `lz_read`.
-#[unsafe(no_mangle)]
-pub extern "C" fn lz_read_line(line: &[u8], record_bytes: &mut [u8]) -> u32
+pub fn lz_read_line(line: &[u8], record_bytes: &mut [u8]) -> u32
     ensures { call_result result record_bytes.new ≡ read_line_into line.now record_bytes.old }
 {
     hand_over(line::read_line(line), record_bytes)
@@ -15,8 +14,7 @@ pub extern "C" fn lz_read_line(line: &[u8], record_bytes: &mut [u8]) -> u32
 
 // Writes a lent frame as 63 capital digits to the front of a lent buffer: 1, 2, 16. Bytes behind the
 // digits stay as they were, and where something is refused all of them do.
-#[unsafe(no_mangle)]
-pub extern "C" fn lz_write_line(frame: &[u8], line: &mut [u8]) -> u32
+pub fn lz_write_line(frame: &[u8], line: &mut [u8]) -> u32
     ensures { call_result result line.new ≡ write_line_into frame.now line.old }
 {
     verdict_word(line::write_line(frame, line))

@@ -12,8 +12,7 @@ use volcano::meaning::{ActivityTime, Validity};
 
 // 1 in the second byte and the kilometres, 0 to 500, in the last two; 2 there for deeper than 500 km, 3 for
 // unknown; 0 for a code that no depth has.
-#[unsafe(no_mangle)]
-pub extern "C" fn lz_depth(code: u16) -> u32
+pub fn lz_depth(code: u16) -> u32
     ensures { result ≡ depth_answer code }
 {
     match Depth::of(code) {
@@ -26,8 +25,7 @@ pub extern "C" fn lz_depth(code: u16) -> u32
 
 // 1 in the second byte and the tenths, 1 to 101, in the last; 2 there for above 8.0 without a moment magnitude,
 // 3 for unknown; 0 for a code that no magnitude has.
-#[unsafe(no_mangle)]
-pub extern "C" fn lz_magnitude(code: u8) -> u32
+pub fn lz_magnitude(code: u8) -> u32
     ensures { result ≡ magnitude_answer code }
 {
     match Magnitude::of(code) {
@@ -39,8 +37,7 @@ pub extern "C" fn lz_magnitude(code: u8) -> u32
 }
 
 // The prefecture, 1 to 47, that a place of a volcano or an ash fall report lies in; 0 where it lies in none.
-#[unsafe(no_mangle)]
-pub extern "C" fn lz_prefecture(place: u64) -> u32
+pub fn lz_prefecture(place: u64) -> u32
     ensures { result ≡ prefecture_answer place }
 {
     match Prefecture::of(place) {
@@ -51,8 +48,7 @@ pub extern "C" fn lz_prefecture(place: u64) -> u32
 
 // 1 where the list of places has this one, 2 where it does not but its first digits are those of a prefecture; 0 where it lies
 // in none.
-#[unsafe(no_mangle)]
-pub extern "C" fn lz_standing(place: u64) -> u32
+pub fn lz_standing(place: u64) -> u32
     ensures { result ≡ standing_answer place }
 {
     match Standing::of(place) {
@@ -64,8 +60,7 @@ pub extern "C" fn lz_standing(place: u64) -> u32
 
 // 1 in the second byte, the hour, 0 to 23, in the third and the minute, 0 to 59, in the last; 4 there where the
 // wave has arrived; 0 for one code without the other, and for numbers that are neither.
-#[unsafe(no_mangle)]
-pub extern "C" fn lz_arrival(hour: u8, minute: u8) -> u32
+pub fn lz_arrival(hour: u8, minute: u8) -> u32
     ensures { result ≡ arrival_answer hour minute }
 {
     match Arrival::of(hour, minute) {
@@ -76,8 +71,7 @@ pub extern "C" fn lz_arrival(hour: u8, minute: u8) -> u32
 }
 
 // 1 in the second byte and the code in the last; 3 there for unknown; 0 for a code that no height has.
-#[unsafe(no_mangle)]
-pub extern "C" fn lz_height(code: u8) -> u32
+pub fn lz_height(code: u8) -> u32
     ensures { result ≡ height_answer code }
 {
     match Height::of(code) {
@@ -89,8 +83,7 @@ pub extern "C" fn lz_height(code: u8) -> u32
 
 // 1 in the second byte and behind it, in as many bits as they have in a frame, day, hour and minute; 3 there where nobody
 // knows when the activity was; 0 for one or two of the codes without the others, and for numbers that are neither.
-#[unsafe(no_mangle)]
-pub extern "C" fn lz_activity(day: u8, hour: u8, minute: u8) -> u32
+pub fn lz_activity(day: u8, hour: u8, minute: u8) -> u32
     ensures { result ≡ activity_answer day hour minute }
 {
     match ActivityTime::of(day, hour, minute) {
@@ -104,8 +97,7 @@ pub extern "C" fn lz_activity(day: u8, hour: u8, minute: u8) -> u32
 
 // 1 in the second byte, and in the last how many of day, hour and minute are valid, from the front; 0 for a code that no
 // ambiguity has.
-#[unsafe(no_mangle)]
-pub extern "C" fn lz_validity(ambiguity: u8) -> u32
+pub fn lz_validity(ambiguity: u8) -> u32
     ensures { result ≡ validity_answer ambiguity }
 {
     match Validity::of(ambiguity) {
@@ -118,8 +110,7 @@ pub extern "C" fn lz_validity(ambiguity: u8) -> u32
 }
 
 // How many slots of a record's 251 bytes are used, 0 to 16: those in front of the first empty one.
-#[unsafe(no_mangle)]
-pub extern "C" fn lz_slots_used(record_bytes: &[u8]) -> u32
+pub fn lz_slots_used(record_bytes: &[u8]) -> u32
     ensures { result ≡ slots_answer record_bytes.now }
 {
     record_bytes::unpack(record_bytes).slots_used() as u32

@@ -11,8 +11,7 @@ pub(crate) const SENTENCE_SIZE: usize = 78;
 
 // Reads a sentence of 78 characters, carriage return and line feed among them: 18, 19, 20, 17, then as `lz_read`. The answer to
 // one that is read is its satellite, which is in the low byte; a refusal has 0 there.
-#[unsafe(no_mangle)]
-pub extern "C" fn lz_read_sentence(sentence: &[u8], record_bytes: &mut [u8]) -> u32
+pub fn lz_read_sentence(sentence: &[u8], record_bytes: &mut [u8]) -> u32
     ensures { call_result result record_bytes.new ≡ read_sentence_into sentence.now record_bytes.old }
 {
     if record_bytes.len() != RECORD_SIZE {
@@ -34,8 +33,7 @@ pub extern "C" fn lz_read_sentence(sentence: &[u8], record_bytes: &mut [u8]) -> 
 
 // Writes a lent frame as a sentence of this satellite to the front of a lent buffer: 20, all that `lz_read` refuses of the
 // frame, 16. Bytes behind the sentence stay as they were, and where something is refused all of them do.
-#[unsafe(no_mangle)]
-pub extern "C" fn lz_write_sentence(satellite: u32, frame: &[u8], sentence: &mut [u8]) -> u32
+pub fn lz_write_sentence(satellite: u32, frame: &[u8], sentence: &mut [u8]) -> u32
     ensures { call_result result sentence.new ≡ write_sentence_into satellite frame.now sentence.old }
 {
     verdict_word(sentence::write_sentence(satellite, frame, sentence))

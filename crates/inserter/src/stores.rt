@@ -13,8 +13,7 @@ use store_bytes::sizes::{NAME_SIZE, STORE_SIZE};
 
 // Opens a store for the bulletin that 8 bytes name: Rc, month, day, hour, minute, It, Is, page total.
 // 8 with its place where a value is out of range, and then the store's bytes stay as they were.
-#[unsafe(no_mangle)]
-pub extern "C" fn lz_open(name: &[u8], store: &mut [u8]) -> u32
+pub fn lz_open(name: &[u8], store: &mut [u8]) -> u32
     ensures { call_result result store.new ≡ open_into name.now store.old }
 {
     if name.len() != NAME_SIZE {
@@ -52,8 +51,7 @@ fn pages_before(body: Body) -> usize
 // Takes the page of a record's 251 bytes: 1 where it is new, 2 where the store had the same, 3 where it
 // is disputed. A refusal leaves the store as it was. Only the page that the record brings can have
 // changed, so it alone is put back.
-#[unsafe(no_mangle)]
-pub extern "C" fn lz_take(store: &mut [u8], record_bytes: &[u8]) -> u32
+pub fn lz_take(store: &mut [u8], record_bytes: &[u8]) -> u32
     ensures { call_result result store.new ≡ take_into store.old record_bytes.now }
 {
     let before = store_bytes::unpack_store(store);
@@ -73,8 +71,7 @@ pub extern "C" fn lz_take(store: &mut [u8], record_bytes: &[u8]) -> u32
 }
 
 // Merges another store of the same bulletin into a store. A refusal leaves the store as it was.
-#[unsafe(no_mangle)]
-pub extern "C" fn lz_merge(store: &mut [u8], other: &[u8]) -> u32
+pub fn lz_merge(store: &mut [u8], other: &[u8]) -> u32
     ensures { call_result result store.new ≡ merge_into store.old other.now }
 {
     let before = store_bytes::unpack_store(store);
@@ -87,8 +84,7 @@ pub extern "C" fn lz_merge(store: &mut [u8], other: &[u8]) -> u32
 
 // How many pages are held, how many are disputed, and the lowest that is not held, 0 where all are: one
 // byte each, behind a byte of zero.
-#[unsafe(no_mangle)]
-pub extern "C" fn lz_count(store: &[u8]) -> u32
+pub fn lz_count(store: &[u8]) -> u32
     ensures { result ≡ count_answer store.now }
 {
     count_word(store_bytes::unpack_store(store).count())
@@ -97,8 +93,7 @@ pub extern "C" fn lz_count(store: &[u8]) -> u32
 // Puts the text of a store whose pages are all held into a lent buffer, and answers its length, which
 // is at most 1134. Bytes behind the text stay as they were, and where something is refused all of
 // them do.
-#[unsafe(no_mangle)]
-pub extern "C" fn lz_text(store: &[u8], text: &mut [u8]) -> u32
+pub fn lz_text(store: &[u8], text: &mut [u8]) -> u32
     ensures { call_result result text.new ≡ text_into store.now text.old }
 {
     let telling = store_bytes::unpack_store(store).text(text);

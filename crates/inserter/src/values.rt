@@ -25,8 +25,7 @@ fn verdict_value(verdict: Verdict) -> u64
 }
 
 // Of reading a lent frame.
-#[unsafe(no_mangle)]
-pub extern "C" fn lz_read_value(frame: &[u8]) -> u64
+pub fn lz_read_value(frame: &[u8]) -> u64
     ensures { result ≡ read_value frame.now }
 {
     let reading = report::read::read(frame);
@@ -35,8 +34,7 @@ pub extern "C" fn lz_read_value(frame: &[u8]) -> u64
 }
 
 // Of reading a lent line.
-#[unsafe(no_mangle)]
-pub extern "C" fn lz_read_line_value(line: &[u8]) -> u64
+pub fn lz_read_line_value(line: &[u8]) -> u64
     ensures { result ≡ read_line_value line.now }
 {
     let framing = line::frame_of_line(line);
@@ -49,8 +47,7 @@ pub extern "C" fn lz_read_line_value(line: &[u8]) -> u64
 }
 
 // Of reading a lent sentence.
-#[unsafe(no_mangle)]
-pub extern "C" fn lz_read_sentence_value(sentence: &[u8]) -> u64
+pub fn lz_read_sentence_value(sentence: &[u8]) -> u64
     ensures { result ≡ read_sentence_value sentence.now }
 {
     let found = sentence::around(sentence);
@@ -63,24 +60,21 @@ pub extern "C" fn lz_read_sentence_value(sentence: &[u8]) -> u64
 
 // Of writing a lent frame as a sentence of this satellite. A buffer that is too short is asked for behind the frame, and has
 // no value, so its length plays no part.
-#[unsafe(no_mangle)]
-pub extern "C" fn lz_write_sentence_value(satellite: u32, frame: &[u8]) -> u64
+pub fn lz_write_sentence_value(satellite: u32, frame: &[u8]) -> u64
     ensures { result ≡ write_sentence_value satellite frame.now }
 {
     verdict_value(sentence::send_answer(satellite, frame, SENTENCE_SIZE))
 }
 
 // Of writing the record of lent bytes to a frame of so many bytes.
-#[unsafe(no_mangle)]
-pub extern "C" fn lz_write_value(record_bytes: &[u8], size: usize) -> u64
+pub fn lz_write_value(record_bytes: &[u8], size: usize) -> u64
     ensures { result ≡ write_value record_bytes.now size }
 {
     verdict_value(report::write::write_answer(record_bytes::unpack(record_bytes), size))
 }
 
 // Of opening a store for the bulletin that 8 bytes name; other lengths name none, and have no value.
-#[unsafe(no_mangle)]
-pub extern "C" fn lz_open_value(name: &[u8]) -> u64
+pub fn lz_open_value(name: &[u8]) -> u64
     ensures { result ≡ open_value name.now }
 {
     if name.len() != NAME_SIZE {
@@ -91,8 +85,7 @@ pub extern "C" fn lz_open_value(name: &[u8]) -> u64
 
 // Of taking the page of a record into a store, which stays as it is. 14 comes first; of what follows, writing alone has a
 // value.
-#[unsafe(no_mangle)]
-pub extern "C" fn lz_take_value(store: &[u8], record_bytes: &[u8]) -> u64
+pub fn lz_take_value(store: &[u8], record_bytes: &[u8]) -> u64
     ensures { result ≡ take_value store.now record_bytes.now }
 {
     if store_bytes::unpack_store(store).is_sound() {

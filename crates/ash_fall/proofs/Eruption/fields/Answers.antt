@@ -1,0 +1,6 @@
+-- `ash_fall::Eruption::fields` meets its contract.
+use borrow.Author.Rules.{rules}
+use Rattle.ash_fall.proofs.Eruption.fields.Goals as goal
+
+pub returns : goal.returns
+returns c = simp c.table.ensures

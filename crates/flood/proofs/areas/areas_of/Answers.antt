@@ -1,0 +1,8 @@
+-- `flood::areas::areas_of` meets its contract.
+use borrow.Author.Rules.{rules}
+use Rattle.slots.specs.Slots.{slots_of}
+use Rattle.flood.proofs.areas.areas_of.Goals as goal
+
+pub returns : goal.returns
+unfolding slots_of
+returns c = simp (c.area_at-3.ensures, c.area_at-2.ensures, c.area_at.ensures, c.none-slots.ensures)

@@ -1,0 +1,6 @@
+-- `flood::fields` meets its contract.
+use borrow.Author.Rules.{rules}
+use Rattle.flood.proofs.fields.Goals as goal
+
+pub returns : goal.returns
+returns c = simp c.table.ensures

@@ -1,0 +1,6 @@
+-- `intensity::Shaking::of` meets its contract.
+use borrow.Author.Rules.{rules}
+use Rattle.intensity.proofs.Shaking.of.Goals as goal
+
+pub returns : goal.returns
+returns c = simp c.at.ensures

@@ -1,0 +1,6 @@
+-- `intensity::prefectures::later` meets its contract.
+use borrow.Author.Rules.{rules}
+use Rattle.intensity.proofs.prefectures.later.Goals as goal
+
+pub returns : goal.returns
+returns c = simp (c.later.ensures, c.fields.ensures, c.is_empty.ensures)

@@ -1,0 +1,11 @@
+-- `nankai::PageNumbers::of` meets its contract.
+use borrow.Author.Rules.{rules}
+use Rattle.nankai.proofs.PageNumbers.of.Goals as goal
+
+pub returns : goal.returns
+returns c =
+    simp (
+      c.field8-3.ensures.0,
+      c.field8-2.ensures.0,
+      c.field8.ensures.0,
+    )

@@ -1,0 +1,41 @@
+-- `nankai::page_text` meets its contract: the bytes passed are the text's.
+use Prim.Native.Nat.{ℕ, ◌+◌, ◌-◌, ◌*◌, ◌≤◌}
+use borrow.Author.Rules.{rules}
+use Rattle.bits.specs.Frame.{field_of, frame_in}
+use Rattle.bits.proofs.Inside.{field_in_lem}
+use Rattle.rows.proofs.Layouts.Filling.{fill, filled}
+use Rattle.rows.specs.Values.{each}
+use lib.ListN.{length, replicate, length-set}
+use mathlib.Core.List.{List, ◌++◌}
+use mathlib.Core.Path.{◌≡◌, refl, ap, ◌∙◌}
+use native.Mathlib.Omega.{arith}
+use Rattle.nankai.proofs.page_text.Invariants.{byte}
+use Rattle.nankai.proofs.page_text.Goals as goal
+
+pub loop-k-init : goal.loop-k-init
+loop-k-init c = (omega arith, (refl, refl))
+
+pub loop-k-preserved : goal.loop-k-preserved
+loop-k-preserved c =
+    let l = c.loop-k in
+    let f = c.args.f.now in
+    let read = c.field8.ensures.0 ∙ field_in_lem 8 (frame_in f) (57 + 8 * l.k) 8 (omega arith) (omega arith) in (
+      omega arith,
+      (length-set l.text l.k c.field8.result ∙ l.invariant.1.0, fill 18 l.k (byte f) 0 c.field8.result l.text (omega arith) l.invariant.1.1 read),
+    )
+
+pub returns : goal.returns
+returns c =
+    let l = c.loop-k in
+    let f = c.args.f.now in
+    let last : l.k ≡ 18 = omega arith in
+    filled 18 (byte f) 0 l.text (l.invariant.1.1 ∙ ap (λ (k : ℕ). each k (byte f) ++ replicate (18 - k) 0) last)
+
+pub bounds-text-k : goal.bounds-text-k
+bounds-text-k c = omega arith
+
+pub overflow_add-k-in-loop-k : goal.overflow_add-k-in-loop-k
+overflow_add-k-in-loop-k c = omega arith
+
+pub loop-k-smaller : goal.loop-k-smaller
+loop-k-smaller c = omega arith

@@ -1,0 +1,6 @@
+-- `report::body::fields_none` meets its contract.
+use borrow.Author.Rules.{rules}
+use Rattle.report.proofs.body.fields_none.Goals as goal
+
+pub returns : goal.returns
+returns c = simp c.table_none.ensures

@@ -1,0 +1,14 @@
+use Prim.Native.Nat.{◌-◌, ◌≤◌}
+use Rattle.report.proofs.Writing.Blank.{blank_so_far, not_blank, all_blank}
+use Rattle.rows.specs.Runs.Verdict.{empty}
+use lib.ListN.{length, drop}
+use mathlib.Core.Path.{◌≡◌, refl, sym, ◌∙◌}
+use native.Mathlib.Omega.{arith}
+use Rattle.report.proofs.tidy.is_blank.Given as goal
+
+-- `report::tidy::is_blank` meets its contract: what is left decides.
+abbrev pub invariant-loop-i : goal.invariant-loop-i
+invariant-loop-i l = (l.i ≤ 18) × (empty (drop l.i l.text) ≡ empty l.text)
+
+abbrev pub decreases-loop-i : goal.decreases-loop-i
+decreases-loop-i l = 18 - l.i

@@ -1,0 +1,6 @@
+-- `rows::refusal::Verdict::notification` meets its contract.
+use borrow.Author.Rules.{rules}
+use Rattle.rows.proofs.refusal.Verdict.notification.Goals as goal
+
+pub returns : goal.returns
+returns c = simp (c.ranged.ensures, c.is_notification.ensures)

@@ -1,0 +1,10 @@
+-- `rows::refusal::Verdict::within` meets its contract.
+use borrow.Author.Rules.{rules}
+use Rattle.rows.proofs.refusal.Verdict.within.Goals as goal
+
+pub returns : goal.returns
+returns c =
+    simp (
+      c.ranged.ensures,
+      c.between.ensures,
+    )

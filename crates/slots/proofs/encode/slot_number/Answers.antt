@@ -1,0 +1,9 @@
+-- `slots::encode::slot_number` meets its contract.
+use borrow.Author.Rules.{rules}
+use Rattle.slots.specs.Runs.{slot_number}
+use Rattle.slots.proofs.encode.slot_number.Goals as goal
+
+pub returns : goal.returns
+unfolding slot_number
+returns c =
+    simp (c.behind.ensures, c.behind-to_strength.ensures, c.behind-to_minute.ensures, c.behind-to_hour.ensures)

@@ -1,0 +1,16 @@
+use Prim.Native.Nat.{◌-◌, ◌≤◌, ℕ}
+use mathlib.Core.Path.{◌∙◌, ◌≡◌, ap, sym}
+use Rattle.slots.proofs.Loops.{all-tidy, not_tidy, tidy_so_far, rest}
+use native.Mathlib.Omega.{arith}
+use lib.ListN.{length}
+use borrow.Author.Rules.{rules}
+use Rattle.slots.specs.Slots.{tidy_slots}
+use borrow.Author.Tests.{not-false, not-true}
+use Rattle.slots.proofs.silence.are_tidy.Given as goal
+
+-- `slots::silence::are_tidy` meets its contract: what is left decides.
+abbrev pub invariant-loop-i : goal.invariant-loop-i
+invariant-loop-i l = (l.i ≤ 16) × (rest l.widths l.count l.slots l.i ≡ tidy_slots l.widths l.count l.slots)
+
+abbrev pub decreases-loop-i : goal.decreases-loop-i
+decreases-loop-i l = 16 - l.i

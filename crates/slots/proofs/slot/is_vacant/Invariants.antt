@@ -1,0 +1,16 @@
+use Prim.Native.Nat.{◌-◌, ◌≤◌}
+use mathlib.Core.Path.{◌∙◌, ◌≡◌, refl, sym}
+use Rattle.slots.proofs.Vacant.{all-vacant, not_vacant, vacant_so_far}
+use native.Mathlib.Omega.{arith}
+use lib.ListN.{drop, length}
+use borrow.Author.Rules.{rules}
+use borrow.Author.Tests.{not-false, not-true}
+use Rattle.slots.specs.Slots.{vacant}
+use Rattle.slots.proofs.slot.is_vacant.Given as goal
+
+-- `slots::slot::is_vacant` meets its contract: what is left decides.
+abbrev pub invariant-loop-i : goal.invariant-loop-i
+invariant-loop-i l = (l.i ≤ 5) × (vacant (drop l.i l.widths) (drop l.i l.values) ≡ vacant l.widths l.values)
+
+abbrev pub decreases-loop-i : goal.decreases-loop-i
+decreases-loop-i l = 5 - l.i

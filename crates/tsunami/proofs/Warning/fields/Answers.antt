@@ -1,0 +1,6 @@
+-- `tsunami::Warning::fields` meets its contract.
+use borrow.Author.Rules.{rules}
+use Rattle.tsunami.proofs.Warning.fields.Goals as goal
+
+pub returns : goal.returns
+returns c = simp c.table.ensures

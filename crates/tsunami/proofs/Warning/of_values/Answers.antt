@@ -1,0 +1,6 @@
+-- `tsunami::Warning::of_values` meets its contract.
+use borrow.Author.Rules.{rules}
+use Rattle.tsunami.proofs.Warning.of_values.Goals as goal
+
+pub returns : goal.returns
+returns c = simp (c.one_byte.ensures, c.two_bytes-3.ensures, c.two_bytes-2.ensures, c.two_bytes.ensures)

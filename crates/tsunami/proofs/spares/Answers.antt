@@ -1,0 +1,6 @@
+-- `tsunami::spares` meets its contract.
+use borrow.Author.Rules.{rules}
+use Rattle.tsunami.proofs.spares.Goals as goal
+
+pub returns : goal.returns
+returns c = simp c.field64.ensures.0
