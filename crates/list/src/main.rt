@@ -2,11 +2,14 @@
 // crate `listing`; here bytes go in and out, in blocks.
 #![tactic(auto)]
 
-ghost use Rattle.std.specs.Prelude.{◌≡◌, length};
+ghost use Rattle.std.specs.Prelude.{◌≡◌, ◌≤◌, length, IfOk};
 
-use libc::{STDIN_FILENO, STDOUT_FILENO};
 use listing::progress::Progress;
 use listing::scan::LIMIT;
+use std::fmt::Debug;
+use std::io::{ErrorKind, Read, Write};
+use std::process::ExitCode;
+use std::{fmt, io};
 
 const CHUNK: usize = 8192;
 
@@ -26,12 +29,34 @@ fn text() -> [u8; TEXT]
     [0u8; TEXT]
 }
 
-// What comes behind a chunk: another, the end of the input, or a fault, where the listing breaks off.
+// The status of a program whose output nobody reads any more, as a shell tells it of one that the signal
+// for this has ended. Std has that signal ignored, so a write fails in its place.
+const UNREAD: u8 = 141;
+
+// Why a listing broke off: standard input or output failed, or nobody reads the output any more.
+#[derive(Drop)]
+enum Fault {
+    Input(io::Error),
+    Output(io::Error),
+    Unread,
+}
+
+impl Debug for Fault {
+    fn fmt<W: fmt::Write>(&self, f: &mut fmt::Formatter<W>) -> fmt::Result {
+        match self {
+            Fault::Input(e) => write!(f, "standard input: {e}"),
+            Fault::Output(e) => write!(f, "standard output: {e}"),
+            Fault::Unread => write!(f, "standard output: nobody reads it"),
+        }
+    }
+}
+
+// What comes behind a chunk: another, the end of the input, or nothing, since the listing was cut.
 #[derive(Clone, Copy)]
 enum Next {
     Chunk,
     End,
-    Fault,
+    Cut,
 }
 
 #[derive(Clone, Copy)]
@@ -40,86 +65,100 @@ struct Turn {
     next: Next,
 }
 
-// A pipe that nobody reads any more is no fault, and nothing is said of it.
-fn write(text: &[u8]) -> bool {
-    if io::write_all(STDOUT_FILENO, text) {
-        return true;
+fn write(output: &mut impl Write, text: &[u8]) -> Result<(), Fault> {
+    match output.write_all(text) {
+        Ok(()) => Ok(()),
+        Err(e) if e.kind() == ErrorKind::BrokenPipe => Err(Fault::Unread),
+        Err(e) => Err(Fault::Output(e)),
     }
-    if os::errno() != libc::EPIPE {
-        os::fail(b"standard output");
-    }
-    false
 }
 
-// A read gave no byte: that is the end of the input, or a fault. Behind a fault nothing is listed, since
-// the line that was begun may not be whole.
-fn end_or_fault(got: isize) -> Next {
-    if got == 0 {
-        return Next::End;
+// Reads once. Behind a fault nothing is listed, since the line that was begun may not be whole.
+fn read(input: &mut impl Read, chunk: &mut [u8]) -> Result<usize, Fault>
+    ensures { IfOk result (λ n. n ≤ length chunk.new) }
+{
+    match input.read(chunk) {
+        Ok(n) => Ok(n),
+        Err(e) => Err(Fault::Input(e)),
     }
-    os::fail(b"standard input");
-    Next::Fault
 }
 
 // Reads once and writes the rows of the lines that ended.
-fn pass(from: Progress, chunk: &mut [u8], text: &mut [u8]) -> Turn {
-    let got = libc::read(STDIN_FILENO, chunk);
-    let n = io::count(got, chunk);
+fn pass(
+    from: Progress,
+    input: &mut impl Read,
+    output: &mut impl Write,
+    chunk: &mut [u8],
+    text: &mut [u8],
+) -> Result<Turn, Fault> {
+    let n = read(input, chunk)?;
     if n == 0 {
-        return Turn {
+        return Ok(Turn {
             progress: from,
-            next: end_or_fault(got),
-        };
+            next: Next::End,
+        });
     }
     let step = listing::scan::scan(from, &chunk[..n], text);
     let written = step.written;
     let progress = step.progress;
-    if write(&text[..written]) && progress.lines <= LIMIT {
-        return Turn {
+    write(output, &text[..written])?;
+    if progress.lines <= LIMIT {
+        return Ok(Turn {
             progress: progress,
             next: Next::Chunk,
-        };
+        });
     }
-    Turn {
+    Ok(Turn {
         progress: progress,
-        next: Next::Fault,
-    }
+        next: Next::Cut,
+    })
 }
 
 // A last line that lacks its line feed.
-fn end(from: Progress, text: &mut [u8]) {
+fn end(from: Progress, output: &mut impl Write, text: &mut [u8]) -> Result<(), Fault> {
     let written = listing::scan::finish(from, text);
-    write(&text[..written]);
+    write(output, &text[..written])
 }
 
 // All of the input. A proved loop has to end, and nothing says that the input does: so it counts.
-fn all(chunk: &mut [u8], text: &mut [u8]) {
+fn all(
+    input: &mut impl Read,
+    output: &mut impl Write,
+    chunk: &mut [u8],
+    text: &mut [u8],
+) -> Result<(), Fault> {
     let mut progress = Progress::behind(0);
-    let mut turns = u64::MAX;
-    while turns > 0 {
-        let turn = pass(progress, chunk, text);
+    for _ in 0..u64::MAX {
+        let turn = pass(progress, input, output, chunk, text)?;
         let reached = turn.progress;
         progress = reached;
         let next = turn.next;
         match next {
             Next::Chunk => {}
             Next::End => {
-                end(progress, text);
-                return;
+                return end(progress, output, text);
             }
-            Next::Fault => {
-                return;
+            Next::Cut => {
+                return Ok(());
             }
         }
-        turns -= 1;
     }
+    Ok(())
 }
 
-fn main() {
+fn list_input(input: &mut impl Read, output: &mut impl Write) -> Result<(), Fault> {
     let mut chunk = chunk();
     let mut text = text();
     let written = listing::row::write_heading(&mut text);
-    if write(&text[..written]) {
-        all(&mut chunk, &mut text);
+    write(output, &text[..written])?;
+    all(input, output, &mut chunk, &mut text)
+}
+
+// An output that nobody reads any more is no fault, and nothing is said of it.
+fn main(rt: HostRuntime) -> Result<ExitCode, Fault> {
+    match list_input(&mut rt.stdin(), &mut rt.stdout()) {
+        Ok(()) => Ok(ExitCode::SUCCESS),
+        Err(Fault::Unread) => Ok(ExitCode::from(UNREAD)),
+        Err(fault) => Err(fault),
     }
 }

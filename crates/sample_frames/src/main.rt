@@ -8,7 +8,6 @@ use ash_fall::Eruption;
 use hypocenter::Quake;
 use hypocenter::angle::Angle;
 use intensity::Shaking;
-use libc::STDOUT_FILENO;
 use nankai::PageNumbers;
 use report::body::Body;
 use report::record::Record;
@@ -16,6 +15,7 @@ use rows::common::Common;
 use rows::fields::Spares;
 use rows::time::Time;
 use slots::slot::Slot;
+use std::io;
 use tsunami::Warning;
 use volcano::Activity;
 
@@ -77,12 +77,12 @@ const TEXT: [u8; 486] = *b"\
     \xE3\x81\xA8\xE3\x81\xA3\xE3\x81\xA6\xE3\x81\x8F\xE3\x81\xA0\xE3\x81\x95\
     \xE3\x81\x84\xE3\x80\x82\x00\x00\x00\x00\x00\x00\x00\x00\x00\x00\x00\x00";
 
-fn show(r: Record) {
+fn show(rt: &impl Print, r: Record) -> io::Result<()> {
     let mut frame = [0u8; 32];
     report::write::write(r, &mut frame);
     let mut line = [10u8; 64];
     line::write_line(&frame, &mut line);
-    io::write_all(STDOUT_FILENO, &line);
+    rt.write_all(&line)
 }
 
 // A training report of March.
@@ -249,7 +249,7 @@ fn page_text(number: u8) -> [u8; 18]
 }
 
 // Table 2-3-1: the pages of the bulletin.
-fn show_pages(at: Time) {
+fn show_pages(rt: &impl Print, at: Time) -> io::Result<()> {
     let mut number = 1;
     while number <= 27 {
         let page = PageNumbers {
@@ -257,9 +257,13 @@ fn show_pages(at: Time) {
             number: number,
             total: 27,
         };
-        show(issued(at, Body::Nankai(page), no_slots(), page_text(number)));
+        show(
+            rt,
+            issued(at, Body::Nankai(page), no_slots(), page_text(number)),
+        )?;
         number += 1;
     }
+    Ok(())
 }
 
 // Table 2-4-1: an eruption of Mount Aso at a time without ambiguity, and three places.
@@ -287,61 +291,74 @@ fn aso(at: Time, warning: u8) -> Eruption {
     }
 }
 
-fn show_ash(eruption: Eruption, a: Slot, b: Slot, c: Slot, d: Slot) {
+fn show_ash(
+    rt: &impl Print,
+    eruption: Eruption,
+    a: Slot,
+    b: Slot,
+    c: Slot,
+    d: Slot,
+) -> io::Result<()> {
     let at = eruption.time;
     let places = four_slots(a, b, c, d);
-    show(issued(at, Body::AshFall(eruption), places, [0u8; 18]));
+    show(rt, issued(at, Body::AshFall(eruption), places, [0u8; 18]))
 }
 
 // Table 2-4-2: the preliminary report.
-fn show_preliminary(at: Time) {
+fn show_preliminary(rt: &impl Print, at: Time) -> io::Result<()> {
     show_ash(
+        rt,
         aso(at, 1),
         slot(1, 1, ASO),
         slot(1, 1, TAKAMORI),
         slot(1, 1, MINAMIASO),
         Slot::none(),
-    );
+    )
 }
 
 // Table 2-5-1: eighteen places in five reports; a place may stand in one twice.
-fn show_detailed(at: Time) {
+fn show_detailed(rt: &impl Print, at: Time) -> io::Result<()> {
     let eruption = aso(at, 2);
     show_ash(
+        rt,
         eruption,
         slot(1, 2, ASO),
         slot(1, 2, TAKAMORI),
         slot(1, 1, MINAMIASO),
         slot(2, 1, ASO),
-    );
+    )?;
     show_ash(
+        rt,
         eruption,
         slot(2, 1, TAKAMORI),
         slot(2, 1, MINAMIASO),
         slot(3, 1, ASO),
         slot(3, 1, TAKAMORI),
-    );
+    )?;
     show_ash(
+        rt,
         eruption,
         slot(3, 1, MINAMIASO),
         slot(4, 1, ASO),
         slot(4, 1, TAKAMORI),
         slot(4, 1, MINAMIASO),
-    );
+    )?;
     show_ash(
+        rt,
         eruption,
         slot(5, 1, ASO),
         slot(5, 1, TAKAMORI),
         slot(5, 1, MINAMIASO),
         slot(6, 1, ASO),
-    );
+    )?;
     show_ash(
+        rt,
         eruption,
         slot(6, 1, TAKAMORI),
         slot(6, 1, MINAMIASO),
         Slot::none(),
         Slot::none(),
-    );
+    )
 }
 
 // Tables 2-6-2 and 2-7-1: one area, whose level is 2 while it is warned and 1 when the warning is lifted.
@@ -360,27 +377,28 @@ fn at(day: u8, hour: u8, minute: u8) -> Time {
 }
 
 // The first delivery is on the 11th from 4:00 on, the second on the 27th from 1:00 on.
-fn main() {
-    show(hypocenter(at(11, 4, 5)));
-    show(hypocenter(at(27, 1, 5)));
-    show(intensity(at(11, 4, 5)));
-    show(intensity(at(27, 1, 5)));
-    show(tsunami_warning(at(11, 4, 5)));
-    show(tsunami_warning(at(27, 1, 5)));
-    show(tsunami_update(at(11, 4, 25)));
-    show(tsunami_update(at(27, 1, 25)));
-    show_pages(at(11, 4, 35));
-    show_pages(at(27, 1, 35));
-    show(tsunami_lifted(at(11, 4, 35)));
-    show(tsunami_lifted(at(27, 1, 35)));
-    show(volcano(at(11, 5, 10)));
-    show(volcano(at(27, 2, 10)));
-    show_preliminary(at(11, 5, 10));
-    show_preliminary(at(27, 2, 10));
-    show_detailed(at(11, 5, 20));
-    show_detailed(at(27, 2, 20));
-    show(flood(at(11, 5, 35), 2));
-    show(flood(at(27, 2, 35), 2));
-    show(flood(at(11, 5, 50), 1));
-    show(flood(at(27, 2, 50), 1));
+fn main(rt: HostRuntime) -> io::Result<()> {
+    show(&rt, hypocenter(at(11, 4, 5)))?;
+    show(&rt, hypocenter(at(27, 1, 5)))?;
+    show(&rt, intensity(at(11, 4, 5)))?;
+    show(&rt, intensity(at(27, 1, 5)))?;
+    show(&rt, tsunami_warning(at(11, 4, 5)))?;
+    show(&rt, tsunami_warning(at(27, 1, 5)))?;
+    show(&rt, tsunami_update(at(11, 4, 25)))?;
+    show(&rt, tsunami_update(at(27, 1, 25)))?;
+    show_pages(&rt, at(11, 4, 35))?;
+    show_pages(&rt, at(27, 1, 35))?;
+    show(&rt, tsunami_lifted(at(11, 4, 35)))?;
+    show(&rt, tsunami_lifted(at(27, 1, 35)))?;
+    show(&rt, volcano(at(11, 5, 10)))?;
+    show(&rt, volcano(at(27, 2, 10)))?;
+    show_preliminary(&rt, at(11, 5, 10))?;
+    show_preliminary(&rt, at(27, 2, 10))?;
+    show_detailed(&rt, at(11, 5, 20))?;
+    show_detailed(&rt, at(27, 2, 20))?;
+    show(&rt, flood(at(11, 5, 35), 2))?;
+    show(&rt, flood(at(27, 2, 35), 2))?;
+    show(&rt, flood(at(11, 5, 50), 1))?;
+    show(&rt, flood(at(27, 2, 50), 1))?;
+    Ok(())
 }

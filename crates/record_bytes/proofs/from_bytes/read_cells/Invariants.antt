@@ -1,0 +1,19 @@
+use borrow.Author.Rules.{rules}
+use mathlib.Core.Path.{◌≡◌, ◌∙◌, ap, sym}
+use Prim.Native.Nat.{ℕ, ◌+◌, ◌-◌, ◌*◌, ◌/◌, ◌^◌, ◌≤◌}
+use native.Mathlib.Omega.{arith}
+use mathlib.Core.List.{◌++◌}
+use lib.ListN.{length, get_or, take, drop, replicate, length-replicate, length-set}
+use lib.Seq.{drop-length}
+use Rattle.rows.specs.Runs.Fields.{bytes_for}
+use Rattle.record_bytes.specs.Unpacked.{cells_at, number_at, size}
+use Rattle.record_bytes.proofs.Cells.{cell_set, cells_read, front_of_eight, next_place, size-at, size_read}
+use Rattle.record_bytes.proofs.from_bytes.read_cells.Given as goal
+
+-- `record_bytes::from_bytes::read_cells` meets its contract.
+abbrev pub invariant-loop-k : goal.invariant-loop-k
+invariant-loop-k l =
+    (l.k ≤ length l.widths) × ((length l.values ≡ length l.widths) × ((l.values ≡ cells_at l.bytes l.at (take l.k l.widths) ++ replicate (length l.widths - l.k) 0) × (l.next ≡ l.at + size (take l.k l.widths))))
+
+abbrev pub decreases-loop-k : goal.decreases-loop-k
+decreases-loop-k l = length l.widths - l.k

@@ -1,0 +1,20 @@
+use borrow.Author.Rules.{rules}
+use mathlib.Core.Path.{◌≡◌, ◌∙◌, ap, refl}
+use Prim.Native.Nat.{ℕ, ◌+◌, ◌-◌, ◌*◌, ◌%◌, ◌^◌, ◌≤◌, ◌<◌}
+use native.Mathlib.Omega.{arith}
+use lib.ListN.{length, get_or, take, drop, drop_of_length-le}
+use lib.Seq.{sets}
+use Rattle.lent.specs.Numbers.{wide}
+use Rattle.record_bytes.specs.Packed.{cells}
+use Rattle.record_bytes.specs.Unpacked.{size}
+use Rattle.record_bytes.proofs.Cells.{next_place, size_split}
+use Rattle.record_bytes.proofs.ToBytes.EightBytes.{cell_more, cells_put}
+use Rattle.record_bytes.proofs.to_bytes.put_cells.Given as goal
+
+-- `record_bytes::to_bytes::put_cells` meets its contract.
+abbrev pub invariant-loop-k : goal.invariant-loop-k
+invariant-loop-k l =
+    (l.k ≤ length l.widths) × (length l.out ≡ length l.initial.out) × (l.next ≡ l.at + size (take l.k l.widths)) × (l.out ≡ sets l.initial.out l.at (cells (take l.k l.widths) (take l.k l.values)))
+
+abbrev pub decreases-loop-k : goal.decreases-loop-k
+decreases-loop-k l = length l.widths - l.k
