@@ -21,20 +21,26 @@ returns-then-k-count c =
 
 pub loop-k-preserved : goal.loop-k-preserved
 loop-k-preserved c =
+    let sixteen : length c.args.slots ≡ 16 =
+    c.well_formed.1.1.1.0.1.0.1
+    in
     let l = c.loop-k in
     let a = c.args in
     let more : l.k < a.count = omega (arith, c.if-k-count.false) in (
       (omega arith, omega arith),
       one_pushed l.next a.widths c.push_slot-more.result (get_or a.slots l.k no_slot) (drop (l.k + 1) (take a.count a.slots)) c.push_slot-more.ensures
-          ∙ ap (slots_pushed l.next a.widths) (sym (one_more a.count a.slots l.k more (omega (arith, (let sixteen : length c.args.slots ≡ 16 = c.well_formed.1.1.1.0.1.0.1 in sixteen)))))
+          ∙ ap (slots_pushed l.next a.widths) (sym (one_more a.count a.slots l.k more (omega (arith, sixteen))))
           ∙ l.invariant.1,
     )
 
 pub returns : goal.returns
 returns c =
+    let sixteen : length c.args.slots ≡ 16 =
+    c.well_formed.1.1.1.0.1.0.1
+    in
     let l = c.loop-k in
     let a = c.args in
-    sym (ap (slots_pushed l.next a.widths) (none_behind a.count a.slots l.k (omega (arith, (let sixteen : length c.args.slots ≡ 16 = c.well_formed.1.1.1.0.1.0.1 in sixteen)))) ∙ all-pushed l.next a.widths)
+    sym (ap (slots_pushed l.next a.widths) (none_behind a.count a.slots l.k (omega (arith, sixteen))) ∙ all-pushed l.next a.widths)
     ∙ l.invariant.1
 
 pub offset_bounds-slots-k : goal.offset_bounds-slots-k

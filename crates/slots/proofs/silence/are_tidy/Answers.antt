@@ -16,18 +16,27 @@ loop-i-init c =
 
 pub returns-then-not-is_tidy : goal.returns-then-not-is_tidy
 returns-then-not-is_tidy c =
+    let sixteen : length c.args.slots ≡ 16 =
+    c.well_formed.1.1.0.1.0.1
+    in
     let a = c.args in
-    sym (not_tidy a.widths a.count a.slots c.loop-i.i (omega (arith, (let sixteen : length c.args.slots ≡ 16 = c.well_formed.1.1.0.1.0.1 in sixteen))) (sym c.is_tidy.ensures ∙ c.if-not-is_tidy.true)) ∙ c.loop-i.invariant.1
+    sym (not_tidy a.widths a.count a.slots c.loop-i.i (omega (arith, sixteen)) (sym c.is_tidy.ensures ∙ c.if-not-is_tidy.true)) ∙ c.loop-i.invariant.1
 
 pub loop-i-preserved : goal.loop-i-preserved
 loop-i-preserved c =
+    let sixteen : length c.args.slots ≡ 16 =
+    c.well_formed.1.1.0.1.0.1
+    in
     let a = c.args in
-    (omega arith, sym (tidy_so_far a.widths a.count a.slots c.loop-i.i (omega (arith, (let sixteen : length c.args.slots ≡ 16 = c.well_formed.1.1.0.1.0.1 in sixteen))) (sym c.is_tidy.ensures ∙ c.if-not-is_tidy.false)) ∙ c.loop-i.invariant.1)
+    (omega arith, sym (tidy_so_far a.widths a.count a.slots c.loop-i.i (omega (arith, sixteen)) (sym c.is_tidy.ensures ∙ c.if-not-is_tidy.false)) ∙ c.loop-i.invariant.1)
 
 pub returns : goal.returns
 returns c =
+    let sixteen : length c.args.slots ≡ 16 =
+    c.well_formed.1.1.0.1.0.1
+    in
     let a = c.args in
-    sym (all-tidy a.widths a.count a.slots c.loop-i.i (omega (arith, (let sixteen : length c.args.slots ≡ 16 = c.well_formed.1.1.0.1.0.1 in sixteen)))) ∙ c.loop-i.invariant.1
+    sym (all-tidy a.widths a.count a.slots c.loop-i.i (omega (arith, sixteen))) ∙ c.loop-i.invariant.1
 
 pub offset_bounds-slots-i : goal.offset_bounds-slots-i
 offset_bounds-slots-i c = omega arith

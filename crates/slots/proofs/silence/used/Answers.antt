@@ -15,17 +15,26 @@ loop-k-init c = (omega arith, zero-add _)
 
 pub returns-then-is_empty : goal.returns-then-is_empty
 returns-then-is_empty c =
-    let none = used_end c.args.slots c.loop-k.k (omega (arith, (let sixteen : length c.args.slots ≡ 16 = c.well_formed.0.1.0.1 in sixteen))) (sym c.is_empty.ensures ∙ c.if-is_empty.true) in
+    let sixteen : length c.args.slots ≡ 16 =
+    c.well_formed.0.1.0.1
+    in
+    let none = used_end c.args.slots c.loop-k.k (omega (arith, sixteen)) (sym c.is_empty.ensures ∙ c.if-is_empty.true) in
     omega (arith, c.loop-k.invariant.1, none)
 
 pub loop-k-preserved : goal.loop-k-preserved
 loop-k-preserved c =
-    let more = used_more c.args.slots c.loop-k.k (omega (arith, (let sixteen : length c.args.slots ≡ 16 = c.well_formed.0.1.0.1 in sixteen))) (sym c.is_empty.ensures ∙ c.if-is_empty.false) in
+    let sixteen : length c.args.slots ≡ 16 =
+    c.well_formed.0.1.0.1
+    in
+    let more = used_more c.args.slots c.loop-k.k (omega (arith, sixteen)) (sym c.is_empty.ensures ∙ c.if-is_empty.false) in
     (omega arith, omega (arith, c.loop-k.invariant.1, more))
 
 pub returns : goal.returns
 returns c =
-    let none = used_all c.args.slots c.loop-k.k (omega (arith, (let sixteen : length c.args.slots ≡ 16 = c.well_formed.0.1.0.1 in sixteen))) in
+    let sixteen : length c.args.slots ≡ 16 =
+    c.well_formed.0.1.0.1
+    in
+    let none = used_all c.args.slots c.loop-k.k (omega (arith, sixteen)) in
     omega (arith, c.loop-k.invariant.1, none)
 
 pub offset_bounds-slots-k : goal.offset_bounds-slots-k
