@@ -1,11 +1,9 @@
 -- `bits::bytes_between` meets its contract: the sum is the number of the bytes passed.
 use mathlib.Core.Path.{◌≡◌, sym}
-use mathlib.Core.List.{List}
-use Prim.Native.Nat.{ℕ, ◌-◌, ◌*◌, ◌%◌, ◌^◌, ◌≤◌, ◌<◌}
+use Prim.Native.Nat.{◌-◌, ◌^◌, ◌<◌}
 use native.Mathlib.Nat.{sub_self, mod-one}
 use native.Mathlib.Omega.{arith}
 use lib.ListN.{take}
-use borrow.Author.Rules.{rules}
 use Rattle.bits.specs.Frame.{Bytes, number}
 use Rattle.bits.proofs.Bytes.{number_shr}
 use Rattle.bits.proofs.ByteLoops.{read_more, seven}
@@ -61,9 +59,3 @@ returns c =
     let l = c.loop-at in
     let last : l.at ≡ a.to = omega arith in
     rw (← rw c.requires.0 at (number_shr (c.args.frame.now) a.to (omega arith) bytes)) at (rw last at l.invariant.1.1)
-
-pub overflow_add-at : goal.overflow_add-at
-overflow_add-at c = omega arith
-
-pub loop-at-smaller : goal.loop-at-smaller
-loop-at-smaller c = omega arith

@@ -3,7 +3,6 @@ use mathlib.Core.Bool.{true}
 use mathlib.Core.Path.{◌≡◌, sym, ◌∙◌}
 use native.Mathlib.Omega.{arith}
 use lib.Pow.{pow_pos}
-use borrow.Author.Rules.{rules}
 use Rattle.bits.specs.Frame.{lies, frame_in}
 use Rattle.bits.proofs.Inside.{lies_told, field_read, no_field, frame_lent, no_frame}
 use Rattle.bits.proofs.Windows.{narrower}

@@ -1,12 +1,11 @@
 -- `bits::words::push_all` meets its contract: what is left to push, behind what stands, is the whole.
 use mathlib.Core.Path.{◌≡◌, refl, ap, ◌∙◌, sym}
-use Prim.Native.Nat.{ℕ, ◌+◌, ◌-◌, ◌%◌, ◌≤◌}
+use Prim.Native.Nat.{ℕ, ◌+◌, ◌%◌}
 use native.Mathlib.Omega.{arith}
-use lib.ListN.{length, get_or, drop}
+use lib.ListN.{get_or, drop}
 use Rattle.bits.specs.declared.words.Words.{Words}
 use Rattle.bits.specs.Words.{pushed, pushed_until}
 use Rattle.bits.proofs.Pushing.{push_more, push_short, push_none, push_done}
-use borrow.Author.Rules.{rules}
 use Rattle.bits.proofs.words.push_all.Goals as goal
 
 pub loop-k-init : goal.loop-k-init

@@ -1,5 +1,4 @@
 -- `intensity::prefectures::check_prefectures` meets its contract.
-use borrow.Author.Rules.{rules}
 use mathlib.Core.List.{List, [], ◌∷◌}
 use Rattle.slots.specs.declared.run.Run.{Run}
 use Rattle.rows.specs.Runs.Questions.{◌then◌}

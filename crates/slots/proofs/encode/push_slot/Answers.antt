@@ -1,5 +1,4 @@
 -- `slots::encode::push_slot` meets its contract: the sum of five bytes fits.
-use borrow.Author.Rules.{rules}
 use native.Mathlib.Omega.{arith}
 use Rattle.bits.proofs.Arrays.{each-bytes}
 use Rattle.bits.specs.Frame.{Bytes}

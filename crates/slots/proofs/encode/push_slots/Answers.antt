@@ -1,9 +1,8 @@
 -- `slots::encode::push_slots` meets its contract: what is left to push, behind what stands, is the whole.
-use Prim.Native.Nat.{◌+◌, ◌-◌, ◌≤◌, ◌<◌}
+use Prim.Native.Nat.{◌+◌, ◌<◌}
 use mathlib.Core.Path.{◌≡◌, refl, ◌∙◌, ap, sym}
 use native.Mathlib.Omega.{arith}
 use lib.ListN.{drop, length, take, get_or}
-use borrow.Author.Rules.{rules}
 use Rattle.slots.specs.Runs.{slots_pushed}
 use Rattle.slots.proofs.Loops.{all-pushed, none_behind, none_left, one_pushed, one_more}
 use Rattle.slots.specs.Slots.{no_slot}
@@ -42,15 +41,3 @@ returns c =
     let a = c.args in
     sym (ap (slots_pushed l.next a.widths) (none_behind a.count a.slots l.k (omega (arith, sixteen))) ∙ all-pushed l.next a.widths)
     ∙ l.invariant.1
-
-pub offset_bounds-slots-k : goal.offset_bounds-slots-k
-offset_bounds-slots-k c = omega arith
-
-pub bounds-slots-k : goal.bounds-slots-k
-bounds-slots-k c = omega arith
-
-pub overflow_add-k : goal.overflow_add-k
-overflow_add-k c = omega arith
-
-pub loop-k-smaller : goal.loop-k-smaller
-loop-k-smaller c = omega arith

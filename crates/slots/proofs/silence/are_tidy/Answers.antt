@@ -1,12 +1,10 @@
 -- `slots::silence::are_tidy` meets its contract: what is left decides.
-use Prim.Native.Nat.{◌-◌, ◌≤◌, ℕ}
+use Prim.Native.Nat.{◌-◌, ℕ}
 use mathlib.Core.Path.{◌∙◌, ◌≡◌, ap, sym}
-use Rattle.slots.proofs.Loops.{all-tidy, not_tidy, tidy_so_far, rest}
+use Rattle.slots.proofs.Loops.{all-tidy, not_tidy, tidy_so_far}
 use native.Mathlib.Omega.{arith}
 use lib.ListN.{length}
-use borrow.Author.Rules.{rules}
 use Rattle.slots.specs.Slots.{tidy_slots}
-use borrow.Author.Tests.{not-false, not-true}
 use Rattle.slots.proofs.silence.are_tidy.Goals as goal
 
 pub loop-i-init : goal.loop-i-init
@@ -37,15 +35,3 @@ returns c =
     in
     let a = c.args in
     sym (all-tidy a.widths a.count a.slots c.loop-i.i (omega (arith, sixteen))) ∙ c.loop-i.invariant.1
-
-pub offset_bounds-slots-i : goal.offset_bounds-slots-i
-offset_bounds-slots-i c = omega arith
-
-pub bounds-slots-i : goal.bounds-slots-i
-bounds-slots-i c = omega arith
-
-pub overflow_add-i : goal.overflow_add-i
-overflow_add-i c = omega arith
-
-pub loop-i-smaller : goal.loop-i-smaller
-loop-i-smaller c = omega arith

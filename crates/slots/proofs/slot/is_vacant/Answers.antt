@@ -1,12 +1,8 @@
 -- `slots::slot::is_vacant` meets its contract: what is left decides.
-use Prim.Native.Nat.{◌-◌, ◌≤◌}
 use mathlib.Core.Path.{◌∙◌, ◌≡◌, refl, sym}
 use Rattle.slots.proofs.Vacant.{all-vacant, not_vacant, vacant_so_far}
 use native.Mathlib.Omega.{arith}
-use lib.ListN.{drop, length}
-use borrow.Author.Rules.{rules}
-use borrow.Author.Tests.{not-false, not-true}
-use Rattle.slots.specs.Slots.{vacant}
+use lib.ListN.{length}
 use Rattle.slots.proofs.slot.is_vacant.Goals as goal
 
 pub loop-i-init : goal.loop-i-init
@@ -55,12 +51,3 @@ returns c =
     in
     let l = c.loop-i in
     sym (all-vacant c.args.widths _ l.i (omega (arith, five-widths))) ∙ l.invariant.1
-
-pub offset_bounds-values-i : goal.offset_bounds-values-i
-offset_bounds-values-i c = omega arith
-
-pub overflow_add-i : goal.overflow_add-i
-overflow_add-i c = omega arith
-
-pub loop-i-smaller : goal.loop-i-smaller
-loop-i-smaller c = omega arith
