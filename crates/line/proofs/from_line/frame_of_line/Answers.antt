@@ -17,7 +17,7 @@ use borrow.Author.Rules.{rules}
 use Rattle.line.proofs.from_line.frame_of_line.Goals as goal
 
 pub returns-then-line-ne63 : goal.returns-then-line-ne63
-returns-then-line-ne63 c = framing-said _ _ (c.no_line.ensures ∙ wrong_length _ c.if-line-ne63.true)
+returns-then-line-ne63 c = let both = framing-said _ _ (c.no_line.ensures ∙ wrong_length _ c.if-line-ne63.true) in record { value = both.0; answer_value = both.1 }
 
 pub loop-k-init : goal.loop-k-init
 loop-k-init c = (omega arith, refl, refl, refl)
@@ -36,7 +36,7 @@ loop-i-init c = (omega arith, refl, refl, refl)
 
 pub loop-i-preserved : goal.loop-i-preserved
 loop-i-preserved c =
-    let t = (c.loop-k.text) in
+    let t = c.loop-k.text in
     let i = c.loop-i.i in
     let v = c.loop-i.invariant in
     let inside : i < length t = omega (arith, c.loop-k.invariant.1) in (
@@ -49,41 +49,63 @@ loop-i-preserved c =
 
 pub returns-then-not-all : goal.returns-then-not-all
 returns-then-not-all c =
-    framing-said _ _ (c.no_line-then-not-all.ensures ∙ wrong_digit _ c.if-line-ne63.false (sym ((let told : c.loop-i.all ≡ all_digits ((c.args.line.now)) = turned ((c.loop-k.text)) c.loop-i.all c.loop-i.i (omega (arith, c.loop-k.invariant.1)) c.loop-i.invariant.3
-    ∙ ap all_digits ((let padded : (c.loop-k.text) ≡ (c.args.line.now) ++ (48 ∷ []) = let v = c.loop-k.invariant in
+    let padded : c.loop-k.text ≡ c.args.line.now ++ (48 ∷ []) =
+    let v = c.loop-k.invariant in
     let end : c.loop-k.k ≡ 63 = omega arith in
-    sym (take-append-drop 63 ((c.loop-k.text))) ∙ rw (v.3, rw end at v.2, take_all 63 ((c.args.line.now)) (omega (arith, c.if-line-ne63.false))) in padded))
-    ∙ same_digits ((c.args.line.now)) in told)) ∙ c.if-not-all.true))
+    sym (take-append-drop 63 (c.loop-k.text)) ∙ rw (v.3, rw end at v.2, take_all 63 (c.args.line.now) (omega (arith, c.if-line-ne63.false)))
+    in
+    let told : c.loop-i.all ≡ all_digits (c.args.line.now) =
+    turned (c.loop-k.text) c.loop-i.all c.loop-i.i (omega (arith, c.loop-k.invariant.1)) c.loop-i.invariant.3
+    ∙ ap all_digits padded
+    ∙ same_digits (c.args.line.now)
+    in
+    let both = framing-said _ _ (c.no_line-then-not-all.ensures ∙ wrong_digit _ c.if-line-ne63.false (sym told ∙ c.if-not-all.true)) in record { value = both.0; answer_value = both.1 }
 
 pub pairs-requires : goal.pairs-requires
-pairs-requires c =
-    let l = (c.args.line.now) in
-    rw ((let valued : c.loop-i.values ≡ map mark ((c.args.line.now) ++ (48 ∷ [])) = let t = (c.loop-k.text) in
+pairs-requires c k =
+    let padded : c.loop-k.text ≡ c.args.line.now ++ (48 ∷ []) =
+    let v = c.loop-k.invariant in
+    let end : c.loop-k.k ≡ 63 = omega arith in
+    sym (take-append-drop 63 (c.loop-k.text)) ∙ rw (v.3, rw end at v.2, take_all 63 (c.args.line.now) (omega (arith, c.if-line-ne63.false)))
+    in
+    let valued : c.loop-i.values ≡ map mark (c.args.line.now ++ (48 ∷ [])) =
+    let t = c.loop-k.text in
     let end : c.loop-i.i ≡ 64 = omega arith in
     copied (map mark t) c.loop-i.values 64 (omega (arith, length-map t mark, c.loop-k.invariant.1)) (omega (arith, c.loop-i.invariant.1)) (rw end at c.loop-i.invariant.2)
-    ∙ ap (map mark) ((let padded : (c.loop-k.text) ≡ (c.args.line.now) ++ (48 ∷ []) = let v = c.loop-k.invariant in
-    let end : c.loop-k.k ≡ 63 = omega arith in
-    sym (take-append-drop 63 ((c.loop-k.text))) ∙ rw (v.3, rw end at v.2, take_all 63 ((c.args.line.now)) (omega (arith, c.if-line-ne63.false))) in padded)) in valued)) (marks_small (l ++ (48 ∷ [])) (same_digits l ∙ (let good : all_digits ((c.args.line.now)) ≡ true = sym ((let told : c.loop-i.all ≡ all_digits ((c.args.line.now)) = turned ((c.loop-k.text)) c.loop-i.all c.loop-i.i (omega (arith, c.loop-k.invariant.1)) c.loop-i.invariant.3
-    ∙ ap all_digits ((let padded : (c.loop-k.text) ≡ (c.args.line.now) ++ (48 ∷ []) = let v = c.loop-k.invariant in
-    let end : c.loop-k.k ≡ 63 = omega arith in
-    sym (take-append-drop 63 ((c.loop-k.text))) ∙ rw (v.3, rw end at v.2, take_all 63 ((c.args.line.now)) (omega (arith, c.if-line-ne63.false))) in padded))
-    ∙ same_digits ((c.args.line.now)) in told)) ∙ c.if-not-all.false in good)) k)
+    ∙ ap (map mark) padded
+    in
+    let told : c.loop-i.all ≡ all_digits (c.args.line.now) =
+    turned (c.loop-k.text) c.loop-i.all c.loop-i.i (omega (arith, c.loop-k.invariant.1)) c.loop-i.invariant.3
+    ∙ ap all_digits padded
+    ∙ same_digits (c.args.line.now)
+    in
+    let good : all_digits (c.args.line.now) ≡ true =
+    sym told ∙ c.if-not-all.false
+    in
+    let l = c.args.line.now in
+    rw valued (marks_small (l ++ (48 ∷ [])) (same_digits l ∙ good) k)
 
 pub returns : goal.returns
 returns c =
-    let l = (c.args.line.now) in
-    let n = c.if-line-ne63.false in
-    let both = framing-said _ _ (all_right l _ n ((let good : all_digits ((c.args.line.now)) ≡ true = sym ((let told : c.loop-i.all ≡ all_digits ((c.args.line.now)) = turned ((c.loop-k.text)) c.loop-i.all c.loop-i.i (omega (arith, c.loop-k.invariant.1)) c.loop-i.invariant.3
-    ∙ ap all_digits ((let padded : (c.loop-k.text) ≡ (c.args.line.now) ++ (48 ∷ []) = let v = c.loop-k.invariant in
+    let padded : c.loop-k.text ≡ c.args.line.now ++ (48 ∷ []) =
+    let v = c.loop-k.invariant in
     let end : c.loop-k.k ≡ 63 = omega arith in
-    sym (take-append-drop 63 ((c.loop-k.text))) ∙ rw (v.3, rw end at v.2, take_all 63 ((c.args.line.now)) (omega (arith, c.if-line-ne63.false))) in padded))
-    ∙ same_digits ((c.args.line.now)) in told)) ∙ c.if-not-all.false in good)) (c.pairs.ensures ∙ ap paired ((let valued : c.loop-i.values ≡ map mark ((c.args.line.now) ++ (48 ∷ [])) = let t = (c.loop-k.text) in
+    sym (take-append-drop 63 (c.loop-k.text)) ∙ rw (v.3, rw end at v.2, take_all 63 (c.args.line.now) (omega (arith, c.if-line-ne63.false)))
+    in
+    let told : c.loop-i.all ≡ all_digits (c.args.line.now) =
+    turned (c.loop-k.text) c.loop-i.all c.loop-i.i (omega (arith, c.loop-k.invariant.1)) c.loop-i.invariant.3
+    ∙ ap all_digits padded
+    ∙ same_digits (c.args.line.now)
+    in
+    let good : all_digits (c.args.line.now) ≡ true =
+    sym told ∙ c.if-not-all.false
+    in
+    let valued : c.loop-i.values ≡ map mark (c.args.line.now ++ (48 ∷ [])) =
+    let t = c.loop-k.text in
     let end : c.loop-i.i ≡ 64 = omega arith in
     copied (map mark t) c.loop-i.values 64 (omega (arith, length-map t mark, c.loop-k.invariant.1)) (omega (arith, c.loop-i.invariant.1)) (rw end at c.loop-i.invariant.2)
-    ∙ ap (map mark) ((let padded : (c.loop-k.text) ≡ (c.args.line.now) ++ (48 ∷ []) = let v = c.loop-k.invariant in
-    let end : c.loop-k.k ≡ 63 = omega arith in
-    sym (take-append-drop 63 ((c.loop-k.text))) ∙ rw (v.3, rw end at v.2, take_all 63 ((c.args.line.now)) (omega (arith, c.if-line-ne63.false))) in padded)) in valued)) ∙ framed l n ((let good : all_digits ((c.args.line.now)) ≡ true = sym ((let told : c.loop-i.all ≡ all_digits ((c.args.line.now)) = turned ((c.loop-k.text)) c.loop-i.all c.loop-i.i (omega (arith, c.loop-k.invariant.1)) c.loop-i.invariant.3
-    ∙ ap all_digits ((let padded : (c.loop-k.text) ≡ (c.args.line.now) ++ (48 ∷ []) = let v = c.loop-k.invariant in
-    let end : c.loop-k.k ≡ 63 = omega arith in
-    sym (take-append-drop 63 ((c.loop-k.text))) ∙ rw (v.3, rw end at v.2, take_all 63 ((c.args.line.now)) (omega (arith, c.if-line-ne63.false))) in padded))
-    ∙ same_digits ((c.args.line.now)) in told)) ∙ c.if-not-all.false in good)))) in record { value = both.0; answer_value = both.1 }
+    ∙ ap (map mark) padded
+    in
+    let l = c.args.line.now in
+    let n = c.if-line-ne63.false in
+    let both = framing-said _ _ (all_right l _ n good (c.pairs.ensures ∙ ap paired valued ∙ framed l n good)) in record { value = both.0; answer_value = both.1 }

@@ -14,16 +14,22 @@ loop-i-init c = (omega arith, refl, refl)
 
 pub loop-i-preserved : goal.loop-i-preserved
 loop-i-preserved c =
+    let as_long : length (paired c.args.values) ≡ 32 =
+    length-paired c.args.values ∙ ap (λ (n : ℕ). (n + 1) / 2) c.well_formed.0.1.0.1
+    in
     let values = c.args.values in
     let v = c.loop-i.invariant in (
       omega arith,
       length-set c.loop-i.frame c.loop-i.i _ ∙ v.1,
       ap (λ (x : ℕ). take (c.loop-i.i + 1) (set c.loop-i.frame c.loop-i.i x)) (sym (paired_at values c.loop-i.i))
-          ∙ copy_more (paired values) c.loop-i.frame c.loop-i.i (omega (arith, (let as_long : length (paired c.args.values) ≡ 32 = length-paired c.args.values ∙ ap (λ (n : ℕ). (n + 1) / 2) c.well_formed.0.1.0.1 in as_long))) (omega arith) v.2,
+          ∙ copy_more (paired values) c.loop-i.frame c.loop-i.i (omega (arith, as_long)) (omega arith) v.2,
     )
 
 pub returns : goal.returns
 returns c =
+    let as_long : length (paired c.args.values) ≡ 32 =
+    length-paired c.args.values ∙ ap (λ (n : ℕ). (n + 1) / 2) c.well_formed.0.1.0.1
+    in
     let v = c.loop-i.invariant in
     let end : c.loop-i.i ≡ 32 = omega arith in
-    copied (paired c.args.values) c.loop-i.frame 32 (omega (arith, (let as_long : length (paired c.args.values) ≡ 32 = length-paired c.args.values ∙ ap (λ (n : ℕ). (n + 1) / 2) c.well_formed.0.1.0.1 in as_long))) (omega arith) (rw end at v.2)
+    copied (paired c.args.values) c.loop-i.frame 32 (omega (arith, as_long)) (omega arith) (rw end at v.2)
