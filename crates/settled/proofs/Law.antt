@@ -23,7 +23,10 @@ both at p q i = (read_off (λ x. x) p.0 q.0 i, read_off at p.1 q.1 i)
 pub beside : {P Q R S C : Type 0} → (P → Q → C) → P × R → Q × S → C
 beside law p q = law p.0 q.0
 
--- ---- which of the parameters is the lent buffer: of two, of two, of three, of four. The last values of the others say nothing
+-- ---- which of the parameters is the lent buffer: of one, of two, of two, of three, of four. The last values of the others say nothing
+abbrev pub only : {B : Type 0} → B → B × Unit {0}
+only b = (b, tt)
+
 abbrev pub first : {B : Type 0} → B → B × (Unit {0} × Unit {0})
 first b = (b, (tt, tt))
 

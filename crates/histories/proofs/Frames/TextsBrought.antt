@@ -29,7 +29,6 @@ use Rattle.histories.proofs.Soundness.Tested.{sound_tested}
 use Rattle.histories.proofs.Frames.StoreStates.{opened_stands, stands_sound}
 use Rattle.rows.specs.declared.common.Common.{Common}
 use Rattle.report.specs.declared.body.Body.TheVariants.{Nankai}
-use Rattle.report.proofs.PaperValues.{number}
 
 -- ---- names compared
 

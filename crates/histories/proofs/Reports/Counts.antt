@@ -57,11 +57,11 @@ counted_front P k l (suc n) h m =
     by : (b : Bool) → eqb (get_or l n no_page).mark k ≡ b → count_marked k (take (suc n) l) ≡ count_marked k (take n l) + count_marked k (get_or l n no_page ∷ [])
         → Counted P n (count_marked k (take n l)) → Counted P (suc n) (count_marked k (take (suc n) l))
     by true e split rest =
-        let same = eqb-true _ _ e in
+        let same : (get_or l n no_page).mark ≡ k = eqb-true _ _ e in
         let more : count_marked k (take (suc n) l) ≡ suc (count_marked k (take n l)) = split ∙ omega (arith, marked_one k (get_or l n no_page) same) in
         subst (λ (x : ℕ). Counted P (suc n) x) (sym more) (one_more rest (m.has n (omega arith) same))
     by false e split rest =
-        let differ = eqb-false _ _ e in
+        let differ : (get_or l n no_page).mark ≡ k → ⊥ = eqb-false _ _ e in
         let as_many : count_marked k (take (suc n) l) ≡ count_marked k (take n l) = split ∙ omega (arith, marked_other k (get_or l n no_page) differ) in
         subst (λ (x : ℕ). Counted P (suc n) x) (sym as_many) (no_more rest (λ q. differ (m.is n (omega arith) q)))
 

@@ -1,13 +1,7 @@
-use mathlib.Core.Path.{◌≡◌, ◌∙◌, ap, sym}
-use mathlib.Core.Bool.{not}
+use mathlib.Core.Path.{◌≡◌}
 use mathlib.Core.List.{List}
-use mathlib.Core.Logic.{⊎_elim}
 use Prim.Native.Nat.{ℕ, ◌-◌, ◌≤◌, ◌<◌}
-use native.Mathlib.Omega.{arith}
 use lib.ListN.{get_or}
-use borrow.Author.Count.{below_more}
-use Rattle.rows.proofs.Rules.Tests.{below?, eq_same, ne_same}
-use Rattle.record_bytes.proofs.FromBytes.Stray.{eight_stray, eight_zeros, none_stray, one_stray}
 use Rattle.record_bytes.proofs.from_bytes.has_stray.Given as goal
 
 -- `record_bytes::from_bytes::has_stray` meets its contract: the bytes passed are zeros.

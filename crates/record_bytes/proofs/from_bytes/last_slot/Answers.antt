@@ -1,5 +1,4 @@
 -- `record_bytes::from_bytes::last_slot` meets its contract.
-use borrow.Author.Rules.{rules}
 use Rattle.record_bytes.proofs.from_bytes.last_slot.Goals as goal
 
 pub returns-then-stray : goal.returns-then-stray

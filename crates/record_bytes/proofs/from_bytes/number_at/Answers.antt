@@ -1,7 +1,6 @@
 -- `record_bytes::from_bytes::number_at` meets its contract.
-use borrow.Author.Rules.{rules}
 use mathlib.Core.Path.{◌≡◌, ◌∙◌, ap, refl}
-use Prim.Native.Nat.{◌-◌, ◌+◌, ◌*◌, ◌^◌, ◌≤◌, ◌<◌}
+use Prim.Native.Nat.{◌+◌, ◌*◌, ◌^◌, ◌<◌}
 use native.Mathlib.Omega.{arith}
 use Rattle.record_bytes.specs.Unpacked.{number_at}
 use Rattle.record_bytes.proofs.Cells.{number_next, seven_bytes}
@@ -23,7 +22,7 @@ overflow_add-sum c = omega (
   arith,
   (let small : c.loop-k.sum < 2 ^ 56 = let l = c.loop-k in
       let a = c.args in
-      rw l.invariant.1 (seven_bytes a.bytes.now a.at l.k (λ i. omega (arith, c.shared_slice_known-1.given i)) (omega arith) (omega arith)) in small),
+      rw l.invariant.1 (seven_bytes a.bytes.now a.at l.k (λ i. omega (arith, c.type_inv.bytes i)) (omega arith) (omega arith)) in small),
   (let byte : c.wide.result < 256 = let l = c.loop-k in
       let a = c.args in
       omega (arith, c.wide.ensures, c.type_inv.bytes (a.at + l.k)) in byte),

@@ -1,9 +1,6 @@
-use borrow.Author.Rules.{rules}
-use mathlib.Core.Path.{◌≡◌, ◌∙◌, ap, refl}
-use Prim.Native.Nat.{◌-◌, ◌+◌, ◌*◌, ◌^◌, ◌≤◌, ◌<◌}
-use native.Mathlib.Omega.{arith}
+use mathlib.Core.Path.{◌≡◌}
+use Prim.Native.Nat.{◌-◌, ◌≤◌}
 use Rattle.record_bytes.specs.Unpacked.{number_at}
-use Rattle.record_bytes.proofs.Cells.{number_next, seven_bytes}
 use Rattle.record_bytes.proofs.from_bytes.number_at.Given as goal
 
 -- `record_bytes::from_bytes::number_at` meets its contract.

@@ -1,9 +1,7 @@
 -- `record_bytes::from_bytes::read_cells` meets its contract.
-use borrow.Author.Rules.{rules}
 use mathlib.Core.Path.{◌≡◌, ◌∙◌, ap, sym}
 use Prim.Native.Nat.{ℕ, ◌+◌, ◌-◌, ◌*◌, ◌/◌, ◌^◌, ◌≤◌}
 use native.Mathlib.Omega.{arith}
-use mathlib.Core.List.{◌++◌}
 use lib.ListN.{length, get_or, take, drop, replicate, length-replicate, length-set}
 use lib.Seq.{drop-length}
 use Rattle.rows.specs.Runs.Fields.{bytes_for}

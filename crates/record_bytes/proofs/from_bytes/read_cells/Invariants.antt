@@ -1,13 +1,8 @@
-use borrow.Author.Rules.{rules}
-use mathlib.Core.Path.{◌≡◌, ◌∙◌, ap, sym}
-use Prim.Native.Nat.{ℕ, ◌+◌, ◌-◌, ◌*◌, ◌/◌, ◌^◌, ◌≤◌}
-use native.Mathlib.Omega.{arith}
+use mathlib.Core.Path.{◌≡◌}
+use Prim.Native.Nat.{◌+◌, ◌-◌, ◌≤◌}
 use mathlib.Core.List.{◌++◌}
-use lib.ListN.{length, get_or, take, drop, replicate, length-replicate, length-set}
-use lib.Seq.{drop-length}
-use Rattle.rows.specs.Runs.Fields.{bytes_for}
-use Rattle.record_bytes.specs.Unpacked.{cells_at, number_at, size}
-use Rattle.record_bytes.proofs.Cells.{cell_set, cells_read, front_of_eight, next_place, size-at, size_read}
+use lib.ListN.{length, take, replicate}
+use Rattle.record_bytes.specs.Unpacked.{cells_at, size}
 use Rattle.record_bytes.proofs.from_bytes.read_cells.Given as goal
 
 -- `record_bytes::from_bytes::read_cells` meets its contract.

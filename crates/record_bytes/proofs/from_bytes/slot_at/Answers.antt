@@ -1,5 +1,4 @@
 -- `record_bytes::from_bytes::slot_at` meets its contract.
-use borrow.Author.Rules.{rules}
 use Rattle.record_bytes.proofs.from_bytes.slot_at.Goals as goal
 
 pub returns : goal.returns

@@ -5,7 +5,6 @@ use mathlib.Core.Path.{◌≡◌, ap}
 use Prim.Native.Nat.{ℕ, ◌+◌, ◌*◌}
 use native.Mathlib.Omega.{arith}
 use lib.ListN.{length}
-use borrow.Author.Rules.{rules}
 use Rattle.rows.specs.Values.{each}
 use Rattle.slots.specs.declared.slot.Slot.{Slot}
 use Rattle.record_bytes.specs.Unpacked.{misplaced, slot_at, slots_from, slots_or_misplaced}

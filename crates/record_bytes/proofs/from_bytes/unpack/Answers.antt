@@ -4,7 +4,6 @@ use native.Mathlib.Omega.{arith}
 use borrow.Author.Tests.{eq-eqb, ne_eqb}
 use Rattle.record_bytes.specs.Unpacked.{unpacked_as, record_from}
 use Rattle.record_bytes.proofs.Texts.{text-found}
-use borrow.Author.Rules.{rules}
 use Rattle.record_bytes.proofs.from_bytes.unpack.Goals as goal
 
 pub returns-then-bytes-ne-RECORD_SIZE : goal.returns-then-bytes-ne-RECORD_SIZE

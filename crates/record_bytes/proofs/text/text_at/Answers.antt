@@ -1,11 +1,10 @@
 -- `record_bytes::text::text_at` meets its contract: the bytes passed are the text's.
 use mathlib.Core.Path.{◌≡◌, refl, sym, ap, ◌∙◌}
-use mathlib.Core.List.{List, ◌++◌}
-use Prim.Native.Nat.{ℕ, ◌+◌, ◌-◌, ◌≤◌}
+use mathlib.Core.List.{◌++◌}
+use Prim.Native.Nat.{ℕ, ◌-◌}
 use native.Mathlib.Omega.{arith}
-use lib.ListN.{length, get_or, replicate, length-set}
+use lib.ListN.{replicate, length-set}
 use borrow.Author.Tests.{leb-true}
-use borrow.Author.Rules.{rules}
 use Rattle.rows.specs.Values.{each}
 use Rattle.rows.proofs.Layouts.Filling.{fill, filled}
 use Rattle.record_bytes.proofs.Texts.{text-found, text_not_there}

@@ -1,10 +1,8 @@
 -- `record_bytes::to_bytes::pack` meets its contract.
 use mathlib.Core.Path.{◌≡◌, ◌∙◌, sym}
 use lib.ListN.{length}
-use Rattle.bits.proofs.Arrays.{unmapped}
 use Rattle.lent.proofs.Chains.{wrote_as}
 use Rattle.record_bytes.proofs.ToBytes.Whole.{into_right, into_wrong, packed_in_parts, room_for_slots}
-use borrow.Author.Rules.{rules}
 use Rattle.record_bytes.proofs.to_bytes.pack.Goals as goal
 
 pub put_slots-text_at-requires : goal.put_slots-text_at-requires

@@ -1,14 +1,9 @@
-use borrow.Author.Rules.{rules}
-use mathlib.Core.Path.{◌≡◌, ◌∙◌, ap, refl}
-use Prim.Native.Nat.{ℕ, ◌+◌, ◌-◌, ◌*◌, ◌%◌, ◌^◌, ◌≤◌, ◌<◌}
-use native.Mathlib.Omega.{arith}
-use lib.ListN.{length, get_or, take, drop, drop_of_length-le}
+use mathlib.Core.Path.{◌≡◌}
+use Prim.Native.Nat.{◌+◌, ◌-◌, ◌≤◌}
+use lib.ListN.{length, take}
 use lib.Seq.{sets}
-use Rattle.lent.specs.Numbers.{wide}
 use Rattle.record_bytes.specs.Packed.{cells}
 use Rattle.record_bytes.specs.Unpacked.{size}
-use Rattle.record_bytes.proofs.Cells.{next_place, size_split}
-use Rattle.record_bytes.proofs.ToBytes.EightBytes.{cell_more, cells_put}
 use Rattle.record_bytes.proofs.to_bytes.put_cells.Given as goal
 
 -- `record_bytes::to_bytes::put_cells` meets its contract.

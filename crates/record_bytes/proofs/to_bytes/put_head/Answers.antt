@@ -1,5 +1,4 @@
 -- `record_bytes::to_bytes::put_head` meets its contract.
-use borrow.Author.Rules.{rules}
 use Rattle.record_bytes.proofs.to_bytes.put_head.Goals as goal
 
 pub returns : goal.returns

@@ -1,13 +1,12 @@
 -- `record_bytes::to_bytes::put_number` meets its contract: the bytes passed are in their places.
 use mathlib.Core.Path.{◌≡◌, refl, sym, ap, ◌∙◌}
-use Prim.Native.Nat.{◌+◌, ◌-◌, ◌≤◌, ◌<◌}
+use Prim.Native.Nat.{◌+◌, ◌<◌}
 use native.Mathlib.Omega.{arith}
-use lib.ListN.{length, get_or, set, take, length-set}
+use lib.ListN.{length, get_or, set, length-set}
 use lib.Seq.{sets, take_all}
 use Rattle.lent.specs.Numbers.{wide}
 use Rattle.lent.proofs.Chains.{set_more}
 use Rattle.lent.proofs.Wide.{byte_of_wide, length-wide}
-use borrow.Author.Rules.{rules}
 use Rattle.record_bytes.proofs.to_bytes.put_number.Goals as goal
 
 pub loop-k-init : goal.loop-k-init

@@ -1,12 +1,8 @@
-use mathlib.Core.Path.{◌≡◌, refl, sym, ap, ◌∙◌}
-use Prim.Native.Nat.{◌+◌, ◌-◌, ◌≤◌, ◌<◌}
-use native.Mathlib.Omega.{arith}
-use lib.ListN.{length, get_or, set, take, length-set}
-use lib.Seq.{sets, take_all}
+use mathlib.Core.Path.{◌≡◌}
+use Prim.Native.Nat.{◌-◌, ◌≤◌}
+use lib.ListN.{length, take}
+use lib.Seq.{sets}
 use Rattle.lent.specs.Numbers.{wide}
-use Rattle.lent.proofs.Chains.{set_more}
-use Rattle.lent.proofs.Wide.{byte_of_wide, length-wide}
-use borrow.Author.Rules.{rules}
 use Rattle.record_bytes.proofs.to_bytes.put_number.Given as goal
 
 -- `record_bytes::to_bytes::put_number` meets its contract: the bytes passed are in their places.

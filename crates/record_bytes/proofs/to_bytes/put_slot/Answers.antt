@@ -5,7 +5,6 @@ use Prim.Native.Nat.{ℕ}
 use lib.Seq.{sets}
 use Rattle.lent.specs.Numbers.{wide}
 use Rattle.lent.proofs.Backwards.{sets_before}
-use borrow.Author.Rules.{rules}
 use Rattle.record_bytes.proofs.to_bytes.put_slot.Goals as goal
 
 pub returns : goal.returns

@@ -1,12 +1,8 @@
-use mathlib.Core.Path.{◌≡◌, refl, ◌∙◌}
+use mathlib.Core.Path.{◌≡◌}
 use Prim.Native.Nat.{◌-◌, ◌≤◌}
-use native.Mathlib.Omega.{arith}
 use lib.ListN.{length, take}
-use lib.Seq.{sets, take_all}
-use Rattle.lent.proofs.Chains.{placed}
+use lib.Seq.{sets}
 use Rattle.record_bytes.specs.Packed.{slots_bytes}
-use Rattle.record_bytes.proofs.ToBytes.Slots.{length_slots, slot_more}
-use borrow.Author.Rules.{rules}
 use Rattle.record_bytes.proofs.to_bytes.put_slots.Given as goal
 
 -- `record_bytes::to_bytes::put_slots` meets its contract: the slots passed are in their places.

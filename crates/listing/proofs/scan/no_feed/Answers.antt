@@ -1,0 +1,23 @@
+-- `listing::scan::no_feed` meets its contract: while nothing was found, no line feed has been passed.
+use mathlib.Core.Path.{◌≡◌}
+use mathlib.Core.Bool.{true}
+use Prim.Native.Nat.{ℕ, ◌+◌, ◌-◌, ◌≤◌, ◌<◌}
+use native.Mathlib.Omega.{arith}
+use lib.ListN.{get_or}
+use Rattle.listing.proofs.Chunks.ByteByByte.{no_feed_more}
+use borrow.Author.Rules.{rules}
+use Rattle.listing.proofs.scan.no_feed.Goals as goal
+
+pub loop-i-init : goal.loop-i-init
+loop-i-init c = (omega arith, λ e k h l f. omega arith)
+
+pub loop-i-preserved : goal.loop-i-preserved
+loop-i-preserved c =
+    (omega arith, no_feed_more c.args.s.now c.args.from c.loop-i.i c.loop-i.none c.loop-i.invariant.1)
+
+pub returns : goal.returns
+returns c =
+    λ e k h l f.
+    let a = c.args in
+    let same : a.from + (k - a.from) ≡ k = omega arith in
+    c.loop-i.invariant.1 e (k - a.from) (omega arith) (omega arith) (rw same f)

@@ -1,0 +1,16 @@
+use mathlib.Core.Path.{◌≡◌, refl, sym, ◌∙◌}
+use mathlib.Core.Bool.{◌&&◌}
+use Prim.Native.Nat.{◌-◌, ◌≤◌}
+use native.Mathlib.Omega.{arith}
+use lib.ListN.{length, drop}
+use borrow.Author.Rules.{rules}
+use Rattle.sentence.specs.Sentences.{begins}
+use Rattle.sentence.proofs.Beginnings.{begun_more, begun_all, too_short}
+use Rattle.sentence.proofs.form.begins.Given as goal
+
+-- `sentence::form::begins` meets its contract: what is left to compare from here is what was to be compared.
+abbrev pub invariant-loop-i : goal.invariant-loop-i
+invariant-loop-i l = (l.i ≤ length l.head) × (l.same && begins (drop l.i l.head) (drop l.i l.s) ≡ begins l.head l.s)
+
+abbrev pub decreases-loop-i : goal.decreases-loop-i
+decreases-loop-i l = length l.head - l.i
