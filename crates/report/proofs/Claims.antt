@@ -10,7 +10,7 @@ use Rattle.bits.specs.Frame.{Bytes, bytes_of, field_of}
 use Rattle.rows.specs.declared.refusal.Verdict.{Verdict}
 use Rattle.rows.specs.declared.refusal.Verdict.TheVariants.{Fine, Refused}
 use Rattle.rows.specs.declared.refusal.Refusal.{Refusal}
-use Rattle.rows.specs.declared.refusal.Refusal.TheVariants.{Range, Gap, Unused}
+use Rattle.rows.specs.declared.refusal.Refusal.TheVariants.{Range, Gap, Unused, Sentence, Checksum, Satellite}
 use Rattle.report.specs.declared.record.Record.{Record}
 use Rattle.rows.specs.Refusals.{says, answers}
 use Rattle.rows.specs.Layout.{all_rows, tiles, all_fit, lowest, Row, Rule, spare_row, Member, codes_of, group, ungrouped}
@@ -33,7 +33,7 @@ use Rattle.report.proofs.Reading.Frames.{layout_of, frame_values, conforming_fin
 use Rattle.rows.proofs.Layouts.Lengths.{Filled, frame-filled}
 use Rattle.slots.proofs.Used.{counted_used}
 use Rattle.report.proofs.Reading.Used.{InPrefecture, others-empty, told_activity, used_area, used_flood-area, used_place, used_prefecture, used_slot_kept, used_volcano-place}
-use Rattle.rows.proofs.Rules.Numbers.{answered_value, answers_not_nine, not_nine, says_apart, says-numbered, zero_fine}
+use Rattle.rows.proofs.Rules.Numbers.{answered_value, answers_not_nine, not_nine, numbered_without_sentences, says_apart, says-numbered, zero_fine}
 use Rattle.report.proofs.Reading.Looks.{read_look, refused_look}
 use Rattle.report.proofs.Reading.ReadNumbers.{read_ten, refused_zeros}
 use Rattle.report.proofs.Reading.ReadSteps.{answer_found}
@@ -270,6 +270,10 @@ answers_tell_refusals_apart x y e = says_apart x y e
 -- A refusal has one of the numbers of that table, so none has number 0 ..
 pub refusals_are_1_to_20 : (x : Refusal) → (1 ≤ (says x).number) × ((says x).number ≤ 20)
 refusals_are_1_to_20 x = says-numbered x
+
+-- .. of which 18 to 20 speak of a receiver's sentence: a refusal of a frame, a record, a store or a line has one of 1 to 17
+pub refusals_are_1_to_17 : (x : Refusal) → (x ≡ Sentence → ⊥) → (x ≡ Checksum → ⊥) → (x ≡ Satellite → ⊥) → (1 ≤ (says x).number) × ((says x).number ≤ 17)
+refusals_are_1_to_17 = numbered_without_sentences
 
 -- .. and where a promise says 0 nothing is refused: "answer (0 when read)".
 pub zero_says_that_nothing_is_refused : (v : Verdict) → (answers v).number ≡ 0 → v ≡ Fine

@@ -90,6 +90,27 @@ says-numbered Sentence = (lit≤ tt, lit≤ tt)
 says-numbered Checksum = (lit≤ tt, lit≤ tt)
 says-numbered Satellite = (lit≤ tt, lit≤ tt)
 
+-- of a frame, a record and a store it is 1 to 17: three more speak of a receiver's sentence
+said_of_sentence : (a : Said) → a.number ≡ 18 → unsaid a ≡ Sentence
+unfolding unsaid
+said_of_sentence a e = rw e
+
+said_of_checksum : (a : Said) → a.number ≡ 19 → unsaid a ≡ Checksum
+unfolding unsaid
+said_of_checksum a e = rw e
+
+said_of_satellite : (a : Said) → a.number ≡ 20 → unsaid a ≡ Satellite
+unfolding unsaid
+said_of_satellite a e = rw e
+
+pub numbered_without_sentences : (x : Refusal) → (x ≡ Sentence → ⊥) → (x ≡ Checksum → ⊥) → (x ≡ Satellite → ⊥) → (1 ≤ (says x).number) × ((says x).number ≤ 17)
+numbered_without_sentences x s c t =
+    let n = says-numbered x in
+    let not_18 : (says x).number ≡ 18 → ⊥ = λ e. s (sym (unsaid_says x) ∙ said_of_sentence (says x) e) in
+    let not_19 : (says x).number ≡ 19 → ⊥ = λ e. c (sym (unsaid_says x) ∙ said_of_checksum (says x) e) in
+    let not_20 : (says x).number ≡ 20 → ⊥ = λ e. t (sym (unsaid_says x) ∙ said_of_satellite (says x) e) in
+    (n.0, omega arith)
+
 -- "9 no longer occurs": its place in the list stands for another
 unsaid_nine : (a : Said) → a.number ≡ 9 → unsaid a ≡ Line
 unfolding unsaid

@@ -1,13 +1,10 @@
 -- `bulletin::text::page_length` meets its contract: the bytes in front decide.
-use mathlib.Core.Path.{◌≡◌, refl, sym, ap, ◌∙◌}
+use mathlib.Core.Path.{◌≡◌, sym, ap, ◌∙◌}
 use Prim.Native.Nat.{ℕ}
 use native.Mathlib.Omega.{arith}
 use Rattle.bulletin.specs.Text.{text_length}
 use Rattle.bulletin.proofs.Telling.PageBytes.{len_stop, len_more}
 use Rattle.bulletin.proofs.text.page_length.Goals as goal
-
-pub loop-n-init : goal.loop-n-init
-loop-n-init c = (omega arith, refl)
 
 pub returns-then-text-m-ne0 : goal.returns-then-text-m-ne0
 returns-then-text-m-ne0 c =

@@ -1,5 +1,6 @@
 -- `bulletin::store::Store::is_sound` meets its contract: the pages that are left decide.
-use mathlib.Core.Path.{◌≡◌, refl, ◌∙◌, sym}
+use borrow.Author.Rules.{rules}
+use mathlib.Core.Path.{◌≡◌, ◌∙◌, sym}
 use native.Mathlib.Omega.{arith}
 use lib.ListN.{length}
 use Rattle.bulletin.specs.Stores.{sound_store}
@@ -10,24 +11,21 @@ pub returns-then-not-is_in_range : goal.returns-then-not-is_in_range
 unfolding sound_store
 returns-then-not-is_in_range c = simp (sym c.is_in_range.ensures ∙ c.if-not-is_in_range.true)
 
-pub loop-i-init : goal.loop-i-init
-loop-i-init c = (omega arith, refl)
-
 pub returns-then-not-is_sound_at : goal.returns-then-not-is_sound_at
 unfolding sound_store
 returns-then-not-is_sound_at c =
-    let long = (let long_of : length c.args.self.pages ≡ 63 = c.well_formed.0.1.1.1.0.1.0.1 in long_of) in
+    let long : length c.args.self.pages ≡ 63 = search rules in
     simp (sym c.is_in_range.ensures ∙ c.if-not-is_in_range.false)
     (sym (sound_stop c.args.self.name.total c.args.self.pages c.loop-i.i (omega arith) (sym c.is_sound_at.ensures ∙ c.if-not-is_sound_at.true)) ∙ c.loop-i.invariant.1)
 
 pub loop-i-preserved : goal.loop-i-preserved
 loop-i-preserved c =
-    let long = (let long_of : length c.args.self.pages ≡ 63 = c.well_formed.0.1.1.1.0.1.0.1 in long_of) in
+    let long : length c.args.self.pages ≡ 63 = search rules in
     (omega arith, sym (sound_more c.args.self.name.total c.args.self.pages c.loop-i.i (omega arith) (sym c.is_sound_at.ensures ∙ c.if-not-is_sound_at.false)) ∙ c.loop-i.invariant.1)
 
 pub returns : goal.returns
 unfolding sound_store
 returns c =
-    let long = (let long_of : length c.args.self.pages ≡ 63 = c.well_formed.0.1.1.1.0.1.0.1 in long_of) in
+    let long : length c.args.self.pages ≡ 63 = search rules in
     simp (sym c.is_in_range.ensures ∙ c.if-not-is_in_range.false)
     (sym (sound_end c.args.self.name.total c.args.self.pages c.loop-i.i (omega arith)) ∙ c.loop-i.invariant.1)

@@ -1,4 +1,5 @@
 -- `bulletin::store::Store::marked` meets its contract: those counted and those left are all.
+use borrow.Author.Rules.{rules}
 use mathlib.Core.Path.{◌≡◌}
 use Prim.Native.Nat.{◌<◌}
 use native.Mathlib.Omega.{arith}
@@ -11,7 +12,7 @@ pub loop-i-preserved : goal.loop-i-preserved
 loop-i-preserved c =
     let l = c.args.self.pages in
     let i = c.loop-i.i in
-    let size = (let long : length c.args.self.pages ≡ 63 = c.well_formed.0.1.1.1.0.1.0.1 in long) in
+    let size : length c.args.self.pages ≡ 63 = search rules in
     let there : i < length l = omega arith in
     elim c.if-page-mark.branch [
       | then-page-mark w ↦ (omega arith, omega arith, omega (arith, marked_here c.args.mark l i there w.if-page-mark.true))
@@ -20,5 +21,5 @@ loop-i-preserved c =
 
 pub returns : goal.returns
 returns c =
-    let size = (let long : length c.args.self.pages ≡ 63 = c.well_formed.0.1.1.1.0.1.0.1 in long) in
+    let size : length c.args.self.pages ≡ 63 = search rules in
     omega (arith, marked_end c.args.mark c.args.self.pages c.loop-i.i (omega arith))

@@ -1,4 +1,5 @@
 -- `bulletin::store::Store::take` meets its contract.
+use borrow.Author.Rules.{rules}
 use mathlib.Core.Path.{◌≡◌, ap, sym, ◌∙◌}
 use native.Mathlib.Omega.{arith}
 use Rattle.bulletin.specs.Takings.{admission, admission_verdict}
@@ -18,14 +19,19 @@ returns-in_default-written c =
 
 pub returns-in_default-admitted : goal.returns-in_default-admitted
 returns-in_default-admitted c =
-    let both = taken-said _ _ _ (taken_refused _ _ c.verdict.result _ _ (c.verdict.ensures ∙ ap admission_verdict c.in_default-admitted.is) c.refused-in_default-admitted.ensures (sym ((let admitted : c.admit-admitted.result ≡ admission c.args.self c.args.came = let sound = sound_store_lem _ _ c.soundness-sound.ensures c.in-Fine.is in
-    c.admit-admitted.ensures ∙ writable_record _ _ _ sound c.write_answer-written.ensures.value c.in-Fine-written.is in admitted)) ∙ c.in_default-admitted.is)) in record { value = both.0; answer_value = both.1 }
+    let sound = sound_store_lem _ _ c.soundness-sound.ensures c.in-Fine.is in
+    let admitted : c.admit-admitted.result ≡ admission c.args.self c.args.came =
+    c.admit-admitted.ensures ∙ writable_record _ _ _ sound c.write_answer-written.ensures.value c.in-Fine-written.is in
+    let both = taken-said _ _ _ (taken_refused _ _ c.verdict.result _ _ (c.verdict.ensures ∙ ap admission_verdict c.in_default-admitted.is) c.refused-in_default-admitted.ensures (sym admitted ∙ c.in_default-admitted.is)) in record { value = both.0; answer_value = both.1 }
 
 pub put-requires : goal.put-requires
 put-requires c =
-    let m = admits _ _ _ (sym ((let admitted : c.admit-admitted.result ≡ admission c.args.self c.args.came = let sound = sound_store_lem _ _ c.soundness-sound.ensures c.in-Fine.is in
-    c.admit-admitted.ensures ∙ writable_record _ _ _ sound c.write_answer-written.ensures.value c.in-Fine-written.is in admitted)) ∙ c.in-Number.is) in
-    let d = numbered _ _ ((let shaped : Shaped c.args.came = record { slots = c.well_formed.1.0.1.1.1.1.1.1.0.1.0.1; text = c.well_formed.1.0.1.1.1.1.1.1.1.0.1.0.1 } in shaped)) m.valid m.is in
+    let sound = sound_store_lem _ _ c.soundness-sound.ensures c.in-Fine.is in
+    let admitted : c.admit-admitted.result ≡ admission c.args.self c.args.came =
+    c.admit-admitted.ensures ∙ writable_record _ _ _ sound c.write_answer-written.ensures.value c.in-Fine-written.is in
+    let m = admits _ _ _ (sym admitted ∙ c.in-Number.is) in
+    let shaped : Shaped c.args.came = record { slots = search rules; text = search rules } in
+    let d = numbered _ _ shaped m.valid m.is in
     let l = d.low in
     let h = d.high in
     let t = d.most in
@@ -34,5 +40,7 @@ put-requires c =
 
 pub returns : goal.returns
 returns c =
-    let both = taken-said _ _ _ (taken_in _ _ c.admit-admitted.result _ _ ((let admitted : c.admit-admitted.result ≡ admission c.args.self c.args.came = let sound = sound_store_lem _ _ c.soundness-sound.ensures c.in-Fine.is in
-    c.admit-admitted.ensures ∙ writable_record _ _ _ sound c.write_answer-written.ensures.value c.in-Fine-written.is in admitted)) c.in-Number.is c.put.ensures) in record { value = both.0; answer_value = both.1 }
+    let sound = sound_store_lem _ _ c.soundness-sound.ensures c.in-Fine.is in
+    let admitted : c.admit-admitted.result ≡ admission c.args.self c.args.came =
+    c.admit-admitted.ensures ∙ writable_record _ _ _ sound c.write_answer-written.ensures.value c.in-Fine-written.is in
+    let both = taken-said _ _ _ (taken_in _ _ c.admit-admitted.result _ _ admitted c.in-Number.is c.put.ensures) in record { value = both.0; answer_value = both.1 }

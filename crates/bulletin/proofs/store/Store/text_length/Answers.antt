@@ -1,5 +1,6 @@
 -- `bulletin::store::Store::text_length` meets its contract: the pages in front decide.
-use mathlib.Core.Path.{◌≡◌, refl, sym, ap, ◌∙◌}
+use borrow.Author.Rules.{rules}
+use mathlib.Core.Path.{◌≡◌, sym, ap, ◌∙◌}
 use Prim.Native.Nat.{ℕ, ◌-◌, ◌*◌}
 use native.Mathlib.Omega.{arith}
 use lib.ListN.{length, get_or}
@@ -9,24 +10,23 @@ use Rattle.bulletin.specs.Text.{bytes_in_order, text_length}
 use Rattle.bulletin.proofs.Telling.PageBytes.{Eighteen, last_page, page_of_zeros, text_length-most}
 use Rattle.bulletin.proofs.store.Store.text_length.Goals as goal
 
-pub loop-i-init : goal.loop-i-init
-loop-i-init c = (omega arith, refl)
-
 pub overflow_add-result : goal.overflow_add-result
 overflow_add-result c =
     omega (arith, c.page_length-n.ensures, text_length-most 18 (get_or c.args.self.pages (c.loop-i.i - 1) no_page).text)
 
 pub returns-then-n-gt0 : goal.returns-then-n-gt0
 returns-then-n-gt0 c =
-    let long = (let long_of : length c.args.self.pages ≡ 63 = c.well_formed.0.1.1.1.0.1.0.1 in long_of) in
+    let long : length c.args.self.pages ≡ 63 = search rules in
+    let eighteen : Eighteen c.args.self.pages = λ i h. search (rules, shapes) in
     let i = c.loop-i.i in
-    sym (last_page c.args.self.pages (i - 1) i c.page_length-n.result ((let eighteen-of : Eighteen c.args.self.pages = λ i h. (shapes c.args.self.pages _ c.well_formed.0.1.1.1.0.1.1 i h).long in eighteen-of)) (omega arith) (omega arith) c.page_length-n.ensures c.if-n-gt0.true) ∙ c.loop-i.invariant.1
+    sym (last_page c.args.self.pages (i - 1) i c.page_length-n.result eighteen (omega arith) (omega arith) c.page_length-n.ensures c.if-n-gt0.true) ∙ c.loop-i.invariant.1
 
 pub loop-i-preserved : goal.loop-i-preserved
 loop-i-preserved c =
-    let long = (let long_of : length c.args.self.pages ≡ 63 = c.well_formed.0.1.1.1.0.1.0.1 in long_of) in
+    let long : length c.args.self.pages ≡ 63 = search rules in
+    let eighteen : Eighteen c.args.self.pages = λ i h. search (rules, shapes) in
     let i = c.loop-i.i in
-    (omega arith, sym (page_of_zeros c.args.self.pages (i - 1) i c.page_length-n.result ((let eighteen-of : Eighteen c.args.self.pages = λ i h. (shapes c.args.self.pages _ c.well_formed.0.1.1.1.0.1.1 i h).long in eighteen-of)) (omega arith) (omega arith) c.page_length-n.ensures (omega arith)) ∙ c.loop-i.invariant.1)
+    (omega arith, sym (page_of_zeros c.args.self.pages (i - 1) i c.page_length-n.result eighteen (omega arith) (omega arith) c.page_length-n.ensures (omega arith)) ∙ c.loop-i.invariant.1)
 
 pub returns : goal.returns
 unfolding text_length

@@ -1,4 +1,5 @@
 -- `bulletin::store::Store::text_verdict` meets its contract.
+use borrow.Author.Rules.{rules}
 use mathlib.Core.Path.{◌≡◌, sym, ◌∙◌}
 use borrow.Author.Tests.{eq-eqb, ne_eqb}
 use Rattle.bulletin.specs.Text.{text_verdict}
@@ -19,7 +20,7 @@ returns-then-number-eq0 c =
 pub bounds-self-number : goal.bounds-self-number
 bounds-self-number c =
     let p = c.args.self.pages in
-    let long : length p ≡ 63 = c.well_formed.0.1.1.1.0.1.0.1 in
+    let long : length p ≡ 63 = search rules in
     omega (arith, c.lowest-number.ensures, lowest-most c.args.self.name.total p 0)
 
 pub returns : goal.returns

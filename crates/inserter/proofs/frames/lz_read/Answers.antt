@@ -1,0 +1,11 @@
+-- `inserter::frames::lz_read` meets its contract.
+use Rattle.report.specs.declared.read.Reading.{Reading}
+use mathlib.Core.Path.{◌∙◌, ap}
+use Rattle.inserter.specs.Answers.{reading_into}
+use borrow.Author.Rules.{rules}
+use Rattle.inserter.proofs.frames.lz_read.Goals as goal
+
+pub returns : goal.returns
+returns c =
+    let buffer = c.args.record_bytes.now in
+    c.hand_over.ensures ∙ ap (λ (r : Reading). reading_into r buffer) c.read.ensures.value

@@ -1,0 +1,6 @@
+-- `inserter::values::verdict_value` meets its contract.
+use borrow.Author.Rules.{rules}
+use Rattle.inserter.proofs.values.verdict_value.Goals as goal
+
+pub returns-in-Refused : goal.returns-in-Refused
+returns-in-Refused c = simp (c.in-Refused.is, c.refused_value.ensures)
