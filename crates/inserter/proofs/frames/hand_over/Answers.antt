@@ -2,7 +2,6 @@
 use borrow.Author.Tests.{ne_eqb}
 use Rattle.inserter.specs.Answers.{reading_into}
 use Rattle.inserter.proofs.Reading.{read_whole, refused}
-use borrow.Author.Rules.{rules}
 use Rattle.inserter.proofs.frames.hand_over.Goals as goal
 
 pub returns-then-record_bytes-ne-RECORD_SIZE : goal.returns-then-record_bytes-ne-RECORD_SIZE

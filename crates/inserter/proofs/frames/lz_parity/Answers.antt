@@ -1,5 +1,4 @@
 -- `inserter::frames::lz_parity` meets its contract.
-use borrow.Author.Rules.{rules}
 use borrow.Author.Tests.{eq-eqb, ne_eqb}
 use Rattle.inserter.specs.Answers.{parity_answer}
 use Rattle.inserter.proofs.frames.lz_parity.Goals as goal

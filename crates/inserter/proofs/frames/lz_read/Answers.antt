@@ -2,7 +2,6 @@
 use Rattle.report.specs.declared.read.Reading.{Reading}
 use mathlib.Core.Path.{◌∙◌, ap}
 use Rattle.inserter.specs.Answers.{reading_into}
-use borrow.Author.Rules.{rules}
 use Rattle.inserter.proofs.frames.lz_read.Goals as goal
 
 pub returns : goal.returns

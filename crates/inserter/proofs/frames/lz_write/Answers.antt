@@ -1,6 +1,5 @@
 -- `inserter::frames::lz_write` meets its contract.
 use Rattle.inserter.proofs.Writing.{written-left}
-use borrow.Author.Rules.{rules}
 use Rattle.inserter.proofs.frames.lz_write.Goals as goal
 
 pub returns : goal.returns

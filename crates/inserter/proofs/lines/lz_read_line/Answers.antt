@@ -2,7 +2,6 @@
 use Rattle.report.specs.declared.read.Reading.{Reading}
 use mathlib.Core.Path.{◌∙◌, ap}
 use Rattle.inserter.specs.Answers.{reading_into}
-use borrow.Author.Rules.{rules}
 use Rattle.inserter.proofs.lines.lz_read_line.Goals as goal
 
 pub returns : goal.returns

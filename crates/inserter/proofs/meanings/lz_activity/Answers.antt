@@ -1,5 +1,4 @@
 -- `inserter::meanings::lz_activity` meets its contract.
-use borrow.Author.Rules.{rules}
 use mathlib.Core.Path.{sym, ap, ◌∙◌, ◌≡◌}
 use Prim.Native.Nat.{ℕ, ◌+◌, ◌*◌}
 use Rattle.volcano.specs.declared.meaning.ActivityTime.TheVariants.{At}

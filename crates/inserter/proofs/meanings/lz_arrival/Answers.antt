@@ -1,5 +1,4 @@
 -- `inserter::meanings::lz_arrival` meets its contract.
-use borrow.Author.Rules.{rules}
 use mathlib.Core.Path.{sym, ap, ◌∙◌, ◌≡◌}
 use Prim.Native.Nat.{ℕ, ◌+◌, ◌*◌}
 use Rattle.tsunami.specs.declared.meaning.Arrival.TheVariants.{At}

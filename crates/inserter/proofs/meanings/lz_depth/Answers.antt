@@ -1,7 +1,6 @@
 -- `inserter::meanings::lz_depth` meets its contract.
 use mathlib.Core.Path.{sym, ap, ◌∙◌}
 use Rattle.inserter.specs.Meanings.{depth_word}
-use borrow.Author.Rules.{rules}
 use Rattle.inserter.proofs.meanings.lz_depth.Goals as goal
 
 pub returns-in-Kilometres : goal.returns-in-Kilometres

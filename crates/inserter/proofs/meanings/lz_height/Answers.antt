@@ -1,5 +1,4 @@
 -- `inserter::meanings::lz_height` meets its contract.
-use borrow.Author.Rules.{rules}
 use mathlib.Core.Path.{sym, ap, ◌∙◌}
 use Rattle.inserter.specs.Meanings.{height_word}
 use Rattle.inserter.proofs.meanings.lz_height.Goals as goal

@@ -1,7 +1,6 @@
 -- `inserter::meanings::lz_magnitude` meets its contract.
 use mathlib.Core.Path.{sym, ap, ◌∙◌}
 use Rattle.inserter.specs.Meanings.{magnitude_word}
-use borrow.Author.Rules.{rules}
 use Rattle.inserter.proofs.meanings.lz_magnitude.Goals as goal
 
 pub returns-in-InRange : goal.returns-in-InRange

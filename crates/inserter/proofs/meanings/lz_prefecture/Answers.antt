@@ -1,7 +1,6 @@
 -- `inserter::meanings::lz_prefecture` meets its contract.
 use mathlib.Core.Path.{sym, ap, ◌∙◌}
 use Rattle.inserter.specs.Meanings.{prefecture_word}
-use borrow.Author.Rules.{rules}
 use Rattle.inserter.proofs.meanings.lz_prefecture.Goals as goal
 
 pub returns-in-Number : goal.returns-in-Number

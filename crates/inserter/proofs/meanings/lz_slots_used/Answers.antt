@@ -1,8 +1,6 @@
 -- `inserter::meanings::lz_slots_used` meets its contract.
 use native.Mathlib.Omega.{arith}
-use Rattle.bits.proofs.Arrays.{unmapped}
 use Rattle.report.proofs.Reading.Used.{few}
-use borrow.Author.Rules.{rules}
 use Rattle.inserter.proofs.meanings.lz_slots_used.Goals as goal
 
 pub overflow_cast-result : goal.overflow_cast-result

@@ -1,7 +1,6 @@
 -- `inserter::meanings::lz_standing` meets its contract.
 use mathlib.Core.Path.{sym, ap, ◌∙◌}
 use Rattle.inserter.specs.Meanings.{standing_word}
-use borrow.Author.Rules.{rules}
 use Rattle.inserter.proofs.meanings.lz_standing.Goals as goal
 
 pub returns-in-Listed : goal.returns-in-Listed

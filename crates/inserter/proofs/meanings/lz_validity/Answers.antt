@@ -1,5 +1,4 @@
 -- `inserter::meanings::lz_validity` meets its contract.
-use borrow.Author.Rules.{rules}
 use mathlib.Core.Path.{sym, ap, ◌∙◌}
 use Rattle.inserter.specs.Meanings.{validity_word}
 use Rattle.inserter.proofs.meanings.lz_validity.Goals as goal

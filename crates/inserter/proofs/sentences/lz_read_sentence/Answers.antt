@@ -1,6 +1,5 @@
 -- `inserter::sentences::lz_read_sentence` meets its contract.
 use native.Mathlib.Omega.{arith}
-use borrow.Author.Rules.{rules}
 use Rattle.rows.specs.declared.refusal.Verdict.TheVariants.{Fine}
 use Rattle.sentence.proofs.Hearing.{found, long_found}
 use Rattle.inserter.proofs.Received.{no_record, not_read, told_number, told_why_not}

@@ -3,7 +3,6 @@ use Rattle.rows.specs.declared.refusal.Verdict.{Verdict}
 use Rattle.rows.specs.Refusals.{answers}
 use mathlib.Core.Path.{◌∙◌, ap}
 use Rattle.inserter.specs.Answers.{call_result, answer_word}
-use borrow.Author.Rules.{rules}
 use Rattle.inserter.proofs.sentences.lz_write_sentence.Goals as goal
 
 pub returns : goal.returns

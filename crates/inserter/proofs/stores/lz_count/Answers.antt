@@ -1,5 +1,4 @@
 -- `inserter::stores::lz_count` meets its contract.
-use borrow.Author.Rules.{rules}
 use Rattle.inserter.proofs.stores.lz_count.Goals as goal
 
 pub returns : goal.returns

@@ -1,6 +1,5 @@
 -- `inserter::stores::lz_merge` meets its contract.
 use Rattle.inserter.proofs.StoreDoors.{merging-left}
-use borrow.Author.Rules.{rules}
 use Rattle.inserter.proofs.stores.lz_merge.Goals as goal
 
 pub returns : goal.returns

@@ -2,7 +2,6 @@
 use borrow.Author.Tests.{eq-eqb, ne_eqb}
 use Rattle.inserter.specs.Answers.{open_into}
 use Rattle.inserter.proofs.StoreDoors.{opened, not_opened}
-use borrow.Author.Rules.{rules}
 use Rattle.inserter.proofs.stores.lz_open.Goals as goal
 
 pub returns-then-name-ne-NAME_SIZE : goal.returns-then-name-ne-NAME_SIZE

@@ -1,6 +1,5 @@
 -- `inserter::stores::lz_take` meets its contract.
 use mathlib.Core.Path.{◌≡◌, ap, ◌∙◌}
-use lib.ListN.{length}
 use Rattle.report.specs.declared.record.Record.{Record}
 use Rattle.report.specs.Categories.{paged_of}
 use Rattle.bulletin.specs.Takings.{take_of}
@@ -8,7 +7,6 @@ use Rattle.store_bytes.specs.Stores.{store_into}
 use Rattle.inserter.specs.Answers.{pages_before}
 use Rattle.inserter.proofs.PutBack.{page-left, none_left}
 use Rattle.inserter.proofs.StoreDoors.{taking-left}
-use borrow.Author.Rules.{rules}
 use Rattle.inserter.proofs.stores.lz_take.Goals as goal
 use Rattle.inserter.proofs.stores.lz_take.Goals.{then-i-lt-PAGES, else-i-lt-PAGES}
 

@@ -5,7 +5,6 @@ use native.Mathlib.Omega.{arith}
 use Rattle.rows.specs.declared.refusal.Verdict.{Verdict}
 use Rattle.inserter.specs.Answers.{length_or_refusal}
 use Rattle.inserter.proofs.StoreDoors.{text-left, text_is_small}
-use borrow.Author.Rules.{rules}
 use Rattle.inserter.proofs.stores.lz_text.Goals as goal
 
 pub overflow_cast-result : goal.overflow_cast-result

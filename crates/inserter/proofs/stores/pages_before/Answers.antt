@@ -1,7 +1,6 @@
 -- `inserter::stores::pages_before` meets its contract.
 use mathlib.Core.Path.{sym, ap, ◌∙◌}
 use native.Mathlib.Omega.{arith}
-use borrow.Author.Rules.{rules}
 use Rattle.inserter.specs.Answers.{pages_before}
 use Rattle.inserter.proofs.stores.pages_before.Goals as goal
 

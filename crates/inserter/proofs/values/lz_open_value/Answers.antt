@@ -2,7 +2,6 @@
 use borrow.Author.Tests.{eq-eqb, ne_eqb}
 use Rattle.store_bytes.specs.Stores.{name_or_zeros}
 use Rattle.inserter.specs.Answers.{open_value}
-use borrow.Author.Rules.{rules}
 use Rattle.inserter.proofs.values.lz_open_value.Goals as goal
 
 pub returns-then-name-ne-NAME_SIZE : goal.returns-then-name-ne-NAME_SIZE

@@ -3,7 +3,6 @@ use mathlib.Core.Path.{◌∙◌, sym, ap}
 use Rattle.line.specs.declared.from_line.Framing.{Framing}
 use Rattle.inserter.specs.Answers.{read_value}
 use Rattle.inserter.proofs.ValuesSaid.{line_value, no_line_value}
-use borrow.Author.Rules.{rules}
 use Rattle.inserter.proofs.values.lz_read_line_value.Goals as goal
 
 pub returns-in-Fine : goal.returns-in-Fine

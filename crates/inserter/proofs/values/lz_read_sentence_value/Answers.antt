@@ -1,7 +1,6 @@
 -- `inserter::values::lz_read_sentence_value` meets its contract.
 use mathlib.Core.Path.{◌∙◌}
 use native.Mathlib.Omega.{arith}
-use borrow.Author.Rules.{rules}
 use Rattle.rows.specs.declared.refusal.Verdict.TheVariants.{Fine}
 use Rattle.sentence.proofs.Hearing.{found, long_found}
 use Rattle.inserter.proofs.ValuesSaid.{sentence_value, no_sentence_value}

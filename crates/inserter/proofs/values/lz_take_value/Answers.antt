@@ -2,7 +2,6 @@
 use mathlib.Core.Path.{◌∙◌, sym, ap}
 use Rattle.bulletin.specs.Stores.{sound_store}
 use Rattle.inserter.proofs.ValuesSaid.{take_value_lem, no_take_value}
-use borrow.Author.Rules.{rules}
 use Rattle.inserter.proofs.values.lz_take_value.Goals as goal
 
 pub returns-then-is_sound : goal.returns-then-is_sound

@@ -1,7 +1,6 @@
 -- `inserter::values::lz_write_sentence_value` meets its contract.
 use mathlib.Core.Path.{◌∙◌, ap}
 use Rattle.rows.specs.declared.refusal.Said.{Said}
-use borrow.Author.Rules.{rules}
 use Rattle.inserter.proofs.values.lz_write_sentence_value.Goals as goal
 
 pub returns : goal.returns

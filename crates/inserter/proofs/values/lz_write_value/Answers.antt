@@ -1,5 +1,4 @@
 -- `inserter::values::lz_write_value` meets its contract.
-use borrow.Author.Rules.{rules}
 use Rattle.inserter.proofs.values.lz_write_value.Goals as goal
 
 pub returns : goal.returns

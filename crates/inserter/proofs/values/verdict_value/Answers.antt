@@ -1,5 +1,4 @@
 -- `inserter::values::verdict_value` meets its contract.
-use borrow.Author.Rules.{rules}
 use Rattle.inserter.proofs.values.verdict_value.Goals as goal
 
 pub returns-in-Refused : goal.returns-in-Refused

@@ -1,5 +1,4 @@
 -- `inserter::words::count_word` meets its contract.
-use borrow.Author.Rules.{rules}
 use Rattle.inserter.proofs.words.count_word.Goals as goal
 
 pub returns-in-Fine : goal.returns-in-Fine

@@ -1,5 +1,4 @@
 -- `inserter::words::refusal_word` meets its contract.
-use borrow.Author.Rules.{rules}
 use Rattle.inserter.proofs.words.refusal_word.Goals as goal
 
 pub returns : goal.returns

@@ -1,5 +1,4 @@
 -- `inserter::words::taken_word` meets its contract.
-use borrow.Author.Rules.{rules}
 use Rattle.inserter.proofs.words.taken_word.Goals as goal
 
 pub returns-in-Refused : goal.returns-in-Refused

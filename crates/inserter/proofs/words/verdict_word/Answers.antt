@@ -1,5 +1,4 @@
 -- `inserter::words::verdict_word` meets its contract.
-use borrow.Author.Rules.{rules}
 use Rattle.inserter.proofs.words.verdict_word.Goals as goal
 
 pub returns-in-Fine : goal.returns-in-Fine

@@ -1,7 +1,6 @@
 -- `listing::row::put_cut` meets its contract.
 use native.Mathlib.Omega.{arith}
 use Rattle.listing.specs.Rows.{cut_text}
-use borrow.Author.Rules.{rules}
 use Rattle.listing.proofs.row.put_cut.Goals as goal
 
 pub returns : goal.returns

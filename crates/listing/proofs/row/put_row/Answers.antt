@@ -6,7 +6,7 @@ use lib.ListN.{length}
 use Rattle.lent.specs.Numbers.{decimal}
 use Rattle.listing.specs.Rows.{entry_text, row_text}
 use Rattle.lent.proofs.Decimals.{ten_digits}
-use Rattle.lent.proofs.Chains.{◌then◌, wrote_as, wrote_length, wrote_within}
+use Rattle.lent.proofs.Chains.{◌then◌, wrote_as, wrote_within}
 use borrow.Author.Rules.{rules}
 use Rattle.listing.proofs.row.put_row.Goals as goal
 

@@ -2,7 +2,6 @@
 use native.Mathlib.Omega.{arith}
 use Rattle.listing.specs.Rows.{heading_text}
 use Rattle.listing.proofs.Texts.Written.{wrote_laid, too_short}
-use borrow.Author.Rules.{rules}
 use Rattle.listing.proofs.row.write_heading.Goals as goal
 
 pub returns-then-out-lt-LONGEST : goal.returns-then-out-lt-LONGEST

@@ -1,7 +1,6 @@
 -- `listing::row::write_one` meets its contract.
 use native.Mathlib.Omega.{arith}
 use Rattle.listing.proofs.Texts.Written.{wrote_laid, too_short}
-use borrow.Author.Rules.{rules}
 use Rattle.listing.specs.Rows.{row_text}
 use Rattle.listing.proofs.row.write_one.Goals as goal
 

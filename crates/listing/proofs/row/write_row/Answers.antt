@@ -2,7 +2,6 @@
 use mathlib.Core.Path.{ap, ◌∙◌}
 use Rattle.listing.specs.declared.row.Row.{Row}
 use Rattle.listing.specs.Rows.{filled_by, row_text}
-use borrow.Author.Rules.{rules}
 use Rattle.listing.proofs.row.write_row.Goals as goal
 
 pub returns : goal.returns

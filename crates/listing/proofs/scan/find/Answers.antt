@@ -1,10 +1,6 @@
 -- `listing::scan::find` meets its contract: no line feed has been passed.
-use Prim.Native.Nat.{◌≤◌, ◌-◌}
 use native.Mathlib.Omega.{arith}
-use lib.ListN.{length}
-use Rattle.listing.specs.Pieces.{NoFeed}
 use Rattle.listing.proofs.Chunks.ByteByByte.{none_more}
-use borrow.Author.Rules.{rules}
 use Rattle.listing.proofs.scan.find.Goals as goal
 
 pub returns-then-no_feed : goal.returns-then-no_feed

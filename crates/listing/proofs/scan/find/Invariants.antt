@@ -1,9 +1,6 @@
 use Prim.Native.Nat.{◌≤◌, ◌-◌}
-use native.Mathlib.Omega.{arith}
 use lib.ListN.{length}
 use Rattle.listing.specs.Pieces.{NoFeed}
-use Rattle.listing.proofs.Chunks.ByteByByte.{none_more}
-use borrow.Author.Rules.{rules}
 use Rattle.listing.proofs.scan.find.Given as goal
 
 -- `listing::scan::find` meets its contract: no line feed has been passed.

@@ -10,13 +10,11 @@ use Rattle.listing.specs.Rows.{row_text, row_seen, filled_by}
 use Rattle.report.specs.declared.look.Looked.{Looked}
 use Rattle.listing.specs.Listing.{line_row}
 use Rattle.listing.specs.Scanning.{begun_in, finished}
-use Rattle.bits.proofs.Arrays.{unmapped}
 use Rattle.line.specs.Lines.{line_reading}
 use Rattle.listing.proofs.Lines.SeenRows.{row_seen_lem}
 use Rattle.listing.proofs.Texts.KeptBytes.{take_least}
 use Rattle.listing.proofs.Chunks.ByteByByte.{limit_is}
 use Rattle.listing.proofs.Chunks.Chunks.{last_some, last_none, last_over, nothing_laid}
-use borrow.Author.Rules.{rules}
 use Rattle.listing.proofs.scan.finish.Goals as goal
 
 pub slice_bounds-begun-end : goal.slice_bounds-begun-end

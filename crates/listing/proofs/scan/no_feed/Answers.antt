@@ -1,11 +1,8 @@
 -- `listing::scan::no_feed` meets its contract: while nothing was found, no line feed has been passed.
 use mathlib.Core.Path.{◌≡◌}
-use mathlib.Core.Bool.{true}
-use Prim.Native.Nat.{ℕ, ◌+◌, ◌-◌, ◌≤◌, ◌<◌}
+use Prim.Native.Nat.{◌+◌, ◌-◌}
 use native.Mathlib.Omega.{arith}
-use lib.ListN.{get_or}
 use Rattle.listing.proofs.Chunks.ByteByByte.{no_feed_more}
-use borrow.Author.Rules.{rules}
 use Rattle.listing.proofs.scan.no_feed.Goals as goal
 
 pub loop-i-init : goal.loop-i-init

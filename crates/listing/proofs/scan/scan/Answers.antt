@@ -6,7 +6,6 @@ use native.Mathlib.Omega.{arith}
 use lib.Seq.{length-take-le}
 use Rattle.listing.specs.Scanning.{bytes_taken}
 use Rattle.listing.proofs.Chunks.Chunks.{taken_fits, taken_room, scan_left}
-use borrow.Author.Rules.{rules}
 use Rattle.listing.proofs.scan.scan.Goals as goal
 
 pub slice_bounds-scan_all-end : goal.slice_bounds-scan_all-end

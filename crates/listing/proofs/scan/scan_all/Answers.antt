@@ -1,6 +1,5 @@
 -- `listing::scan::scan_all` meets its contract.
 use mathlib.Core.Path.{refl, sym, ap, ◌∙◌}
-use mathlib.Core.Logic.{⊎_elim}
 use mathlib.Core.List.{List, [], append-nil}
 use Prim.Native.Nat.{ℕ, ◌+◌, ◌≤◌}
 use native.Mathlib.Omega.{arith}
@@ -8,12 +7,10 @@ use lib.ListN.{length, take}
 use lib.Seq.{take_all}
 use Rattle.listing.specs.Rows.{cut_text}
 use Rattle.listing.specs.Scanning.{begun_in, progress_of}
-use Rattle.bits.proofs.Arrays.{unmapped}
 use Rattle.listing.proofs.Texts.KeptBytes.{begun_short}
 use Rattle.lent.proofs.Chains.{nothing}
 use Rattle.listing.proofs.Chunks.ByteByByte.{limit_is}
 use Rattle.listing.proofs.Chunks.Chunks.{settled, cut_all, idle}
-use borrow.Author.Rules.{rules}
 use Rattle.listing.proofs.scan.scan_all.Goals as goal
 use Rattle.listing.proofs.scan.scan_all.Goals.{then-lines-eq-LIMIT+else-used-gt0, else-lines-eq-LIMIT}
 use Prim.Native.Nat.{◌≤◌}

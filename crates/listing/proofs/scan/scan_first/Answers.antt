@@ -6,13 +6,11 @@ use native.Mathlib.Omega.{arith}
 use lib.ListN.{length, take}
 use lib.Seq.{length-take-le}
 use Rattle.listing.specs.Scanning.{begun_in}
-use Rattle.bits.proofs.Arrays.{unmapped}
 use Rattle.listing.proofs.Texts.KeptBytes.{begun_short}
 use Rattle.lent.proofs.Chains.{nothing}
 use Rattle.listing.proofs.Chunks.ByteByByte.{limit_is}
 use Rattle.listing.proofs.Lines.LineLoop.{row-said}
 use Rattle.listing.proofs.Chunks.Chunks.{settled, whole_reach, kept_fits, first_done}
-use borrow.Author.Rules.{rules}
 use Rattle.listing.proofs.scan.scan_first.Goals as goal
 
 pub slice_bounds-with-end : goal.slice_bounds-with-end

@@ -1,14 +1,13 @@
 -- `listing::scan::scan_lines` meets its contract: what is left to do from here is what was to be done.
-use mathlib.Core.Path.{◌≡◌, refl, ◌∙◌}
+use mathlib.Core.Path.{refl, ◌∙◌}
 use mathlib.Core.List.{List, []}
-use Prim.Native.Nat.{ℕ, ◌+◌, ◌-◌, ◌*◌, ◌≤◌, ◌<◌}
+use Prim.Native.Nat.{ℕ, ◌+◌, ◌-◌, ◌≤◌, ◌<◌}
 use native.Mathlib.Omega.{arith}
 use lib.ListN.{length, take, drop}
 use Rattle.listing.specs.Rows.{cut_text}
 use Rattle.lent.proofs.Chains.{nothing}
 use Rattle.listing.proofs.Chunks.ByteByByte.{limit_is}
-use Rattle.listing.proofs.Lines.LineLoop.{Went, row-said, room_left, turn, ended, tail_reach, kept_tail, cut_tail, end_reach}
-use borrow.Author.Rules.{rules}
+use Rattle.listing.proofs.Lines.LineLoop.{row-said, room_left, turn, ended, tail_reach, kept_tail, cut_tail, end_reach}
 use Rattle.listing.proofs.scan.scan_lines.Goals as goal
 
 pub loop-n-init : goal.loop-n-init

@@ -1,13 +1,7 @@
-use mathlib.Core.Path.{◌≡◌, refl, ◌∙◌}
-use mathlib.Core.List.{List, []}
-use Prim.Native.Nat.{ℕ, ◌+◌, ◌-◌, ◌*◌, ◌≤◌, ◌<◌}
-use native.Mathlib.Omega.{arith}
-use lib.ListN.{length, take, drop}
-use Rattle.listing.specs.Rows.{cut_text}
-use Rattle.lent.proofs.Chains.{nothing}
-use Rattle.listing.proofs.Chunks.ByteByByte.{limit_is}
-use Rattle.listing.proofs.Lines.LineLoop.{Went, row-said, room_left, turn, ended, tail_reach, kept_tail, cut_tail, end_reach}
-use borrow.Author.Rules.{rules}
+use mathlib.Core.Path.{◌≡◌}
+use Prim.Native.Nat.{◌+◌, ◌-◌, ◌*◌, ◌≤◌}
+use lib.ListN.{length}
+use Rattle.listing.proofs.Lines.LineLoop.{Went}
 use Rattle.listing.proofs.scan.scan_lines.Given as goal
 
 -- `listing::scan::scan_lines` meets its contract: what is left to do from here is what was to be done.

@@ -1,11 +1,7 @@
 -- `sentence::form::begins` meets its contract: what is left to compare from here is what was to be compared.
-use mathlib.Core.Path.{◌≡◌, refl, sym, ◌∙◌}
-use mathlib.Core.Bool.{◌&&◌}
-use Prim.Native.Nat.{◌-◌, ◌≤◌}
+use mathlib.Core.Path.{refl, sym, ◌∙◌}
 use native.Mathlib.Omega.{arith}
-use lib.ListN.{length, drop}
-use borrow.Author.Rules.{rules}
-use Rattle.sentence.specs.Sentences.{begins}
+use lib.ListN.{drop}
 use Rattle.sentence.proofs.Beginnings.{begun_more, begun_all, too_short}
 use Rattle.sentence.proofs.form.begins.Goals as goal
 

@@ -1,9 +1,8 @@
 -- `sentence::form::checksum` meets its contract: what is left to take in from here is what was to be taken in.
 use mathlib.Core.Path.{◌≡◌, sym, ap, ◌∙◌}
-use Prim.Native.Nat.{ℕ, suc, ◌+◌, ◌-◌, ◌≤◌}
+use Prim.Native.Nat.{ℕ, suc, ◌+◌, ◌-◌}
 use native.Mathlib.Omega.{arith}
 use lib.Bits.{bit_xor, xor_zero_l, xor_zero_r}
-use borrow.Author.Rules.{rules}
 use Rattle.sentence.specs.Sentences.{checksum, part}
 use Rattle.sentence.proofs.Checksums.{sum_more}
 use Rattle.sentence.proofs.form.checksum.Goals as goal

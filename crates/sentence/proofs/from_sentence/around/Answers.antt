@@ -1,7 +1,6 @@
 -- `sentence::from_sentence::around` meets its contract.
 use mathlib.Core.Path.{sym, ap, ◌∙◌}
 use native.Mathlib.Omega.{arith}
-use borrow.Author.Rules.{rules}
 use lib.Seq.{length-take-le}
 use Rattle.sentence.specs.Sentences.{around_of}
 use Rattle.sentence.proofs.Hearing.{other_length, other_end, fed_again}

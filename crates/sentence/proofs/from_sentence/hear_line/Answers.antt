@@ -1,9 +1,6 @@
 -- `sentence::from_sentence::hear_line` meets its contract.
 use mathlib.Core.Path.{◌≡◌, refl}
-use mathlib.Core.List.{List}
-use Prim.Native.Nat.{ℕ}
 use native.Mathlib.Omega.{arith}
-use borrow.Author.Rules.{rules}
 use Rattle.rows.specs.declared.refusal.Verdict.TheVariants.{Fine}
 use Rattle.sentence.specs.Sentences.{around_answer, fed}
 use Rattle.sentence.proofs.Hearing.{found, found_satellite, heard_said, line_found, hear_on, hear_not}

@@ -1,7 +1,6 @@
 -- `sentence::from_sentence::is_another` meets its contract.
 use mathlib.Core.Bool.{Bool, ◌&&◌, not}
 use mathlib.Core.Path.{ap₂}
-use borrow.Author.Rules.{rules}
 use Rattle.sentence.specs.Sentences.{is_another}
 use Rattle.sentence.proofs.from_sentence.is_another.Goals as goal
 

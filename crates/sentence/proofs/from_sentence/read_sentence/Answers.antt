@@ -1,9 +1,6 @@
 -- `sentence::from_sentence::read_sentence` meets its contract.
 use mathlib.Core.Path.{◌≡◌, refl, ◌∙◌}
-use mathlib.Core.List.{List}
-use Prim.Native.Nat.{ℕ}
 use native.Mathlib.Omega.{arith}
-use borrow.Author.Rules.{rules}
 use Rattle.rows.specs.declared.refusal.Verdict.TheVariants.{Fine}
 use Rattle.sentence.specs.Sentences.{around_answer}
 use Rattle.sentence.proofs.Hearing.{found, found_satellite, read_said, long_found, read_on, read_not}

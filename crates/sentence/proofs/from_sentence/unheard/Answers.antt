@@ -1,5 +1,4 @@
 -- `sentence::from_sentence::unheard` meets its contract.
-use borrow.Author.Rules.{rules}
 use Rattle.sentence.proofs.from_sentence.unheard.Goals as goal
 
 pub returns : goal.returns

@@ -1,7 +1,5 @@
 -- `sentence::to_sentence::send_answer` meets its contract.
 use mathlib.Core.Path.{sym, ◌∙◌}
-use borrow.Author.Rules.{rules}
-use borrow.Author.Tests.{not-true, not-false}
 use Rattle.rows.proofs.Rules.Numbers.{also_said}
 use Rattle.sentence.proofs.Sending.{not_listed, then_asked}
 use Rattle.sentence.proofs.to_sentence.send_answer.Goals as goal

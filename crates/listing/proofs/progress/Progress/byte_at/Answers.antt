@@ -2,9 +2,7 @@
 use mathlib.Core.Path.{◌≡◌}
 use native.Mathlib.Omega.{arith}
 use lib.ListN.{length}
-use Rattle.bits.proofs.Arrays.{unmapped}
 use Rattle.listing.proofs.Texts.KeptBytes.{byte_kept, byte_new, byte_none}
-use borrow.Author.Rules.{rules}
 use Rattle.listing.proofs.progress.Progress.byte_at.Goals as goal
 
 pub returns-then-i-kept : goal.returns-then-i-kept

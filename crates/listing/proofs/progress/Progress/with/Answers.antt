@@ -1,13 +1,11 @@
 -- `listing::progress::Progress::with` meets its contract: byte by byte, what was begun and then what is new.
 use mathlib.Core.Path.{◌≡◌, refl, ap, ◌∙◌}
 use mathlib.Core.List.{List, ◌++◌}
-use Prim.Native.Nat.{ℕ, ◌+◌, ◌-◌, ◌≤◌, ◌<◌}
+use Prim.Native.Nat.{ℕ, ◌+◌, ◌≤◌}
 use native.Mathlib.Omega.{arith}
-use lib.ListN.{length, take, get_or, length-set, length-take, length-append}
+use lib.ListN.{length, take, length-set, length-take, length-append}
 use Rattle.listing.specs.Scanning.{progress_of, begun_in}
-use Rattle.bits.proofs.Arrays.{unmapped}
 use Rattle.listing.proofs.Texts.KeptBytes.{fill_next, kept_all, take_least}
-use borrow.Author.Rules.{rules}
 use Rattle.listing.proofs.progress.Progress.with.Goals as goal
 
 pub loop-i-init : goal.loop-i-init

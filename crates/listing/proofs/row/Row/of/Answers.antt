@@ -3,7 +3,6 @@ use mathlib.Core.Path.{◌∙◌, ap}
 use Rattle.report.specs.declared.look.Looked.{Looked}
 use Rattle.listing.specs.Rows.{row_seen}
 use Rattle.listing.proofs.Lines.SeenRows.{row_seen_lem}
-use borrow.Author.Rules.{rules}
 use Rattle.listing.proofs.row.Row.of.Goals as goal
 
 pub returns : goal.returns

@@ -1,5 +1,4 @@
 -- `listing::row::Row::of_refusal` meets its contract.
-use borrow.Author.Rules.{rules}
 use Rattle.listing.proofs.row.Row.of_refusal.Goals as goal
 
 pub returns : goal.returns

@@ -1,5 +1,4 @@
 -- `listing::row::Row::seen` meets its contract.
-use borrow.Author.Rules.{rules}
 use Rattle.listing.proofs.row.Row.seen.Goals as goal
 
 pub returns-in-Fine : goal.returns-in-Fine
