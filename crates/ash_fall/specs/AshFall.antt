@@ -4,7 +4,6 @@ use Rattle.ash_fall.specs.declared.Eruption.{Eruption}
 use Rattle.rows.specs.declared.fields.Spares.{Spares}
 use Rattle.rows.specs.Values.{time_from, time_values, Sides}
 use Rattle.rows.specs.Layout.{time, two_or_seven, corrected, spare1, spare_row, row, within, Slots, Layout}
-use Rattle.rows.specs.Faults.{place}
 
 -- "Four slots from 83, 29 bits each: hour (3, 1-6), strength (3, 1-7), place"
 abbrev pub places : Slots

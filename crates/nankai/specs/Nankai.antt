@@ -4,7 +4,6 @@ use Rattle.rows.specs.Layout.{row, within, rising, spare_row, bytes, two_or_seve
 use Rattle.rows.specs.declared.fields.Spares.{Spares}
 use Rattle.rows.specs.Values.{cut, Sides}
 use Rattle.nankai.specs.declared.PageNumbers.{PageNumbers}
-use Rattle.bits.specs.Frame.{number}
 
 abbrev pub nankai : Layout
 nankai = record {

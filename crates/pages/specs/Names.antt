@@ -10,7 +10,6 @@ use Rattle.pages.specs.declared.name.Name.{Name}
 use Rattle.rows.specs.declared.common.Common.{Common}
 use Rattle.nankai.specs.declared.PageNumbers.{PageNumbers}
 use Rattle.rows.specs.Values.{Values, head_values, last_values, no_spares}
-use Rattle.bits.specs.Frame.{number}
 
 abbrev pub zero_name : Name
 zero_name = record { common = record { rc = 0; month = 0; day = 0; hour = 0; minute = 0; it = 0 }; serial = 0; total = 0 }

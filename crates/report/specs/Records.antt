@@ -1,7 +1,7 @@
 -- The record of a frame (document 01, "The record", and document 02: "Keep every spare's bits in the record"), and the values of a
 -- record, in the order of the frame.
 use Rattle.report.specs.declared.body.Body.{Body}
-use Rattle.rows.specs.Layout.{Layout, common}
+use Rattle.rows.specs.Layout.{Layout}
 use Rattle.std.specs.Prelude.{List, map, ℕ, length, replicate, take}
 use Rattle.report.specs.declared.body.Body.TheVariants.{NoCategory}
 use Rattle.report.specs.declared.record.Record.{Record}

@@ -1,5 +1,4 @@
 -- `ash_fall::spares` meets its contract.
-use borrow.Author.Rules.{rules}
 use Rattle.ash_fall.proofs.spares.Goals as goal
 
 pub returns : goal.returns

@@ -1,13 +1,7 @@
-use mathlib.Core.Path.{◌≡◌, sym}
-use mathlib.Core.List.{List}
-use Prim.Native.Nat.{ℕ, ◌-◌, ◌*◌, ◌%◌, ◌^◌, ◌≤◌, ◌<◌}
-use native.Mathlib.Nat.{sub_self, mod-one}
-use native.Mathlib.Omega.{arith}
+use mathlib.Core.Path.{◌≡◌}
+use Prim.Native.Nat.{◌-◌, ◌*◌, ◌%◌, ◌^◌, ◌≤◌}
 use lib.ListN.{take}
-use borrow.Author.Rules.{rules}
-use Rattle.bits.specs.Frame.{Bytes, number}
-use Rattle.bits.proofs.Bytes.{number_shr}
-use Rattle.bits.proofs.ByteLoops.{read_more, seven}
+use Rattle.bits.specs.Frame.{number}
 use Rattle.bits.proofs.bytes_between.Given as goal
 
 -- `bits::bytes_between` meets its contract: the sum is the number of the bytes passed.

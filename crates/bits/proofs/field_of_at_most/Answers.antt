@@ -3,7 +3,6 @@ use mathlib.Core.Bool.{true}
 use mathlib.Core.Path.{◌≡◌, sym, ◌∙◌}
 use native.Mathlib.Omega.{arith}
 use lib.Pow.{pow_pos}
-use borrow.Author.Rules.{rules}
 use Rattle.bits.specs.Frame.{lies, frame_in}
 use Rattle.bits.proofs.Inside.{lies_told, field_read, no_field, frame_lent, no_frame}
 use Rattle.bits.proofs.Windows.{narrower}
@@ -16,16 +15,22 @@ returns-then-frame-ne32 c =
 
 pub field-requires : goal.field-requires
 field-requires c =
-    let t = lies_told _ _ _ ((let inside : lies c.args.most c.args.first c.args.width ≡ true = sym c.lies_in_frame.ensures ∙ c.if-lies_in_frame.true in inside)) in
+    let inside : lies c.args.most c.args.first c.args.width ≡ true =
+    sym c.lies_in_frame.ensures ∙ c.if-lies_in_frame.true
+    in
+    let t = lies_told _ _ _ inside in
     (c.if-frame-ne32.false, (t.0, omega arith))
 
 pub returns-then-lies_in_frame : goal.returns-then-lies_in_frame
 returns-then-lies_in_frame c =
+    let inside : lies c.args.most c.args.first c.args.width ≡ true =
+    sym c.lies_in_frame.ensures ∙ c.if-lies_in_frame.true
+    in
     let a = c.args in
-    let read = field_read a.most a.frame.now a.first a.width _ ((let inside : lies c.args.most c.args.first c.args.width ≡ true = sym c.lies_in_frame.ensures ∙ c.if-lies_in_frame.true in inside)) c.field.ensures in
+    let read = field_read a.most a.frame.now a.first a.width _ inside c.field.ensures in
     let lent = frame_lent a.frame.now c.if-frame-ne32.false in (
       rw lent read.0,
-      (read.1, narrower _ _ a.most read.1 (lies_told a.most _ _ ((let inside : lies c.args.most c.args.first c.args.width ≡ true = sym c.lies_in_frame.ensures ∙ c.if-lies_in_frame.true in inside))).1),
+      (read.1, narrower _ _ a.most read.1 (lies_told a.most _ _ inside).1),
     )
 
 pub returns-else-lies_in_frame : goal.returns-else-lies_in_frame

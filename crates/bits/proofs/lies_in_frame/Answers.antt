@@ -1,5 +1,4 @@
 -- `bits::lies_in_frame` meets its contract.
-use borrow.Author.Rules.{rules}
 use borrow.Author.Tests.{lt-leb}
 use Rattle.bits.proofs.Inside.{lies_by_difference}
 use Rattle.bits.proofs.lies_in_frame.Goals as goal

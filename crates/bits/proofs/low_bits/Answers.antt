@@ -1,7 +1,6 @@
 -- `bits::low_bits` meets its contract.
 use native.Mathlib.Omega.{arith}
 use lib.Pow.{pow_pos}
-use borrow.Author.Rules.{rules}
 use Rattle.bits.proofs.Windows.{one_shl, mask}
 use Rattle.bits.proofs.low_bits.Goals as goal
 

@@ -1,5 +1,4 @@
 -- `flood::fields` meets its contract.
-use borrow.Author.Rules.{rules}
 use Rattle.flood.proofs.fields.Goals as goal
 
 pub returns : goal.returns

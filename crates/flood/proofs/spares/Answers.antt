@@ -1,5 +1,4 @@
 -- `flood::spares` meets its contract.
-use borrow.Author.Rules.{rules}
 use Rattle.flood.proofs.spares.Goals as goal
 
 pub returns : goal.returns

@@ -1,5 +1,4 @@
 -- `hypocenter::spares` meets its contract.
-use borrow.Author.Rules.{rules}
 use Rattle.hypocenter.proofs.spares.Goals as goal
 
 pub returns : goal.returns

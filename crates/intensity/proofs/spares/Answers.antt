@@ -1,5 +1,4 @@
 -- `intensity::spares` meets its contract.
-use borrow.Author.Rules.{rules}
 use Rattle.intensity.proofs.spares.Goals as goal
 
 pub returns : goal.returns

@@ -1,12 +1,11 @@
 -- `nankai::page_text` meets its contract: the bytes passed are the text's.
-use Prim.Native.Nat.{ℕ, ◌+◌, ◌-◌, ◌*◌, ◌≤◌}
-use borrow.Author.Rules.{rules}
-use Rattle.bits.specs.Frame.{field_of, frame_in}
+use Prim.Native.Nat.{ℕ, ◌+◌, ◌-◌, ◌*◌}
+use Rattle.bits.specs.Frame.{frame_in}
 use Rattle.bits.proofs.Inside.{field_in_lem}
 use Rattle.rows.proofs.Layouts.Filling.{fill, filled}
 use Rattle.rows.specs.Values.{each}
-use lib.ListN.{length, replicate, length-set}
-use mathlib.Core.List.{List, ◌++◌}
+use lib.ListN.{replicate, length-set}
+use mathlib.Core.List.{◌++◌}
 use mathlib.Core.Path.{◌≡◌, refl, ap, ◌∙◌}
 use native.Mathlib.Omega.{arith}
 use Rattle.nankai.proofs.page_text.Invariants.{byte}
@@ -30,12 +29,3 @@ returns c =
     let f = c.args.f.now in
     let last : l.k ≡ 18 = omega arith in
     filled 18 (byte f) 0 l.text (l.invariant.1.1 ∙ ap (λ (k : ℕ). each k (byte f) ++ replicate (18 - k) 0) last)
-
-pub bounds-text-k : goal.bounds-text-k
-bounds-text-k c = omega arith
-
-pub overflow_add-k-in-loop-k : goal.overflow_add-k-in-loop-k
-overflow_add-k-in-loop-k c = omega arith
-
-pub loop-k-smaller : goal.loop-k-smaller
-loop-k-smaller c = omega arith

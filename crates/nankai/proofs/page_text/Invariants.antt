@@ -1,13 +1,9 @@
 use Prim.Native.Nat.{ℕ, ◌+◌, ◌-◌, ◌*◌, ◌≤◌}
-use borrow.Author.Rules.{rules}
 use Rattle.bits.specs.Frame.{field_of, frame_in}
-use Rattle.bits.proofs.Inside.{field_in_lem}
-use Rattle.rows.proofs.Layouts.Filling.{fill, filled}
 use Rattle.rows.specs.Values.{each}
-use lib.ListN.{length, replicate, length-set}
+use lib.ListN.{length, replicate}
 use mathlib.Core.List.{List, ◌++◌}
-use mathlib.Core.Path.{◌≡◌, refl, ap, ◌∙◌}
-use native.Mathlib.Omega.{arith}
+use mathlib.Core.Path.{◌≡◌}
 use Rattle.nankai.proofs.page_text.Given as goal
 
 -- `nankai::page_text` meets its contract: the bytes passed are the text's.

@@ -1,16 +1,11 @@
 -- `nankai::push_text` meets its contract: what is left to push, behind what stands, is the whole.
-use Prim.Native.Nat.{ℕ, ◌+◌, ◌-◌, ◌≤◌}
-use Rattle.bits.proofs.Arrays.{each-bytes}
-use Rattle.bits.specs.Frame.{Bytes}
+use Prim.Native.Nat.{ℕ, ◌+◌, ◌-◌}
 use Rattle.bits.specs.declared.words.Words.{Words}
 use Rattle.bits.specs.Words.{pushed_all}
 use Rattle.nankai.proofs.Pushing.{byte_more}
-use borrow.Author.Rules.{rules}
 use lib.ListN.{length, drop, replicate}
 use mathlib.Core.Path.{◌≡◌, refl, ap, ◌∙◌, sym}
-use native.Mathlib.Nat.{lt_of_lt_of_le}
 use native.Mathlib.Omega.{arith}
-use lib.Dec.{lit≤}
 use Rattle.nankai.proofs.push_text.Goals as goal
 
 pub loop-k-init : goal.loop-k-init
@@ -32,12 +27,3 @@ returns c =
     let t = c.args.text in
     let last : 18 - l.k ≡ 0 = omega arith in
     sym (ap (λ (n : ℕ). pushed_all l.next (replicate n 8) (drop l.k t)) last) ∙ l.invariant.1
-
-pub bounds-text-k : goal.bounds-text-k
-bounds-text-k c = omega arith
-
-pub overflow_add-k : goal.overflow_add-k
-overflow_add-k c = omega arith
-
-pub loop-k-smaller : goal.loop-k-smaller
-loop-k-smaller c = omega arith

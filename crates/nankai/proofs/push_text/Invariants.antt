@@ -1,15 +1,7 @@
-use Prim.Native.Nat.{ℕ, ◌+◌, ◌-◌, ◌≤◌}
-use Rattle.bits.proofs.Arrays.{each-bytes}
-use Rattle.bits.specs.Frame.{Bytes}
-use Rattle.bits.specs.declared.words.Words.{Words}
+use Prim.Native.Nat.{◌-◌, ◌≤◌}
 use Rattle.bits.specs.Words.{pushed_all}
-use Rattle.nankai.proofs.Pushing.{byte_more}
-use borrow.Author.Rules.{rules}
-use lib.ListN.{length, drop, replicate}
-use mathlib.Core.Path.{◌≡◌, refl, ap, ◌∙◌, sym}
-use native.Mathlib.Nat.{lt_of_lt_of_le}
-use native.Mathlib.Omega.{arith}
-use lib.Dec.{lit≤}
+use lib.ListN.{drop, replicate}
+use mathlib.Core.Path.{◌≡◌}
 use Rattle.nankai.proofs.push_text.Given as goal
 
 -- `nankai::push_text` meets its contract: what is left to push, behind what stands, is the whole.

@@ -1,5 +1,4 @@
 -- `nankai::spares` meets its contract.
-use borrow.Author.Rules.{rules}
 use Rattle.nankai.proofs.spares.Goals as goal
 
 pub returns : goal.returns

@@ -2,7 +2,6 @@
 use mathlib.Core.Path.{ap, ap₂, sym, ◌∙◌}
 use Prim.Native.Nat.{ℕ, ◌%◌, ◌^◌}
 use native.Mathlib.Nat.{div-one}
-use borrow.Author.Rules.{rules}
 use lib.Bits.{bit_xor}
 use lib.Pow.{shr_mod}
 use Rattle.parity.specs.Groups.{entry_of}

@@ -1,9 +1,7 @@
 -- `parity::parity` meets its contract: the register is that of the bits passed.
 use mathlib.Core.Path.{◌≡◌, subst, sym, ap, ap₂, ◌∙◌}
-use Prim.Native.Nat.{ℕ, ◌+◌, ◌-◌, ◌*◌, ◌%◌, ◌≤◌, ◌<◌, ◌^◌}
+use Prim.Native.Nat.{ℕ, ◌+◌, ◌*◌, ◌<◌, ◌^◌}
 use native.Mathlib.Omega.{arith}
-use mathlib.Core.List.{List}
-use borrow.Author.Rules.{rules}
 use lib.Bits.{bit_xor, xor_lt}
 use Rattle.bits.specs.Frame.{frame_in}
 use Rattle.bits.proofs.Inside.{field_in_lem}

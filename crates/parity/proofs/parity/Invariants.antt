@@ -1,17 +1,7 @@
-use mathlib.Core.Path.{◌≡◌, subst, sym, ap, ap₂, ◌∙◌}
-use Prim.Native.Nat.{ℕ, ◌+◌, ◌-◌, ◌*◌, ◌%◌, ◌≤◌, ◌<◌, ◌^◌}
-use native.Mathlib.Omega.{arith}
-use mathlib.Core.List.{List}
-use borrow.Author.Rules.{rules}
-use lib.Bits.{bit_xor, xor_lt}
+use mathlib.Core.Path.{◌≡◌}
+use Prim.Native.Nat.{◌+◌, ◌-◌, ◌*◌, ◌%◌, ◌≤◌}
 use Rattle.bits.specs.Frame.{frame_in}
-use Rattle.bits.proofs.Inside.{field_in_lem}
-use Rattle.parity.specs.Parity.{parity_of}
-use Rattle.parity.specs.Groups.{entry_of, register_of}
-use Rattle.parity.proofs.Step.{after_lt}
-use Rattle.parity.proofs.Front.{no_parity}
-use Rattle.parity.proofs.Arms.{entry}
-use Rattle.parity.proofs.Taken.{taken, first_group, next_group}
+use Rattle.parity.proofs.Taken.{taken}
 use Rattle.parity.proofs.parity.Given as goal
 
 -- `parity::parity` meets its contract: the register is that of the bits passed.

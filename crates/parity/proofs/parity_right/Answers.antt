@@ -1,7 +1,6 @@
 -- `parity::parity_right` meets its contract.
 use mathlib.Core.Path.{ap₂}
 use lib.Dec.{eqb}
-use borrow.Author.Rules.{rules}
 use Rattle.parity.proofs.parity_right.Goals as goal
 
 pub returns : goal.returns

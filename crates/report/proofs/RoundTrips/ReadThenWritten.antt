@@ -21,7 +21,7 @@ use Rattle.rows.specs.Values.{flat}
 use Rattle.report.specs.Runs.Reading.{read_answer, reading, read_of}
 use Rattle.report.specs.Conforms.{Conforms}
 use Rattle.rows.specs.Kept.{Holds, In}
-use Rattle.report.specs.Runs.Writing.{known, front_widths, front, frame, written, write_answer, write_of, Valid, tidy}
+use Rattle.report.specs.Runs.Writing.{known, front_widths, front, frame, written, write_answer, write_of, Valid}
 use Rattle.report.specs.Rules.{KeepsRules}
 use Rattle.report.proofs.Reading.Agree.{Outer, agree}
 use Rattle.report.proofs.Reading.Frames.{layout_of, frame_values, fine_conforming}

@@ -1,5 +1,4 @@
 -- `tsunami::spares` meets its contract.
-use borrow.Author.Rules.{rules}
 use Rattle.tsunami.proofs.spares.Goals as goal
 
 pub returns : goal.returns

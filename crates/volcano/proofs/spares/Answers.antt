@@ -1,5 +1,4 @@
 -- `volcano::spares` meets its contract.
-use borrow.Author.Rules.{rules}
 use Rattle.volcano.proofs.spares.Goals as goal
 
 pub returns : goal.returns

@@ -1,5 +1,4 @@
 -- `ash_fall::Eruption::check` meets its contract.
-use borrow.Author.Rules.{rules}
 use mathlib.Core.Bool.{Bool}
 use Rattle.rows.specs.Runs.Questions.{◌then◌}
 use mathlib.Core.Path.{◌∙◌, ap₂}

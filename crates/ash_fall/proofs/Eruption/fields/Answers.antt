@@ -1,5 +1,4 @@
 -- `ash_fall::Eruption::fields` meets its contract.
-use borrow.Author.Rules.{rules}
 use Rattle.ash_fall.proofs.Eruption.fields.Goals as goal
 
 pub returns : goal.returns

@@ -1,5 +1,4 @@
 -- `ash_fall::Eruption::of_values` meets its contract.
-use borrow.Author.Rules.{rules}
 use Rattle.ash_fall.proofs.Eruption.of_values.Goals as goal
 
 pub returns : goal.returns

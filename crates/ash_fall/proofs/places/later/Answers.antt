@@ -1,5 +1,4 @@
 -- `ash_fall::places::later` meets its contract.
-use borrow.Author.Rules.{rules}
 use Rattle.ash_fall.proofs.places.later.Goals as goal
 
 pub returns : goal.returns

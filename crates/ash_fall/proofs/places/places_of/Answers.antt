@@ -1,5 +1,4 @@
 -- `ash_fall::places::places_of` meets its contract.
-use borrow.Author.Rules.{rules}
 use Rattle.slots.specs.Slots.{slots_of}
 use Rattle.ash_fall.proofs.places.places_of.Goals as goal
 

@@ -1,11 +1,7 @@
-use mathlib.Core.Path.{◌≡◌, refl, ap, ◌∙◌, sym}
-use Prim.Native.Nat.{ℕ, ◌+◌, ◌-◌, ◌%◌, ◌≤◌}
-use native.Mathlib.Omega.{arith}
-use lib.ListN.{length, get_or, drop}
-use Rattle.bits.specs.declared.words.Words.{Words}
-use Rattle.bits.specs.Words.{pushed, pushed_until}
-use Rattle.bits.proofs.Pushing.{push_more, push_short, push_none, push_done}
-use borrow.Author.Rules.{rules}
+use mathlib.Core.Path.{◌≡◌}
+use Prim.Native.Nat.{◌-◌, ◌≤◌}
+use lib.ListN.{length, drop}
+use Rattle.bits.specs.Words.{pushed_until}
 use Rattle.bits.proofs.words.push_all.Given as goal
 
 -- `bits::words::push_all` meets its contract: what is left to push, behind what stands, is the whole.

@@ -1,5 +1,4 @@
 -- `bits::words::word_bytes` meets its contract.
-use borrow.Author.Rules.{rules}
 use Rattle.bits.proofs.words.word_bytes.Goals as goal
 
 pub returns : goal.returns

@@ -1,5 +1,4 @@
 -- `flood::areas::areas_of` meets its contract.
-use borrow.Author.Rules.{rules}
 use Rattle.slots.specs.Slots.{slots_of}
 use Rattle.flood.proofs.areas.areas_of.Goals as goal
 

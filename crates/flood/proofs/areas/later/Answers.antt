@@ -1,5 +1,4 @@
 -- `flood::areas::later` meets its contract.
-use borrow.Author.Rules.{rules}
 use Rattle.flood.proofs.areas.later.Goals as goal
 
 pub returns : goal.returns

@@ -1,5 +1,4 @@
 -- `hypocenter::Quake::check` meets its contract.
-use borrow.Author.Rules.{rules}
 use mathlib.Core.Bool.{Bool}
 use mathlib.Core.List.{[]}
 use Rattle.rows.specs.Runs.Questions.{◌then◌}

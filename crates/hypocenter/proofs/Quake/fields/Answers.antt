@@ -1,5 +1,4 @@
 -- `hypocenter::Quake::fields` meets its contract.
-use borrow.Author.Rules.{rules}
 use Rattle.hypocenter.proofs.Quake.fields.Goals as goal
 
 pub returns : goal.returns

@@ -4,7 +4,6 @@ use Rattle.rows.specs.declared.refusal.Verdict.{Verdict}
 use Rattle.rows.specs.Runs.Questions.{◌then◌}
 use Rattle.hypocenter.proofs.Walks.{quake-walk}
 use Rattle.rows.proofs.Rules.Walks.{asked, link}
-use borrow.Author.Rules.{rules}
 use Rattle.hypocenter.proofs.Quake.front.Goals as goal
 
 pub returns : goal.returns

@@ -1,5 +1,4 @@
 -- `hypocenter::Quake::of` meets its contract.
-use borrow.Author.Rules.{rules}
 use Rattle.hypocenter.proofs.Quake.of.Goals as goal
 
 pub returns : goal.returns

@@ -1,5 +1,4 @@
 -- `hypocenter::Quake::of_values` meets its contract.
-use borrow.Author.Rules.{rules}
 use Rattle.hypocenter.proofs.Quake.of_values.Goals as goal
 
 pub returns : goal.returns

@@ -1,6 +1,5 @@
 -- `hypocenter::codes::is_depth` meets its contract.
 use Rattle.hypocenter.proofs.KnownCodes.{says_depth, depth-known}
-use borrow.Author.Rules.{rules}
 use mathlib.Core.Path.{sym, ap, ◌∙◌}
 use Rattle.hypocenter.proofs.codes.is_depth.Goals as goal
 

@@ -1,6 +1,5 @@
 -- `hypocenter::codes::is_magnitude` meets its contract.
 use Rattle.hypocenter.proofs.KnownCodes.{says_magnitude, magnitude-known}
-use borrow.Author.Rules.{rules}
 use mathlib.Core.Path.{sym, ap, ◌∙◌}
 use Rattle.hypocenter.proofs.codes.is_magnitude.Goals as goal
 

@@ -1,5 +1,4 @@
 -- `intensity::Shaking::fields` meets its contract.
-use borrow.Author.Rules.{rules}
 use Rattle.intensity.proofs.Shaking.fields.Goals as goal
 
 pub returns : goal.returns

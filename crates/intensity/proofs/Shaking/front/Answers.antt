@@ -2,7 +2,6 @@
 use Rattle.rows.proofs.Rules.Outcomes.{then_assoc, then_fine}
 use Rattle.rows.proofs.Rules.Spans.{allowed_one}
 use Rattle.rows.specs.Runs.Verdict.{walk, judge}
-use borrow.Author.Rules.{rules}
 use Rattle.intensity.proofs.Shaking.front.Goals as goal
 
 pub returns : goal.returns

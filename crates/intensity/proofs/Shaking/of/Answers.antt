@@ -1,5 +1,4 @@
 -- `intensity::Shaking::of` meets its contract.
-use borrow.Author.Rules.{rules}
 use Rattle.intensity.proofs.Shaking.of.Goals as goal
 
 pub returns : goal.returns

@@ -1,5 +1,4 @@
 -- `intensity::prefectures::check_prefectures` meets its contract.
-use borrow.Author.Rules.{rules}
 use mathlib.Core.List.{List, [], ◌∷◌}
 use Rattle.slots.specs.declared.run.Run.{Run}
 use Rattle.rows.specs.Runs.Questions.{◌then◌}
@@ -17,55 +16,122 @@ use Rattle.rows.specs.declared.refusal.Verdict.{Verdict}
 use Rattle.intensity.proofs.prefectures.check_prefectures.Goals as goal
 
 pub bounds-slots-0 : goal.bounds-slots-0
-bounds-slots-0 c = omega (arith, (let sixteen : length c.args.slots ≡ 16 = c.well_formed.1.0.1.0.1 in sixteen))
+bounds-slots-0 c =
+    let sixteen : length c.args.slots ≡ 16 =
+    c.well_formed.1.0.1.0.1
+    in
+    omega (arith, sixteen)
 
 pub bounds-slots-1 : goal.bounds-slots-1
-bounds-slots-1 c = omega (arith, (let sixteen : length c.args.slots ≡ 16 = c.well_formed.1.0.1.0.1 in sixteen))
+bounds-slots-1 c =
+    let sixteen : length c.args.slots ≡ 16 =
+    c.well_formed.1.0.1.0.1
+    in
+    omega (arith, sixteen)
 
 pub bounds-slots-2 : goal.bounds-slots-2
-bounds-slots-2 c = omega (arith, (let sixteen : length c.args.slots ≡ 16 = c.well_formed.1.0.1.0.1 in sixteen))
+bounds-slots-2 c =
+    let sixteen : length c.args.slots ≡ 16 =
+    c.well_formed.1.0.1.0.1
+    in
+    omega (arith, sixteen)
 
 pub bounds-slots-3 : goal.bounds-slots-3
-bounds-slots-3 c = omega (arith, (let sixteen : length c.args.slots ≡ 16 = c.well_formed.1.0.1.0.1 in sixteen))
+bounds-slots-3 c =
+    let sixteen : length c.args.slots ≡ 16 =
+    c.well_formed.1.0.1.0.1
+    in
+    omega (arith, sixteen)
 
 pub bounds-slots-4 : goal.bounds-slots-4
-bounds-slots-4 c = omega (arith, (let sixteen : length c.args.slots ≡ 16 = c.well_formed.1.0.1.0.1 in sixteen))
+bounds-slots-4 c =
+    let sixteen : length c.args.slots ≡ 16 =
+    c.well_formed.1.0.1.0.1
+    in
+    omega (arith, sixteen)
 
 pub bounds-slots-5 : goal.bounds-slots-5
-bounds-slots-5 c = omega (arith, (let sixteen : length c.args.slots ≡ 16 = c.well_formed.1.0.1.0.1 in sixteen))
+bounds-slots-5 c =
+    let sixteen : length c.args.slots ≡ 16 =
+    c.well_formed.1.0.1.0.1
+    in
+    omega (arith, sixteen)
 
 pub bounds-slots-6 : goal.bounds-slots-6
-bounds-slots-6 c = omega (arith, (let sixteen : length c.args.slots ≡ 16 = c.well_formed.1.0.1.0.1 in sixteen))
+bounds-slots-6 c =
+    let sixteen : length c.args.slots ≡ 16 =
+    c.well_formed.1.0.1.0.1
+    in
+    omega (arith, sixteen)
 
 pub bounds-slots-7 : goal.bounds-slots-7
-bounds-slots-7 c = omega (arith, (let sixteen : length c.args.slots ≡ 16 = c.well_formed.1.0.1.0.1 in sixteen))
+bounds-slots-7 c =
+    let sixteen : length c.args.slots ≡ 16 =
+    c.well_formed.1.0.1.0.1
+    in
+    omega (arith, sixteen)
 
 pub bounds-slots-8 : goal.bounds-slots-8
-bounds-slots-8 c = omega (arith, (let sixteen : length c.args.slots ≡ 16 = c.well_formed.1.0.1.0.1 in sixteen))
+bounds-slots-8 c =
+    let sixteen : length c.args.slots ≡ 16 =
+    c.well_formed.1.0.1.0.1
+    in
+    omega (arith, sixteen)
 
 pub bounds-slots-9 : goal.bounds-slots-9
-bounds-slots-9 c = omega (arith, (let sixteen : length c.args.slots ≡ 16 = c.well_formed.1.0.1.0.1 in sixteen))
+bounds-slots-9 c =
+    let sixteen : length c.args.slots ≡ 16 =
+    c.well_formed.1.0.1.0.1
+    in
+    omega (arith, sixteen)
 
 pub bounds-slots-10 : goal.bounds-slots-10
-bounds-slots-10 c = omega (arith, (let sixteen : length c.args.slots ≡ 16 = c.well_formed.1.0.1.0.1 in sixteen))
+bounds-slots-10 c =
+    let sixteen : length c.args.slots ≡ 16 =
+    c.well_formed.1.0.1.0.1
+    in
+    omega (arith, sixteen)
 
 pub bounds-slots-11 : goal.bounds-slots-11
-bounds-slots-11 c = omega (arith, (let sixteen : length c.args.slots ≡ 16 = c.well_formed.1.0.1.0.1 in sixteen))
+bounds-slots-11 c =
+    let sixteen : length c.args.slots ≡ 16 =
+    c.well_formed.1.0.1.0.1
+    in
+    omega (arith, sixteen)
 
 pub bounds-slots-12 : goal.bounds-slots-12
-bounds-slots-12 c = omega (arith, (let sixteen : length c.args.slots ≡ 16 = c.well_formed.1.0.1.0.1 in sixteen))
+bounds-slots-12 c =
+    let sixteen : length c.args.slots ≡ 16 =
+    c.well_formed.1.0.1.0.1
+    in
+    omega (arith, sixteen)
 
 pub bounds-slots-13 : goal.bounds-slots-13
-bounds-slots-13 c = omega (arith, (let sixteen : length c.args.slots ≡ 16 = c.well_formed.1.0.1.0.1 in sixteen))
+bounds-slots-13 c =
+    let sixteen : length c.args.slots ≡ 16 =
+    c.well_formed.1.0.1.0.1
+    in
+    omega (arith, sixteen)
 
 pub bounds-slots-14 : goal.bounds-slots-14
-bounds-slots-14 c = omega (arith, (let sixteen : length c.args.slots ≡ 16 = c.well_formed.1.0.1.0.1 in sixteen))
+bounds-slots-14 c =
+    let sixteen : length c.args.slots ≡ 16 =
+    c.well_formed.1.0.1.0.1
+    in
+    omega (arith, sixteen)
 
 pub bounds-slots-15 : goal.bounds-slots-15
-bounds-slots-15 c = omega (arith, (let sixteen : length c.args.slots ≡ 16 = c.well_formed.1.0.1.0.1 in sixteen))
+bounds-slots-15 c =
+    let sixteen : length c.args.slots ≡ 16 =
+    c.well_formed.1.0.1.0.1
+    in
+    omega (arith, sixteen)
 
 pub returns : goal.returns
 returns c =
+    let sixteen : length c.args.slots ≡ 16 =
+    c.well_formed.1.0.1.0.1
+    in
     let found = c.args.found in
     let slots = c.args.slots in
     let v : ℕ → List ℕ = λ i. slot_values prefectures (get_or slots i no_slot) in
@@ -91,4 +157,4 @@ returns c =
     ap (λ (r : Run). r.verdict) all
     ∙ ap (λ (x : Verdict). (later_runs prefectures (record { verdict = x; gap = false }) 78 behind).verdict) first
     ∙ slots_found prefectures found (v 0) behind
-    ∙ ap (λ (vs : List (List ℕ)). found then slots_verdict prefectures vs) (sym (by_index prefectures 16 slots (omega (arith, (let sixteen : length c.args.slots ≡ 16 = c.well_formed.1.0.1.0.1 in sixteen)))))
+    ∙ ap (λ (vs : List (List ℕ)). found then slots_verdict prefectures vs) (sym (by_index prefectures 16 slots (omega (arith, sixteen))))

@@ -1,5 +1,4 @@
 -- `intensity::prefectures::fields` meets its contract.
-use borrow.Author.Rules.{rules}
 use native.Mathlib.Nat.{add-zero}
 use Rattle.rows.proofs.Rules.Spans.{allowed_one}
 use Rattle.rows.proofs.Rules.Outcomes.{fine_then, then_assoc, then_fine}

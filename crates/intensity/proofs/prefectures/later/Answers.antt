@@ -1,5 +1,4 @@
 -- `intensity::prefectures::later` meets its contract.
-use borrow.Author.Rules.{rules}
 use Rattle.intensity.proofs.prefectures.later.Goals as goal
 
 pub returns : goal.returns

@@ -1,5 +1,4 @@
 -- `intensity::prefectures::prefecture_at` meets its contract.
-use borrow.Author.Rules.{rules}
 use Prim.Native.Nat.{◌+◌}
 use mathlib.Core.Path.{◌∙◌}
 use native.Mathlib.Nat.{add-zero}

@@ -1,5 +1,4 @@
 -- `intensity::prefectures::prefectures_of` meets its contract.
-use borrow.Author.Rules.{rules}
 use Rattle.slots.specs.Slots.{slots_of}
 use Rattle.intensity.proofs.prefectures.prefectures_of.Goals as goal
 

@@ -1,15 +1,8 @@
 -- `lent::number::digits` meets its contract: those counted and those of the rest are one more than all.
-use mathlib.Core.Path.{◌≡◌}
-use Prim.Native.Nat.{◌+◌}
 use native.Mathlib.Omega.{arith}
-use lib.ListN.{length}
-use Rattle.lent.specs.Numbers.{decimal}
 use Rattle.lent.proofs.Decimals.{smaller, length-decimal_one, length-decimal_more, twenty_digits}
 use borrow.Author.Rules.{rules}
 use Rattle.lent.proofs.number.digits.Goals as goal
-
-pub loop-rest-init : goal.loop-rest-init
-loop-rest-init c = omega arith
 
 pub overflow_add-count : goal.overflow_add-count
 overflow_add-count c = omega (arith, twenty_digits c.args.number (search rules))

@@ -1,10 +1,7 @@
 use mathlib.Core.Path.{◌≡◌}
 use Prim.Native.Nat.{◌+◌}
-use native.Mathlib.Omega.{arith}
 use lib.ListN.{length}
 use Rattle.lent.specs.Numbers.{decimal}
-use Rattle.lent.proofs.Decimals.{smaller, length-decimal_one, length-decimal_more, twenty_digits}
-use borrow.Author.Rules.{rules}
 use Rattle.lent.proofs.number.digits.Given as goal
 
 -- `lent::number::digits` meets its contract: those counted and those of the rest are one more than all.

@@ -1,12 +1,11 @@
 -- `lent::put::copy` meets its contract: the bytes passed are in their places.
-use mathlib.Core.Path.{◌≡◌, refl, ap, ◌∙◌}
+use mathlib.Core.Path.{refl, ap, ◌∙◌}
 use mathlib.Core.List.{List}
-use Prim.Native.Nat.{ℕ, ◌+◌, ◌-◌, ◌≤◌}
+use Prim.Native.Nat.{ℕ, ◌+◌}
 use native.Mathlib.Omega.{arith}
-use lib.ListN.{length, get_or, set, take, length-set}
+use lib.ListN.{get_or, set, length-set}
 use lib.Seq.{sets, take_all}
 use Rattle.lent.proofs.Chains.{set_more}
-use borrow.Author.Rules.{rules}
 use Rattle.lent.proofs.put.copy.Goals as goal
 
 pub loop-k-init : goal.loop-k-init

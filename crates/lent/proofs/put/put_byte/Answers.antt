@@ -2,7 +2,6 @@
 use mathlib.Core.Path.{sym}
 use native.Mathlib.Omega.{arith}
 use Rattle.lent.proofs.Chains.{set_past}
-use borrow.Author.Rules.{rules}
 use Rattle.lent.proofs.put.put_byte.Goals as goal
 
 pub returns-then-at-out-2 : goal.returns-then-at-out-2

@@ -1,11 +1,7 @@
 -- `lent::put::put_bytes` meets its contract: the bytes passed are put.
-use mathlib.Core.Path.{◌≡◌, refl, ◌∙◌}
-use Prim.Native.Nat.{◌-◌, ◌≤◌}
+use mathlib.Core.Path.{refl, ◌∙◌}
 use native.Mathlib.Omega.{arith}
-use lib.ListN.{length, take}
-use Rattle.lent.specs.Writing.{Wrote}
 use Rattle.lent.proofs.Chains.{nothing, one_more, all_put, placed}
-use borrow.Author.Rules.{rules}
 use Rattle.lent.proofs.put.put_bytes.Goals as goal
 
 pub returns-then-bytes-out : goal.returns-then-bytes-out

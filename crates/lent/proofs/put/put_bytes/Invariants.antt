@@ -1,10 +1,7 @@
-use mathlib.Core.Path.{◌≡◌, refl, ◌∙◌}
+use mathlib.Core.Path.{◌≡◌}
 use Prim.Native.Nat.{◌-◌, ◌≤◌}
-use native.Mathlib.Omega.{arith}
 use lib.ListN.{length, take}
 use Rattle.lent.specs.Writing.{Wrote}
-use Rattle.lent.proofs.Chains.{nothing, one_more, all_put, placed}
-use borrow.Author.Rules.{rules}
 use Rattle.lent.proofs.put.put_bytes.Given as goal
 
 -- `lent::put::put_bytes` meets its contract: the bytes passed are put.

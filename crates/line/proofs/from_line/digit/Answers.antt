@@ -1,7 +1,5 @@
 -- `line::from_line::digit` meets its contract.
 use mathlib.Core.Path.{sym, ◌∙◌}
-use native.Mathlib.Omega.{arith}
-use lib.Bits.{bit_or}
 use borrow.Author.Tests.{leb-true}
 use Rattle.rows.proofs.Rules.Outcomes.{and_both}
 use Rattle.line.proofs.DigitValues.{figure-mark, letter-mark, no_mark}

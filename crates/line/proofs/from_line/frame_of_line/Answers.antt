@@ -1,19 +1,17 @@
 -- `line::from_line::frame_of_line` meets its contract. First the text's bytes passed are the line's, and its last stays; then the
 use mathlib.Core.Path.{◌≡◌, refl, sym, ap, ◌∙◌}
 use mathlib.Core.Bool.{true, ◌&&◌}
-use mathlib.Core.List.{List, [], ◌∷◌, ◌++◌, map}
-use Prim.Native.Nat.{ℕ, ◌+◌, ◌-◌, ◌≤◌, ◌<◌}
+use mathlib.Core.List.{[], ◌∷◌, ◌++◌, map}
+use Prim.Native.Nat.{ℕ, ◌+◌, ◌<◌}
 use native.Mathlib.Omega.{arith}
 use lib.Dec.{ltb}
 use lib.ListN.{length, take, drop, set, length-set, length-map, take-append-drop}
 use lib.Seq.{take_all, drop-set-lt}
-use borrow.Author.Tests.{not-true, not-false}
 use Rattle.bits.proofs.ByteLoops.{copy_more, copied}
 use Rattle.line.specs.Lines.{mark, all_digits, paired}
 use Rattle.line.proofs.DigitLoop.{same_digits, turn, turned, marks_small, framed, wrong_length, wrong_digit, all_right}
 use Rattle.line.proofs.Pairs.{map_at}
 use Rattle.line.proofs.LineEnds.{framing-said}
-use borrow.Author.Rules.{rules}
 use Rattle.line.proofs.from_line.frame_of_line.Goals as goal
 
 pub returns-then-line-ne63 : goal.returns-then-line-ne63

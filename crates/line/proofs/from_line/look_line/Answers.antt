@@ -1,6 +1,5 @@
 -- `line::from_line::look_line` meets its contract.
 use Rattle.line.proofs.LineEnds.{look_on, look_no_more, look_said}
-use borrow.Author.Rules.{rules}
 use Rattle.line.proofs.from_line.look_line.Goals as goal
 
 pub returns-in-Fine : goal.returns-in-Fine

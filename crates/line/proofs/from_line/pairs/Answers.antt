@@ -1,12 +1,11 @@
 -- `line::from_line::pairs` meets its contract: the bytes passed are pairs.
 use mathlib.Core.Path.{◌≡◌, refl, sym, ap, ◌∙◌}
-use Prim.Native.Nat.{ℕ, ◌+◌, ◌-◌, ◌*◌, ◌/◌, ◌≤◌}
+use Prim.Native.Nat.{ℕ, ◌+◌, ◌/◌}
 use native.Mathlib.Omega.{arith}
 use lib.ListN.{length, take, set, length-set}
 use Rattle.bits.proofs.ByteLoops.{copy_more, copied}
 use Rattle.line.specs.Lines.{paired}
 use Rattle.line.proofs.Pairs.{paired_at, length-paired}
-use borrow.Author.Rules.{rules}
 use Rattle.line.proofs.from_line.pairs.Goals as goal
 
 pub loop-i-init : goal.loop-i-init

@@ -1,11 +1,7 @@
-use mathlib.Core.Path.{◌≡◌, refl, sym, ap, ◌∙◌}
-use Prim.Native.Nat.{ℕ, ◌+◌, ◌-◌, ◌*◌, ◌/◌, ◌≤◌}
-use native.Mathlib.Omega.{arith}
-use lib.ListN.{length, take, set, length-set}
-use Rattle.bits.proofs.ByteLoops.{copy_more, copied}
+use mathlib.Core.Path.{◌≡◌}
+use Prim.Native.Nat.{◌-◌, ◌≤◌}
+use lib.ListN.{length, take}
 use Rattle.line.specs.Lines.{paired}
-use Rattle.line.proofs.Pairs.{paired_at, length-paired}
-use borrow.Author.Rules.{rules}
 use Rattle.line.proofs.from_line.pairs.Given as goal
 
 -- `line::from_line::pairs` meets its contract: the bytes passed are pairs.

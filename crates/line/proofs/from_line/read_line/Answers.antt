@@ -1,6 +1,5 @@
 -- `line::from_line::read_line` meets its contract.
 use Rattle.line.proofs.LineEnds.{read_on, read_no_more, line_said}
-use borrow.Author.Rules.{rules}
 use Rattle.line.proofs.from_line.read_line.Goals as goal
 
 pub returns-in-Fine : goal.returns-in-Fine

@@ -1,6 +1,5 @@
 -- `line::to_line::capital` meets its contract.
 use borrow.Author.Tests.{lt-ltb, le-ltb}
-use borrow.Author.Rules.{rules}
 use Rattle.line.proofs.to_line.capital.Goals as goal
 
 pub returns-then-n-lt10 : goal.returns-then-n-lt10

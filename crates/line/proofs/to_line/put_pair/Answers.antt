@@ -1,5 +1,4 @@
 -- `line::to_line::put_pair` meets its contract.
-use borrow.Author.Rules.{rules}
 use Rattle.line.proofs.to_line.put_pair.Goals as goal
 
 pub returns : goal.returns

@@ -1,17 +1,5 @@
-use mathlib.Core.Path.{◌≡◌, sym, ap, ◌∙◌}
-use mathlib.Core.List.{List}
-use Prim.Native.Nat.{ℕ, ◌-◌, ◌≤◌}
-use native.Mathlib.Omega.{arith}
-use borrow.Author.Rules.{rules}
-use lib.ListN.{length, take, set, length-set}
-use Rattle.bits.specs.Frame.{field_of}
-use Rattle.bits.proofs.Inside.{frame_lent}
-use Rattle.bits.proofs.ByteLoops.{copy_more, drop_more}
-use Rattle.rows.proofs.Rules.Numbers.{beside_said}
-use Rattle.line.specs.Lines.{line_of}
-use Rattle.line.proofs.Pairs.{line_length}
-use Rattle.line.proofs.PairLoop.{Begun, not_begun, pairs_more, pairs_done, high_digit}
-use Rattle.line.proofs.LineEnds.{no_frame, padded, no_room, written}
+use Prim.Native.Nat.{◌-◌, ◌≤◌}
+use Rattle.line.proofs.PairLoop.{Begun}
 use Rattle.line.proofs.to_line.write_line.Given as goal
 
 -- `line::to_line::write_line` meets its contract: the digits passed are the frame's, and the bytes behind them are as they

@@ -1,5 +1,4 @@
 -- `nankai::PageNumbers::check` meets its contract.
-use borrow.Author.Rules.{rules}
 use mathlib.Core.Bool.{Bool}
 use Rattle.rows.specs.declared.refusal.Verdict.{Verdict}
 use mathlib.Core.List.{[]}

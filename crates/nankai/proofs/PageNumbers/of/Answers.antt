@@ -1,5 +1,4 @@
 -- `nankai::PageNumbers::of` meets its contract.
-use borrow.Author.Rules.{rules}
 use Rattle.nankai.proofs.PageNumbers.of.Goals as goal
 
 pub returns : goal.returns

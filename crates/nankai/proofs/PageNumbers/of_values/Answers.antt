@@ -1,5 +1,4 @@
 -- `nankai::PageNumbers::of_values` meets its contract.
-use borrow.Author.Rules.{rules}
 use Rattle.nankai.proofs.PageNumbers.of_values.Goals as goal
 
 pub returns : goal.returns

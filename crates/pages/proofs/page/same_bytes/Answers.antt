@@ -4,7 +4,7 @@ use mathlib.Core.List.{List}
 use borrow.Author.Count.{below_more}
 use lib.Seq.{ext_get_or}
 use Rattle.rows.proofs.Rules.Tests.{eq_same, ne_same}
-use Prim.Native.Nat.{ℕ, ◌≤◌, ◌<◌, ◌-◌}
+use Prim.Native.Nat.{ℕ}
 use native.Mathlib.Omega.{arith}
 use borrow.Author.Rules.{rules}
 use lib.ListN.{length, get_or}

@@ -1,12 +1,6 @@
-use mathlib.Core.Path.{◌≡◌, sym, ap, ◌∙◌}
-use mathlib.Core.List.{List}
-use borrow.Author.Count.{below_more}
-use lib.Seq.{ext_get_or}
-use Rattle.rows.proofs.Rules.Tests.{eq_same, ne_same}
+use mathlib.Core.Path.{◌≡◌}
 use Prim.Native.Nat.{ℕ, ◌≤◌, ◌<◌, ◌-◌}
-use native.Mathlib.Omega.{arith}
-use borrow.Author.Rules.{rules}
-use lib.ListN.{length, get_or}
+use lib.ListN.{get_or}
 use Rattle.pages.proofs.page.same_bytes.Given as goal
 
 -- `pages::page::same_bytes` meets its contract.

@@ -1,7 +1,6 @@
 -- `place_list::Standing::of` meets its contract.
 use mathlib.Core.Path.{◌∙◌, sym}
 use native.Mathlib.Omega.{arith}
-use borrow.Author.Rules.{rules}
 use Rattle.place_list.proofs.Standings.{within, below, beyond, is_listed, is_unlisted, is_outside}
 use Rattle.place_list.proofs.Standing.of.Goals as goal
 

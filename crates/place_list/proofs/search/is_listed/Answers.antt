@@ -4,7 +4,6 @@ use Prim.Native.Nat.{ℕ, ◌<◌}
 use mathlib.Core.List.{List}
 use native.Mathlib.Omega.{arith}
 use lib.Dec.{eqb}
-use borrow.Author.Rules.{rules}
 use Rattle.place_list.specs.Search.{row_of, entry_of, row_for, found_in}
 use Rattle.place_list.proofs.Found.{found, behind-all}
 use Rattle.place_list.proofs.search.is_listed.Goals as goal

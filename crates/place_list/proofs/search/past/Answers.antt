@@ -1,6 +1,5 @@
 -- `place_list::search::past` meets its contract.
 use native.Mathlib.Omega.{arith}
-use borrow.Author.Rules.{rules}
 use borrow.Author.Tests.{lt-ltb, le-ltb}
 use Rattle.place_list.proofs.search.past.Goals as goal
 

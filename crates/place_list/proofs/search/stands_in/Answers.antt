@@ -1,5 +1,4 @@
 -- `place_list::search::stands_in` meets its contract.
-use borrow.Author.Rules.{rules}
 use Rattle.place_list.specs.Search.{found_in}
 use Rattle.place_list.proofs.search.stands_in.Goals as goal
 

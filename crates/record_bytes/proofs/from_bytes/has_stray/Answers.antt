@@ -47,23 +47,5 @@ returns c =
     let p = c.requires in
     sym (ap not (eq_same _ _ (none_stray c.args.bytes.now c.args.end p.0 p.1.0 p.1.1 (λ j h g. l.invariant.1.1 j (omega arith) g))))
 
-pub overflow_add-at : goal.overflow_add-at
-overflow_add-at c = omega arith
-
-pub overflow_add-at-in-loop-at : goal.overflow_add-at-in-loop-at
-overflow_add-at-in-loop-at c = omega arith
-
-pub loop-at-smaller : goal.loop-at-smaller
-loop-at-smaller c = omega arith
-
 pub loop-at-2-init : goal.loop-at-2-init
 loop-at-2-init c = c.loop-at.invariant
-
-pub bounds-bytes-at : goal.bounds-bytes-at
-bounds-bytes-at c = omega arith
-
-pub overflow_add-at-in-loop-at-2 : goal.overflow_add-at-in-loop-at-2
-overflow_add-at-in-loop-at-2 c = omega arith
-
-pub loop-at-2-smaller : goal.loop-at-2-smaller
-loop-at-2-smaller c = omega arith

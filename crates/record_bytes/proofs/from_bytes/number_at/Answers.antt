@@ -40,15 +40,3 @@ returns c =
     let a = c.args in
     let last : l.k ≡ a.count = omega arith in
     l.invariant.1 ∙ ap (number_at a.bytes.now a.at) last
-
-pub overflow_add-at : goal.overflow_add-at
-overflow_add-at c = omega arith
-
-pub bounds-bytes-at : goal.bounds-bytes-at
-bounds-bytes-at c = omega arith
-
-pub overflow_add-k : goal.overflow_add-k
-overflow_add-k c = omega arith
-
-pub loop-k-smaller : goal.loop-k-smaller
-loop-k-smaller c = omega arith

@@ -76,21 +76,3 @@ returns c =
     let last : l.k ≡ length ws = omega arith in
     let none : size (drop l.k ws) ≡ 0 = ap (λ (n : ℕ). size (drop n ws)) last ∙ ap size (drop-length ws) in
     (l.invariant.1.1.1 ∙ size_read a.at ws l.k none, l.invariant.1.1.0 ∙ cells_read a.bytes.now a.at ws l.k none)
-
-pub bounds-widths-k : goal.bounds-widths-k
-bounds-widths-k c = omega arith
-
-pub overflow_mul-values : goal.overflow_mul-values
-overflow_mul-values c = omega arith
-
-pub overflow_sub-values : goal.overflow_sub-values
-overflow_sub-values c = omega arith
-
-pub bounds-values-k : goal.bounds-values-k
-bounds-values-k c = omega arith
-
-pub overflow_add-k : goal.overflow_add-k
-overflow_add-k c = omega arith
-
-pub loop-k-smaller : goal.loop-k-smaller
-loop-k-smaller c = omega arith

@@ -40,18 +40,3 @@ returns-after-loop-k c =
 
 pub returns-else-has_text : goal.returns-else-has_text
 returns-else-has_text c = text_not_there _ _ (sym c.has_text.ensures ∙ c.if-has_text.false)
-
-pub overflow_add-text : goal.overflow_add-text
-overflow_add-text c = omega arith
-
-pub bounds-bytes-at : goal.bounds-bytes-at
-bounds-bytes-at c = omega arith
-
-pub bounds-text-k : goal.bounds-text-k
-bounds-text-k c = omega arith
-
-pub overflow_add-k : goal.overflow_add-k
-overflow_add-k c = omega arith
-
-pub loop-k-smaller : goal.loop-k-smaller
-loop-k-smaller c = omega arith

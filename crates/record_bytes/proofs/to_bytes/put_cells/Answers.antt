@@ -44,6 +44,3 @@ pub returns : goal.returns
 returns c =
     let none : size (drop c.loop-k.k c.args.widths.now) ≡ 0 = ap size (drop_of_length-le c.args.widths.now {i = c.loop-k.k} (omega (arith, c.loop-k-test))) in
     cells_put c.args.widths.now c.args.values.now c.requires.widths_len.0 c.args.out.now c.args.at c.requires.by_index.0 c.loop-k.k none c.loop-k.invariant.3 c.loop-k.invariant.2
-
-pub loop-k-smaller : goal.loop-k-smaller
-loop-k-smaller c = omega arith

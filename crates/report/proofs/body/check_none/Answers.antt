@@ -1,5 +1,4 @@
 -- `report::body::check_none` meets its contract.
-use borrow.Author.Rules.{rules}
 use mathlib.Core.Bool.{Bool}
 use Rattle.report.specs.declared.body.Body.TheVariants.{NoCategory}
 use mathlib.Core.List.{[], ◌∷◌}

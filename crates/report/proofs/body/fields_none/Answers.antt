@@ -1,5 +1,4 @@
 -- `report::body::fields_none` meets its contract.
-use borrow.Author.Rules.{rules}
 use Rattle.report.proofs.body.fields_none.Goals as goal
 
 pub returns : goal.returns

@@ -1,13 +1,11 @@
 -- `report::encode::encode` meets its contract: what it puts first is the frame without its parity, what it puts then the frame.
-use borrow.Author.Rules.{rules, length_unmapped}
 use mathlib.Core.List.{List}
-use mathlib.Core.Path.{◌≡◌, ◌∙◌, ap, sym}
+use mathlib.Core.Path.{◌≡◌, ◌∙◌, ap}
 use Prim.Native.Nat.{ℕ, ◌*◌, ◌^◌}
 use lib.ListN.{length}
 use Rattle.bits.specs.Frame.{bytes_of}
 use Rattle.bits.specs.declared.words.Words.{Words}
 use Rattle.bits.specs.Words.{pushed, value_of}
-use Rattle.bits.proofs.Arrays.{unmapped}
 use Rattle.bits.proofs.Inside.{frame_lent, right_size}
 use Rattle.parity.specs.Parity.{parity_of}
 use Rattle.report.specs.Runs.Writing.{front, frame}

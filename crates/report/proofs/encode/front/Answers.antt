@@ -1,5 +1,4 @@
 -- `report::encode::front` meets its contract.
-use borrow.Author.Rules.{rules, length_unmapped}
 use Rattle.rows.specs.declared.fields.Fields.{Fields}
 use Rattle.bits.specs.declared.words.Words.{Words}
 use Rattle.bits.specs.Words.{pushed, pushed_all}
@@ -9,7 +8,6 @@ use Rattle.report.specs.Runs.Writing.{body_pushed}
 use Rattle.rows.specs.Layout.{common, no_category}
 use Rattle.rows.specs.Values.{head_values, widths}
 use Rattle.report.proofs.Shaped.{Shaped}
-use Rattle.bits.proofs.Arrays.{unmapped}
 use Rattle.report.proofs.encode.front.Goals as goal
 
 pub returns : goal.returns

@@ -1,5 +1,4 @@
 -- `report::encode::push_common` meets its contract.
-use borrow.Author.Rules.{rules}
 use Rattle.report.proofs.encode.push_common.Goals as goal
 
 pub returns : goal.returns

@@ -1,5 +1,4 @@
 -- `report::encode::push_page` meets its contract.
-use borrow.Author.Rules.{rules}
 use Rattle.report.proofs.encode.push_page.Goals as goal
 
 pub returns-then-has : goal.returns-then-has

@@ -1,5 +1,4 @@
 -- `report::look::inner` meets its contract.
-use borrow.Author.Rules.{rules}
 use Rattle.report.specs.declared.body.Content.{Content}
 use Rattle.report.specs.declared.look.Looked.{Looked}
 use Rattle.report.specs.Categories.{layout}
@@ -8,8 +7,7 @@ use Rattle.report.specs.Runs.Reading.{content_answer, reading, seen}
 use Rattle.rows.specs.declared.refusal.Verdict.TheVariants.{Fine}
 use Rattle.slots.specs.Slots.{slot_parts, used_among}
 use mathlib.Core.Path.{◌≡◌, ◌∙◌, ap}
-use mathlib.Core.List.{List, map}
-use Prim.Native.Nat.{ℕ}
+use mathlib.Core.List.{map}
 use Rattle.bits.specs.Frame.{frame_in}
 use Rattle.report.proofs.Reading.Agree.{content_agrees}
 use Rattle.report.proofs.Reading.ReadSteps.{nothing_seen, read_inside, refused_inside}

@@ -1,7 +1,6 @@
 -- `report::look::look` meets its contract.
 use Rattle.report.proofs.Reading.ReadSteps.{look_said, not_a_frame, nothing_seen, refused_early, read_on}
 use Rattle.report.specs.Runs.Reading.{seen}
-use borrow.Author.Rules.{rules}
 use mathlib.Core.Path.{ap, sym, ◌∙◌}
 use Rattle.report.proofs.look.look.Goals as goal
 

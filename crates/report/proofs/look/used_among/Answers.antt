@@ -1,5 +1,4 @@
 -- `report::look::used_among` meets its contract.
-use borrow.Author.Rules.{rules}
 use native.Mathlib.Omega.{arith}
 use mathlib.Core.List.{map}
 use mathlib.Core.Path.{◌≡◌}

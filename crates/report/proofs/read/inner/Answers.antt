@@ -1,12 +1,9 @@
 -- `report::read::inner` meets its contract.
-use borrow.Author.Rules.{rules}
 use Rattle.report.specs.declared.body.Content.{Content}
 use Rattle.report.specs.declared.record.Record.{Record}
 use Rattle.report.specs.Runs.Reading.{content_answer, reading}
 use Rattle.rows.specs.declared.refusal.Verdict.TheVariants.{Fine}
 use mathlib.Core.Path.{◌≡◌, ◌∙◌, ap}
-use mathlib.Core.List.{List}
-use Prim.Native.Nat.{ℕ}
 use Rattle.bits.specs.Frame.{frame_in}
 use Rattle.report.proofs.Reading.Agree.{content_agrees}
 use Rattle.report.proofs.Reading.ReadSteps.{read_inside, refused_inside}

@@ -6,7 +6,6 @@ use Rattle.rows.specs.Runs.Verdict.{allowed}
 use Rattle.report.specs.Runs.Reading.{outer_of}
 use Rattle.rows.proofs.Rules.Outcomes.{fine_then}
 use Rattle.rows.proofs.Rules.Walks.{asked, link}
-use borrow.Author.Rules.{rules}
 use Rattle.report.specs.Categories.{preambles}
 use Rattle.report.proofs.read.outer.Goals as goal
 

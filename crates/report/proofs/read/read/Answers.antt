@@ -1,6 +1,5 @@
 -- `report::read::read` meets its contract.
 use Rattle.report.proofs.Reading.ReadSteps.{not_a_frame, refused_early, read_on, read_said}
-use borrow.Author.Rules.{rules}
 use mathlib.Core.Path.{sym, ◌∙◌}
 use Rattle.report.proofs.read.read.Goals as goal
 

@@ -1,5 +1,4 @@
 -- `report::read::refused` meets its contract.
-use borrow.Author.Rules.{rules}
 use Rattle.report.proofs.read.refused.Goals as goal
 
 pub returns : goal.returns

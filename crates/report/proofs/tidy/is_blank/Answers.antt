@@ -1,8 +1,6 @@
 -- `report::tidy::is_blank` meets its contract: what is left decides.
-use Prim.Native.Nat.{◌-◌, ◌≤◌}
 use Rattle.report.proofs.Writing.Blank.{blank_so_far, not_blank, all_blank}
-use Rattle.rows.specs.Runs.Verdict.{empty}
-use lib.ListN.{length, drop}
+use lib.ListN.{length}
 use mathlib.Core.Path.{◌≡◌, refl, sym, ◌∙◌}
 use native.Mathlib.Omega.{arith}
 use Rattle.report.proofs.tidy.is_blank.Goals as goal
@@ -24,12 +22,3 @@ pub returns : goal.returns
 returns c =
     let l = c.loop-i in
     sym (all_blank c.args.text l.i (omega (arith, (let size : length c.args.text ≡ 18 = c.well_formed.0.1.0.1 in size)))) ∙ l.invariant.1
-
-pub bounds-text-i : goal.bounds-text-i
-bounds-text-i c = omega arith
-
-pub overflow_add-i : goal.overflow_add-i
-overflow_add-i c = omega arith
-
-pub loop-i-smaller : goal.loop-i-smaller
-loop-i-smaller c = omega arith

@@ -1,9 +1,7 @@
 use Prim.Native.Nat.{◌-◌, ◌≤◌}
-use Rattle.report.proofs.Writing.Blank.{blank_so_far, not_blank, all_blank}
 use Rattle.rows.specs.Runs.Verdict.{empty}
-use lib.ListN.{length, drop}
-use mathlib.Core.Path.{◌≡◌, refl, sym, ◌∙◌}
-use native.Mathlib.Omega.{arith}
+use lib.ListN.{drop}
+use mathlib.Core.Path.{◌≡◌}
 use Rattle.report.proofs.tidy.is_blank.Given as goal
 
 -- `report::tidy::is_blank` meets its contract: what is left decides.

@@ -1,5 +1,4 @@
 -- `report::tidy::is_held` meets its contract.
-use borrow.Author.Rules.{rules}
 use Rattle.report.proofs.tidy.is_held.Goals as goal
 
 pub returns : goal.returns

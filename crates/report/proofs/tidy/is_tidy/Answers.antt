@@ -1,8 +1,6 @@
 -- `report::tidy::is_tidy` meets its contract.
 use mathlib.Core.Bool.{true}
 use mathlib.Core.Path.{◌≡◌, ◌∙◌, sym}
-use borrow.Author.Rules.{rules}
-use borrow.Author.Tests.{not-false, not-true}
 use Rattle.slots.specs.Slots.{tidy_slots}
 use Rattle.report.proofs.tidy.is_tidy.Goals as goal
 

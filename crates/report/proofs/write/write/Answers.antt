@@ -1,8 +1,7 @@
 -- `report::write::write` meets its contract.
 use Rattle.report.proofs.Writing.WriteSteps.{fine_size, fine_valid, left_alone, written_out}
 use Rattle.rows.proofs.Rules.Numbers.{beside_said}
-use borrow.Author.Rules.{rules}
-use mathlib.Core.Path.{◌≡◌, ap, sym, ◌∙◌}
+use mathlib.Core.Path.{◌≡◌, sym, ◌∙◌}
 use lib.ListN.{length}
 use Rattle.report.proofs.write.write.Goals as goal
 

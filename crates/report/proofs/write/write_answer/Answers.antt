@@ -10,7 +10,6 @@ use mir.Syntax.{w8}
 use Rattle.bits.specs.Frame.{Bytes}
 use Rattle.rows.specs.Runs.Verdict.{ranged, verdict}
 use Rattle.rows.proofs.Rules.Outcomes.{fine_then}
-use Rattle.rows.proofs.Rules.Numbers.{also_said}
 use Rattle.report.proofs.Texts.{record_verdict}
 use Rattle.report.proofs.Writing.Blank.{nonzero}
 use Rattle.report.proofs.Writing.Unused.{by_table}
@@ -20,7 +19,7 @@ use Rattle.report.specs.Runs.Writing.{write_answer}
 use Rattle.report.specs.Runs.Told.{told_of}
 use Rattle.report.specs.Categories.{layout}
 use Rattle.rows.specs.Refusals.{answers}
-use borrow.Author.Rules.{rules, elem_Fits, length_unmapped}
+use borrow.Author.Rules.{elem_Fits}
 use Rattle.report.proofs.write.write_answer.Goals as goal
 
 pub returns : goal.returns

@@ -1,5 +1,4 @@
 -- `slots::encode::push_slot` meets its contract: the sum of five bytes fits.
-use borrow.Author.Rules.{rules}
 use native.Mathlib.Omega.{arith}
 use Rattle.bits.proofs.Arrays.{each-bytes}
 use Rattle.bits.specs.Frame.{Bytes}
@@ -7,16 +6,32 @@ use Rattle.slots.specs.Runs.{slot_pushed}
 use Rattle.slots.proofs.encode.push_slot.Goals as goal
 
 pub overflow_add-bits : goal.overflow_add-bits
-overflow_add-bits c = omega (arith, (let bytes : Bytes c.args.widths = each-bytes c.args.widths c.well_formed.1.0.0 c.well_formed.1.0.1.1 in bytes) 0, (let bytes : Bytes c.args.widths = each-bytes c.args.widths c.well_formed.1.0.0 c.well_formed.1.0.1.1 in bytes) 1)
+overflow_add-bits c =
+    let bytes : Bytes c.args.widths =
+    each-bytes c.args.widths c.well_formed.1.0.0 c.well_formed.1.0.1.1
+    in
+    omega (arith, bytes 0, bytes 1)
 
 pub overflow_add-bits-2 : goal.overflow_add-bits-2
-overflow_add-bits-2 c = omega (arith, (let bytes : Bytes c.args.widths = each-bytes c.args.widths c.well_formed.1.0.0 c.well_formed.1.0.1.1 in bytes) 0, (let bytes : Bytes c.args.widths = each-bytes c.args.widths c.well_formed.1.0.0 c.well_formed.1.0.1.1 in bytes) 1, (let bytes : Bytes c.args.widths = each-bytes c.args.widths c.well_formed.1.0.0 c.well_formed.1.0.1.1 in bytes) 2)
+overflow_add-bits-2 c =
+    let bytes : Bytes c.args.widths =
+    each-bytes c.args.widths c.well_formed.1.0.0 c.well_formed.1.0.1.1
+    in
+    omega (arith, bytes 0, bytes 1, bytes 2)
 
 pub overflow_add-bits-3 : goal.overflow_add-bits-3
-overflow_add-bits-3 c = omega (arith, (let bytes : Bytes c.args.widths = each-bytes c.args.widths c.well_formed.1.0.0 c.well_formed.1.0.1.1 in bytes) 0, (let bytes : Bytes c.args.widths = each-bytes c.args.widths c.well_formed.1.0.0 c.well_formed.1.0.1.1 in bytes) 1, (let bytes : Bytes c.args.widths = each-bytes c.args.widths c.well_formed.1.0.0 c.well_formed.1.0.1.1 in bytes) 2, (let bytes : Bytes c.args.widths = each-bytes c.args.widths c.well_formed.1.0.0 c.well_formed.1.0.1.1 in bytes) 3)
+overflow_add-bits-3 c =
+    let bytes : Bytes c.args.widths =
+    each-bytes c.args.widths c.well_formed.1.0.0 c.well_formed.1.0.1.1
+    in
+    omega (arith, bytes 0, bytes 1, bytes 2, bytes 3)
 
 pub overflow_add-bits-4 : goal.overflow_add-bits-4
-overflow_add-bits-4 c = omega (arith, (let bytes : Bytes c.args.widths = each-bytes c.args.widths c.well_formed.1.0.0 c.well_formed.1.0.1.1 in bytes) 0, (let bytes : Bytes c.args.widths = each-bytes c.args.widths c.well_formed.1.0.0 c.well_formed.1.0.1.1 in bytes) 1, (let bytes : Bytes c.args.widths = each-bytes c.args.widths c.well_formed.1.0.0 c.well_formed.1.0.1.1 in bytes) 2, (let bytes : Bytes c.args.widths = each-bytes c.args.widths c.well_formed.1.0.0 c.well_formed.1.0.1.1 in bytes) 3, (let bytes : Bytes c.args.widths = each-bytes c.args.widths c.well_formed.1.0.0 c.well_formed.1.0.1.1 in bytes) 4)
+overflow_add-bits-4 c =
+    let bytes : Bytes c.args.widths =
+    each-bytes c.args.widths c.well_formed.1.0.0 c.well_formed.1.0.1.1
+    in
+    omega (arith, bytes 0, bytes 1, bytes 2, bytes 3, bytes 4)
 
 pub returns : goal.returns
 unfolding slot_pushed

@@ -1,11 +1,7 @@
-use Prim.Native.Nat.{◌+◌, ◌-◌, ◌≤◌, ◌<◌}
-use mathlib.Core.Path.{◌≡◌, refl, ◌∙◌, ap, sym}
-use native.Mathlib.Omega.{arith}
-use lib.ListN.{drop, length, take, get_or}
-use borrow.Author.Rules.{rules}
+use Prim.Native.Nat.{◌-◌, ◌≤◌}
+use mathlib.Core.Path.{◌≡◌}
+use lib.ListN.{drop, take}
 use Rattle.slots.specs.Runs.{slots_pushed}
-use Rattle.slots.proofs.Loops.{all-pushed, none_behind, none_left, one_pushed, one_more}
-use Rattle.slots.specs.Slots.{no_slot}
 use Rattle.slots.proofs.encode.push_slots.Given as goal
 
 -- `slots::encode::push_slots` meets its contract: what is left to push, behind what stands, is the whole.

@@ -1,5 +1,4 @@
 -- `slots::encode::slot_number` meets its contract.
-use borrow.Author.Rules.{rules}
 use Rattle.slots.specs.Runs.{slot_number}
 use Rattle.slots.proofs.encode.slot_number.Goals as goal
 

@@ -1,12 +1,10 @@
 -- `slots::silence::are_tidy` meets its contract: what is left decides.
-use Prim.Native.Nat.{◌-◌, ◌≤◌, ℕ}
+use Prim.Native.Nat.{◌-◌, ℕ}
 use mathlib.Core.Path.{◌∙◌, ◌≡◌, ap, sym}
-use Rattle.slots.proofs.Loops.{all-tidy, not_tidy, tidy_so_far, rest}
+use Rattle.slots.proofs.Loops.{all-tidy, not_tidy, tidy_so_far}
 use native.Mathlib.Omega.{arith}
 use lib.ListN.{length}
-use borrow.Author.Rules.{rules}
 use Rattle.slots.specs.Slots.{tidy_slots}
-use borrow.Author.Tests.{not-false, not-true}
 use Rattle.slots.proofs.silence.are_tidy.Goals as goal
 
 pub loop-i-init : goal.loop-i-init
@@ -16,27 +14,24 @@ loop-i-init c =
 
 pub returns-then-not-is_tidy : goal.returns-then-not-is_tidy
 returns-then-not-is_tidy c =
+    let sixteen : length c.args.slots ≡ 16 =
+    c.well_formed.1.1.0.1.0.1
+    in
     let a = c.args in
-    sym (not_tidy a.widths a.count a.slots c.loop-i.i (omega (arith, (let sixteen : length c.args.slots ≡ 16 = c.well_formed.1.1.0.1.0.1 in sixteen))) (sym c.is_tidy.ensures ∙ c.if-not-is_tidy.true)) ∙ c.loop-i.invariant.1
+    sym (not_tidy a.widths a.count a.slots c.loop-i.i (omega (arith, sixteen)) (sym c.is_tidy.ensures ∙ c.if-not-is_tidy.true)) ∙ c.loop-i.invariant.1
 
 pub loop-i-preserved : goal.loop-i-preserved
 loop-i-preserved c =
+    let sixteen : length c.args.slots ≡ 16 =
+    c.well_formed.1.1.0.1.0.1
+    in
     let a = c.args in
-    (omega arith, sym (tidy_so_far a.widths a.count a.slots c.loop-i.i (omega (arith, (let sixteen : length c.args.slots ≡ 16 = c.well_formed.1.1.0.1.0.1 in sixteen))) (sym c.is_tidy.ensures ∙ c.if-not-is_tidy.false)) ∙ c.loop-i.invariant.1)
+    (omega arith, sym (tidy_so_far a.widths a.count a.slots c.loop-i.i (omega (arith, sixteen)) (sym c.is_tidy.ensures ∙ c.if-not-is_tidy.false)) ∙ c.loop-i.invariant.1)
 
 pub returns : goal.returns
 returns c =
+    let sixteen : length c.args.slots ≡ 16 =
+    c.well_formed.1.1.0.1.0.1
+    in
     let a = c.args in
-    sym (all-tidy a.widths a.count a.slots c.loop-i.i (omega (arith, (let sixteen : length c.args.slots ≡ 16 = c.well_formed.1.1.0.1.0.1 in sixteen)))) ∙ c.loop-i.invariant.1
-
-pub offset_bounds-slots-i : goal.offset_bounds-slots-i
-offset_bounds-slots-i c = omega arith
-
-pub bounds-slots-i : goal.bounds-slots-i
-bounds-slots-i c = omega arith
-
-pub overflow_add-i : goal.overflow_add-i
-overflow_add-i c = omega arith
-
-pub loop-i-smaller : goal.loop-i-smaller
-loop-i-smaller c = omega arith
+    sym (all-tidy a.widths a.count a.slots c.loop-i.i (omega (arith, sixteen))) ∙ c.loop-i.invariant.1

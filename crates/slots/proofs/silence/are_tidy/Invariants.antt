@@ -1,11 +1,7 @@
-use Prim.Native.Nat.{◌-◌, ◌≤◌, ℕ}
-use mathlib.Core.Path.{◌∙◌, ◌≡◌, ap, sym}
-use Rattle.slots.proofs.Loops.{all-tidy, not_tidy, tidy_so_far, rest}
-use native.Mathlib.Omega.{arith}
-use lib.ListN.{length}
-use borrow.Author.Rules.{rules}
+use Prim.Native.Nat.{◌-◌, ◌≤◌}
+use mathlib.Core.Path.{◌≡◌}
+use Rattle.slots.proofs.Loops.{rest}
 use Rattle.slots.specs.Slots.{tidy_slots}
-use borrow.Author.Tests.{not-false, not-true}
 use Rattle.slots.proofs.silence.are_tidy.Given as goal
 
 -- `slots::silence::are_tidy` meets its contract: what is left decides.

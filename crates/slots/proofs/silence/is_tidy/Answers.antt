@@ -1,5 +1,4 @@
 -- `slots::silence::is_tidy` meets its contract.
-use borrow.Author.Rules.{rules}
 use borrow.Author.Tests.{le-ltb, lt-ltb}
 use mathlib.Core.Path.{◌∙◌, sym}
 use Rattle.slots.specs.Slots.{slot_parts}

@@ -1,12 +1,8 @@
 use Prim.Native.Nat.{◌+◌, ◌-◌, ◌≤◌}
-use mathlib.Core.Path.{◌∙◌, ◌≡◌, sym}
-use native.Mathlib.Omega.{arith}
-use lib.ListN.{length}
+use mathlib.Core.Path.{◌≡◌}
 use mathlib.Core.List.{map}
-use borrow.Author.Rules.{rules}
 use Rattle.slots.specs.Slots.{slot_parts, used_among}
-use Rattle.slots.proofs.Loops.{used_all, used_end, used_more, used_from}
-use native.Mathlib.Nat.{zero-add}
+use Rattle.slots.proofs.Loops.{used_from}
 use Rattle.slots.proofs.silence.used.Given as goal
 
 -- `slots::silence::used` meets its contract: those passed and those used from here on are all.

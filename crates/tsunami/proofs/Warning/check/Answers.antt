@@ -1,5 +1,4 @@
 -- `tsunami::Warning::check` meets its contract.
-use borrow.Author.Rules.{rules}
 use mathlib.Core.Bool.{Bool}
 use mathlib.Core.Path.{◌∙◌, ap₂, sym}
 use Rattle.rows.specs.Runs.Questions.{◌then◌}

@@ -1,5 +1,4 @@
 -- `tsunami::Warning::fields` meets its contract.
-use borrow.Author.Rules.{rules}
 use Rattle.tsunami.proofs.Warning.fields.Goals as goal
 
 pub returns : goal.returns

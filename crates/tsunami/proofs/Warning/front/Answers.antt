@@ -1,5 +1,4 @@
 -- `tsunami::Warning::front` meets its contract.
-use borrow.Author.Rules.{rules}
 use Rattle.rows.proofs.Rules.Outcomes.{then_assoc, then_fine}
 use Rattle.rows.proofs.Rules.Spans.{allowed_one}
 use Rattle.rows.specs.Runs.Verdict.{walk, judge}

@@ -1,5 +1,4 @@
 -- `tsunami::Warning::of` meets its contract.
-use borrow.Author.Rules.{rules}
 use Rattle.tsunami.proofs.Warning.of.Goals as goal
 
 pub returns : goal.returns

@@ -1,5 +1,4 @@
 -- `tsunami::Warning::of_values` meets its contract.
-use borrow.Author.Rules.{rules}
 use Rattle.tsunami.proofs.Warning.of_values.Goals as goal
 
 pub returns : goal.returns

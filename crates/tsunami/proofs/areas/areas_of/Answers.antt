@@ -1,5 +1,4 @@
 -- `tsunami::areas::areas_of` meets its contract.
-use borrow.Author.Rules.{rules}
 use Rattle.slots.specs.Slots.{slots_of}
 use Rattle.tsunami.proofs.areas.areas_of.Goals as goal
 

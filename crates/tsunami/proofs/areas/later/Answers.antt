@@ -1,5 +1,4 @@
 -- `tsunami::areas::later` meets its contract.
-use borrow.Author.Rules.{rules}
 use Rattle.tsunami.proofs.areas.later.Goals as goal
 
 pub returns : goal.returns

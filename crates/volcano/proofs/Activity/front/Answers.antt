@@ -1,5 +1,4 @@
 -- `volcano::Activity::front` meets its contract.
-use borrow.Author.Rules.{rules}
 use mathlib.Core.Bool.{Bool, true, false, ◌&&◌}
 use mathlib.Core.Path.{◌≡◌, refl}
 use Rattle.rows.proofs.Rules.Outcomes.{and-true, then_assoc, then_fine}

@@ -1,5 +1,4 @@
 -- `volcano::Activity::of` meets its contract.
-use borrow.Author.Rules.{rules}
 use Rattle.volcano.proofs.Activity.of.Goals as goal
 
 pub returns : goal.returns

@@ -1,5 +1,4 @@
 -- `volcano::Activity::of_values` meets its contract.
-use borrow.Author.Rules.{rules}
 use Rattle.volcano.proofs.Activity.of_values.Goals as goal
 
 pub returns : goal.returns

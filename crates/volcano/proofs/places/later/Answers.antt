@@ -1,5 +1,4 @@
 -- `volcano::places::later` meets its contract: a place has one field, so it is empty where that is zero.
-use borrow.Author.Rules.{rules}
 use Rattle.rows.proofs.Rules.Outcomes.{and-true}
 use Rattle.rows.specs.Runs.Verdict.{empty}
 use Rattle.volcano.proofs.places.later.Goals as goal

@@ -1,7 +1,6 @@
 -- `ash_fall::meaning::Prefecture::of` meets its contract.
 use Prim.Native.Nat.{◌<◌}
 use Rattle.ash_fall.specs.Meaning.{prefecture_of}
-use borrow.Author.Rules.{rules}
 use borrow.Author.Tests.{le-leb, lt-leb}
 use native.Mathlib.Omega.{arith}
 use Rattle.ash_fall.proofs.meaning.Prefecture.of.Goals as goal

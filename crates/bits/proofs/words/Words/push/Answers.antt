@@ -1,5 +1,4 @@
 -- `bits::words::Words::push` meets its contract.
-use borrow.Author.Rules.{rules}
 use borrow.Author.Tests.{eq-eqb, ne_eqb}
 use Rattle.bits.specs.Words.{pushed}
 use Rattle.bits.proofs.words.Words.push.Goals as goal

@@ -4,7 +4,6 @@ use Prim.Native.Nat.{◌+◌}
 use native.Mathlib.Omega.{arith}
 use Rattle.bits.specs.Frame.{frame_in}
 use Rattle.bits.proofs.Inside.{field_in_lem}
-use borrow.Author.Rules.{rules}
 use Rattle.hypocenter.proofs.angle.Angle.at.Goals as goal
 
 pub returns : goal.returns

@@ -2,7 +2,6 @@
 use mathlib.Core.Path.{sym, ◌∙◌}
 use borrow.Author.Tests.{eq-eqb, ne_eqb}
 use Rattle.pages.specs.Names.{same_name}
-use borrow.Author.Rules.{rules}
 use Rattle.pages.proofs.name.Name.is.Goals as goal
 
 pub returns-then-self-other : goal.returns-then-self-other

@@ -1,7 +1,6 @@
 -- `pages::name::Name::is_in_range` meets its contract.
 use mathlib.Core.Path.{sym, ap, ◌∙◌}
 use Rattle.pages.specs.Names.{is_fine}
-use borrow.Author.Rules.{rules}
 use Rattle.pages.proofs.name.Name.is_in_range.Goals as goal
 
 pub returns-in-Fine : goal.returns-in-Fine

@@ -1,5 +1,4 @@
 -- `pages::name::Name::verdict` meets its contract.
-use borrow.Author.Rules.{rules}
 use Rattle.rows.proofs.Rules.Numbers.{also_said}
 use Rattle.pages.proofs.Ranges.{name_found}
 use Rattle.pages.proofs.name.Name.verdict.Goals as goal

@@ -1,7 +1,6 @@
 -- `pages::page::Page::is_sound_at` meets its contract.
 use mathlib.Core.Path.{◌∙◌, sym}
-use borrow.Author.Rules.{rules}
-use borrow.Author.Tests.{lt-ltb, le-ltb, not-true, not-false}
+use borrow.Author.Tests.{lt-ltb, le-ltb}
 use Rattle.pages.specs.Pages.{sound_at}
 use Rattle.pages.proofs.Sound.{held_at, no_state, without_bytes}
 use Rattle.pages.proofs.page.Page.is_sound_at.Goals as goal

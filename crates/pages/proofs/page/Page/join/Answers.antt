@@ -1,6 +1,5 @@
 -- `pages::page::Page::join` meets its contract.
 use mathlib.Core.Path.{◌∙◌}
-use borrow.Author.Rules.{rules}
 use Rattle.pages.specs.declared.page.Kept.TheVariants.{Own, Other, Neither}
 use Rattle.pages.proofs.KeptPages.{joined_by}
 use Rattle.pages.proofs.page.Page.join.Goals as goal

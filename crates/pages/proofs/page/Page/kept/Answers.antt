@@ -1,6 +1,5 @@
 -- `pages::page::Page::kept` meets its contract.
 use mathlib.Core.Path.{◌∙◌, sym}
-use borrow.Author.Rules.{rules}
 use borrow.Author.Tests.{eq-eqb, ne_eqb}
 use Rattle.pages.specs.Pages.{kept_of}
 use Rattle.pages.proofs.page.Page.kept.Goals as goal

@@ -3,7 +3,6 @@ use Rattle.rows.specs.declared.refusal.Verdict.{Verdict}
 use Rattle.report.specs.declared.body.Body.{Body}
 use Rattle.report.specs.Runs.Told.{told_of}
 use Rattle.report.proofs.Told.{of_body}
-use borrow.Author.Rules.{rules}
 use Rattle.report.proofs.body.Body.check.Goals as goal
 
 pub returns-in-NoCategory : goal.returns-in-NoCategory

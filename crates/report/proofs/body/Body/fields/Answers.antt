@@ -4,7 +4,6 @@ use Rattle.rows.specs.Runs.Fields.{fields_in}
 use Rattle.report.specs.declared.body.Body.{Body}
 use Rattle.report.specs.Categories.{layout, sides_of}
 use Rattle.report.proofs.Told.{of_body}
-use borrow.Author.Rules.{rules}
 use Rattle.report.proofs.body.Body.fields.Goals as goal
 
 pub returns-in-NoCategory : goal.returns-in-NoCategory

@@ -9,7 +9,6 @@ use Rattle.rows.specs.Runs.Fields.{kept_in}
 use Rattle.report.specs.declared.body.Body.{Body}
 use Rattle.report.specs.declared.body.BodyAndSpares.{BodyAndSpares}
 use Rattle.report.specs.declared.body.Body.TheVariants.{AshFall, Flood, Hypocenter, Intensity, Nankai, NoCategory, Tsunami, Volcano}
-use borrow.Author.Rules.{rules}
 use Rattle.report.proofs.body.Body.of_values.Goals as goal
 
 -- what the arm of the code dc makes is what the code says

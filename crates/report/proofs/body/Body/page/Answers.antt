@@ -9,7 +9,6 @@ use types.Run.{miss}
 use borrow.Enum.Refused.{opened}
 use mathlib.Core.Logic.{⊎_elim}
 use Rattle.report.proofs.Categories.{layouts, page_or_none}
-use borrow.Author.Rules.{rules}
 use Rattle.report.proofs.body.Body.page.Goals as goal
 
 -- n variants from the one at i on, but for the one at k: as the other side of a `let else` has them

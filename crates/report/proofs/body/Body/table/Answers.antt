@@ -4,7 +4,6 @@ use Rattle.rows.specs.Runs.Fields.{table_in}
 use Rattle.report.specs.declared.body.Body.{Body}
 use Rattle.report.specs.Categories.{layout}
 use Rattle.report.proofs.Told.{of_body}
-use borrow.Author.Rules.{rules}
 use Rattle.report.proofs.body.Body.table.Goals as goal
 
 -- the table of a body

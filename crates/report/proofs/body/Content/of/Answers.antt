@@ -1,5 +1,4 @@
 -- `report::body::Content::of` meets its contract.
-use borrow.Author.Rules.{rules}
 use mathlib.Core.Path.{◌∙◌, ◌≡◌, ap, sym}
 use Rattle.report.specs.Categories.{body_from}
 use Rattle.report.specs.Runs.Reading.{content_as}

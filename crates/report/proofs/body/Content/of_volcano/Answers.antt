@@ -1,5 +1,4 @@
 -- `report::body::Content::of_volcano` meets its contract.
-use borrow.Author.Rules.{rules}
 use Rattle.rows.specs.Runs.Questions.{◌then◌, unless}
 use Rattle.slots.specs.Slots.{slots_of}
 use Rattle.report.proofs.body.Content.of_volcano.Goals as goal

@@ -1,5 +1,4 @@
 -- `report::look::Looked::of` meets its contract.
-use borrow.Author.Rules.{rules}
 use Rattle.report.specs.Meaning.{used_of}
 use Rattle.report.proofs.look.Looked.of.Goals as goal
 

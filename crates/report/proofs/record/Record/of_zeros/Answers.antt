@@ -1,5 +1,4 @@
 -- `report::record::Record::of_zeros` meets its contract.
-use borrow.Author.Rules.{rules}
 use Rattle.report.specs.Records.{zeros}
 use Rattle.report.proofs.record.Record.of_zeros.Goals as goal
 

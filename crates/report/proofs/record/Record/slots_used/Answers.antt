@@ -1,5 +1,4 @@
 -- `report::record::Record::slots_used` meets its contract.
-use borrow.Author.Rules.{rules}
 use Rattle.report.specs.Meaning.{used_of}
 use Rattle.report.proofs.record.Record.slots_used.Goals as goal
 

@@ -1,5 +1,4 @@
 -- `rows::common::Common::of` meets its contract.
-use borrow.Author.Rules.{rules}
 use Rattle.rows.proofs.common.Common.of.Goals as goal
 
 pub returns : goal.returns

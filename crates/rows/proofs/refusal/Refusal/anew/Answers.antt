@@ -1,6 +1,5 @@
 -- `rows::refusal::Refusal::anew` meets its contract.
 use mathlib.Core.Path.{sym}
-use borrow.Author.Rules.{rules}
 use Rattle.rows.proofs.refusal.Refusal.anew.Goals as goal
 
 pub returns-in-Range : goal.returns-in-Range

@@ -1,5 +1,4 @@
 -- `rows::refusal::Refusal::says` meets its contract.
-use borrow.Author.Rules.{rules}
 use Rattle.rows.proofs.refusal.Refusal.says.Goals as goal
 
 pub returns-in-Length : goal.returns-in-Length

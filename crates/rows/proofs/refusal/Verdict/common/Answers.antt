@@ -1,6 +1,5 @@
 -- `rows::refusal::Verdict::common` meets its contract.
 use Rattle.rows.proofs.Rules.Outcomes.{then_assoc}
-use borrow.Author.Rules.{rules}
 use Rattle.rows.proofs.refusal.Verdict.common.Goals as goal
 
 pub returns : goal.returns

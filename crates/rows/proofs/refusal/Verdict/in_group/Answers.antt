@@ -1,5 +1,4 @@
 -- `rows::refusal::Verdict::in_group` meets its contract.
-use borrow.Author.Rules.{rules}
 use mathlib.Core.Path.{◌∙◌, ap, sym}
 use mathlib.Core.Bool.{◌&&◌}
 use lib.Dec.{leb}

@@ -1,5 +1,4 @@
 -- `rows::refusal::Verdict::notification` meets its contract.
-use borrow.Author.Rules.{rules}
 use Rattle.rows.proofs.refusal.Verdict.notification.Goals as goal
 
 pub returns : goal.returns

@@ -1,5 +1,4 @@
 -- `rows::refusal::Verdict::spare` meets its contract.
-use borrow.Author.Rules.{rules}
 use Rattle.rows.proofs.refusal.Verdict.spare.Goals as goal
 
 pub returns : goal.returns

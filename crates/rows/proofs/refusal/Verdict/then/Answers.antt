@@ -1,6 +1,5 @@
 -- `rows::refusal::Verdict::then` meets its contract.
 use Rattle.rows.specs.Runs.Questions.{◌then◌}
-use borrow.Author.Rules.{rules}
 use Rattle.rows.proofs.refusal.Verdict.then.Goals as goal
 
 pub returns-in-Fine : goal.returns-in-Fine

@@ -3,7 +3,6 @@ use Rattle.rows.proofs.Rules.Outcomes.{then_assoc, then_fine}
 use Rattle.rows.proofs.Rules.Spans.{allowed_one}
 use Rattle.rows.specs.Runs.Verdict.{walk, judge}
 use borrow.Author.Tests.{lt-leb, le-leb}
-use borrow.Author.Rules.{rules}
 use Rattle.rows.proofs.refusal.Verdict.time.Goals as goal
 
 pub returns-then-at-gt240 : goal.returns-then-at-gt240

@@ -1,6 +1,5 @@
 -- `rows::refusal::Verdict::unless` meets its contract.
 use Rattle.rows.specs.Runs.Questions.{◌then◌, unless}
-use borrow.Author.Rules.{rules}
 use Rattle.rows.proofs.refusal.Verdict.unless.Goals as goal
 
 pub returns-then-met : goal.returns-then-met

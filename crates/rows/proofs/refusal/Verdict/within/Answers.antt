@@ -1,5 +1,4 @@
 -- `rows::refusal::Verdict::within` meets its contract.
-use borrow.Author.Rules.{rules}
 use Rattle.rows.proofs.refusal.Verdict.within.Goals as goal
 
 pub returns : goal.returns

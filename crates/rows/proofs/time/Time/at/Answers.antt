@@ -1,5 +1,4 @@
 -- `rows::time::Time::at` meets its contract.
-use borrow.Author.Rules.{rules}
 use Rattle.rows.proofs.time.Time.at.Goals as goal
 
 pub returns : goal.returns

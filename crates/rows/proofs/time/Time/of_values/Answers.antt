@@ -1,5 +1,4 @@
 -- `rows::time::Time::of_values` meets its contract.
-use borrow.Author.Rules.{rules}
 use Rattle.rows.proofs.time.Time.of_values.Goals as goal
 
 pub returns : goal.returns

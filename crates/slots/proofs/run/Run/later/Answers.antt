@@ -1,5 +1,4 @@
 -- `slots::run::Run::later` meets its contract.
-use borrow.Author.Rules.{rules}
 use Rattle.slots.specs.Runs.{later_run}
 use Rattle.rows.proofs.Rules.Outcomes.{then_assoc}
 use Rattle.slots.proofs.run.Run.later.Goals as goal

@@ -1,5 +1,4 @@
 -- `slots::slot::Slot::is_empty` meets its contract.
-use borrow.Author.Rules.{rules}
 use Rattle.slots.proofs.Vacant.{fifth_held, four_bytes}
 use Rattle.slots.proofs.slot.Slot.is_empty.Goals as goal
 

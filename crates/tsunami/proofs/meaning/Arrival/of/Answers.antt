@@ -1,5 +1,4 @@
 -- `tsunami::meaning::Arrival::of` meets its contract.
-use borrow.Author.Rules.{rules}
 use mathlib.Core.Path.{◌∙◌, sym}
 use borrow.Author.Tests.{le-leb, lt-leb}
 use Rattle.tsunami.specs.Meaning.{arrival_of}

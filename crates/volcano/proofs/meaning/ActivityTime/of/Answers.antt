@@ -1,5 +1,4 @@
 -- `volcano::meaning::ActivityTime::of` meets its contract.
-use borrow.Author.Rules.{rules}
 use mathlib.Core.Path.{◌∙◌, sym}
 use borrow.Author.Tests.{le-leb, lt-leb}
 use Rattle.volcano.specs.Meaning.{activity_time_of}
