@@ -9,7 +9,7 @@
  * for x86-64; it needs memcpy and memset. The functions work on buffers lent as
  * a pointer and a length, never write to a const one, keep nothing between
  * calls and take no other memory than the stack. Of that lz_read was measured
- * to take 1,487 bytes, lz_read_line 1,647, lz_write 2,271, and none more than
+ * to take 1,487 bytes, lz_read_line 1,615, lz_write 2,271, and none more than
  * 6,120; no promise speaks of it, but the tests keep it from growing.
  *
  * What the caller guarantees. Whatever bytes are lent, and however many, each

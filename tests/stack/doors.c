@@ -91,7 +91,7 @@ static struct door doors[] = {
     {"lz_parity", call_parity, 88, 0},
     {"lz_read, refused by a field", call_refused, 1487, 0},
     {"lz_read", call_read, 1487, 0},
-    {"lz_read_line", call_read_line, 1647, 0},
+    {"lz_read_line", call_read_line, 1615, 0},
     {"lz_write", call_write, 2271, 0},
     {"lz_write_line", call_write_line, 8, 0},
     {"lz_read_sentence", call_read_sentence, 1695, 0},
