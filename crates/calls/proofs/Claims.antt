@@ -2,13 +2,23 @@
 use mathlib.Core.Path.{◌≡◌}
 use mathlib.Core.List.{List, [], ◌∷◌, ◌++◌, map}
 use mathlib.Core.Logic.{◌⊎◌}
-use Prim.Native.Nat.{ℕ, ◌*◌, ◌^◌, ◌≤◌}
+use Prim.Native.Nat.{ℕ, ◌*◌, ◌^◌, ◌≤◌, ◌<◌}
 use lib.ListN.{length, drop}
 use Rattle.bits.specs.Frame.{Bytes}
 use Rattle.pages.specs.declared.name.Name.{Name}
 use Rattle.histories.specs.Soundness.{InRange}
 use Rattle.histories.specs.Reports.{Reports, Tells}
 use Rattle.bulletin.specs.declared.count.Count.{Count}
+use Rattle.bulletin.specs.declared.store.Store.{Store}
+use Rattle.bulletin.specs.Takings.{take_says}
+use Rattle.bulletin.specs.Merges.{merge_says}
+use Rattle.bulletin.specs.Counts.{count_says}
+use Rattle.bulletin.specs.Text.{text_says}
+use Rattle.report.specs.declared.record.Record.{Record}
+use Rattle.report.specs.Runs.Reading.{read_says}
+use Rattle.report.specs.Runs.Writing.{write_says}
+use Rattle.line.specs.Lines.{line_says, line_write_says}
+use Rattle.pages.specs.Names.{name_says}
 use Rattle.report.specs.Conforms.{Conforms}
 use Rattle.report.specs.Records.{record_of}
 use Rattle.record_bytes.specs.Packed.{packed}
@@ -23,6 +33,7 @@ use Rattle.calls.specs.Calls.{takes_into}
 use Rattle.calls.proofs.RoundTrip as RoundTrip
 use Rattle.calls.proofs.Damage as Damage
 use Rattle.calls.proofs.Takings as Takings
+use Rattle.calls.proofs.Numbers as Numbers
 
 -- "a conforming frame is read": `lz_read` answers 0 and hands over its record ..
 pub a_conforming_frame_is_read : (frame bytes : List ℕ) → Conforms frame → length bytes ≡ 251 → read_into frame bytes ≡ call_result 0 (packed (record_of frame))
@@ -86,3 +97,45 @@ such_a_store_reports_its_frames n frames r = Takings.reported-bytes n r frames
 pub such_a_store_tells_its_text : (n : Name) (frames : List Frame) (text buffer : List ℕ) → InRange n → Tells (store_after n frames) text → length text ≤ length buffer
     → text_into (store_bytes (store_after n frames)) buffer ≡ call_result (length text) (text ++ drop (length text) buffer)
 such_a_store_tells_its_text n frames text buffer r t h = Takings.told_bytes n r frames text buffer t h
+
+-- ---- numbers: 18 to 20 speak of a receiver's sentence, and the nine answers that were there before it still have 0 to 17
+
+-- Reading any bytes as a frame is answered with 0 to 17 ..
+pub a_reading_is_answered_0_to_17 : (frame : List ℕ) → (read_says frame).number ≤ 17
+a_reading_is_answered_0_to_17 = Numbers.read_numbered
+
+-- .. writing any record, of the right shape or not, to a buffer of any size ..
+pub a_writing_is_answered_0_to_17 : (r : Record) (size : ℕ) → (write_says r size).number ≤ 17
+a_writing_is_answered_0_to_17 = Numbers.write_numbered
+
+-- .. reading any bytes as a line ..
+pub a_line_read_is_answered_0_to_17 : (line : List ℕ) → (line_says line).number ≤ 17
+a_line_read_is_answered_0_to_17 = Numbers.line_numbered
+
+-- .. writing any bytes as a line, with any room ..
+pub a_line_written_is_answered_0_to_17 : (frame : List ℕ) (room : ℕ) → (line_write_says frame room).number ≤ 17
+a_line_written_is_answered_0_to_17 = Numbers.line_write_numbered
+
+-- .. opening a store of any name ..
+pub an_opening_is_answered_0_to_17 : (name : Name) → (name_says name).number ≤ 17
+an_opening_is_answered_0_to_17 = Numbers.name_numbered
+
+-- .. taking any record into any store, sound or not ..
+pub a_taking_is_answered_0_to_17 : (s : Store) (r : Record) → (take_says s r).number ≤ 17
+a_taking_is_answered_0_to_17 = Numbers.take_numbered
+
+-- .. merging any two stores ..
+pub a_merge_is_answered_0_to_17 : (a b : Store) → (merge_says a b).number ≤ 17
+a_merge_is_answered_0_to_17 = Numbers.merge_numbered
+
+-- .. the report of any store ..
+pub a_count_is_answered_0_to_17 : (s : Store) → (count_says s).number ≤ 17
+a_count_is_answered_0_to_17 = Numbers.count_numbered
+
+-- .. and the text of any store, in a buffer of any size.
+pub a_text_is_answered_0_to_17 : (s : Store) (size : ℕ) → (text_says s size).number ≤ 17
+a_text_is_answered_0_to_17 = Numbers.text_numbered
+
+-- So a number above 17, as 18 to 20 are, is answered by none of these nine, whatever it is asked of.
+pub a_number_above_17_is_answered_by_none_of_these : (n : ℕ) → 17 < n → Numbers.AnsweredByNone n
+a_number_above_17_is_answered_by_none_of_these = Numbers.above_17
