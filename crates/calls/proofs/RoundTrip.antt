@@ -11,7 +11,6 @@ use Rattle.bits.specs.Frame.{Bytes}
 use Rattle.rows.specs.declared.refusal.Verdict.{Verdict}
 use Rattle.rows.specs.declared.refusal.Verdict.TheVariants.{Fine, Refused}
 use Rattle.rows.specs.Refusals.{says, answers}
-use Rattle.rows.specs.Runs.Questions.{◌then◌}
 use Rattle.rows.specs.Runs.Verdict.{allowed}
 use Rattle.rows.proofs.Rules.Outcomes.{false_not_true}
 use Rattle.rows.proofs.Rules.Spans.{in_allowed}
