@@ -72,52 +72,56 @@ static void call_prefecture(void) { answer = lz_prefecture(4600000); }
 static void call_standing(void) { answer = lz_standing(4600000); }
 
 /*
- * What each was measured to take when its row was written, and the most that it
- * takes now. Another compiler of this test may push three words more on the way
- * to the call; a frame that is copied once more is past that. A call that takes
- * as much less did not do its work, or its row is to be written anew.
+ * What each took with the kit of before, which is told and not asked any more:
+ * today's compiler sets every local to zeros where a function begins, so that
+ * fewer of them share a place. Then what each was measured to take when its row
+ * was written, and the most that it takes now. Another compiler of this test
+ * may push three words more on the way to the call; a frame that is copied once
+ * more is past that. A call that takes as much less did not do its work, or its
+ * row is to be written anew.
  */
 #define ROOM 24
 
 struct door {
     const char *name;
     void (*call)(void);
+    size_t with_older_kit;
     size_t taken_then;
     size_t most;
 };
 
 static struct door doors[] = {
-    {"one field", call_field, 8, 0},
-    {"lz_parity", call_parity, 48, 0},
-    {"lz_read, refused by a field", call_refused, 3032, 0},
-    {"lz_read", call_read, 3032, 0},
-    {"lz_read_line", call_read_line, 3128, 0},
-    {"lz_write", call_write, 2664, 0},
-    {"lz_write_line", call_write_line, 8, 0},
-    {"lz_read_sentence", call_read_sentence, 3160, 0},
-    {"lz_write_sentence", call_write_sentence, 3064, 0},
-    {"lz_slots_used", call_slots_used, 1353, 0},
-    {"lz_open", call_open, 1416, 0},
-    {"lz_take", call_take, 6728, 0},
-    {"lz_merge", call_merge, 8728, 0},
-    {"lz_count", call_count, 3864, 0},
-    {"lz_text", call_text, 3912, 0},
-    {"lz_read_value, of a field", call_refused_value, 3000, 0},
-    {"lz_read_value", call_read_value, 3000, 0},
-    {"lz_read_line_value", call_read_line_value, 3096, 0},
-    {"lz_read_sentence_value", call_read_sentence_value, 3144, 0},
-    {"lz_write_sentence_value", call_write_sentence_value, 3000, 0},
-    {"lz_write_value", call_write_value, 1864, 0},
-    {"lz_open_value", call_open_value, 216, 0},
-    {"lz_take_value", call_take_value, 3048, 0},
-    {"lz_depth", call_depth, 8, 0},
-    {"lz_magnitude", call_magnitude, 8, 0},
-    {"lz_arrival", call_arrival, 8, 0},
-    {"lz_height", call_height, 8, 0},
-    {"lz_activity", call_activity, 8, 0},
-    {"lz_validity", call_validity, 8, 0},
-    {"lz_prefecture", call_prefecture, 8, 0},
-    {"lz_standing", call_standing, 492, 0},
+    {"one field", call_field, 8, 8, 0},
+    {"lz_parity", call_parity, 88, 48, 0},
+    {"lz_read, refused by a field", call_refused, 1487, 3032, 0},
+    {"lz_read", call_read, 1487, 3032, 0},
+    {"lz_read_line", call_read_line, 1615, 3128, 0},
+    {"lz_write", call_write, 2271, 2664, 0},
+    {"lz_write_line", call_write_line, 8, 8, 0},
+    {"lz_read_sentence", call_read_sentence, 1695, 3160, 0},
+    {"lz_write_sentence", call_write_sentence, 1503, 3064, 0},
+    {"lz_slots_used", call_slots_used, 905, 1353, 0},
+    {"lz_open", call_open, 1240, 1416, 0},
+    {"lz_take", call_take, 5352, 6728, 0},
+    {"lz_merge", call_merge, 6120, 8728, 0},
+    {"lz_count", call_count, 3672, 3864, 0},
+    {"lz_text", call_text, 3720, 3912, 0},
+    {"lz_read_value, of a field", call_refused_value, 1455, 3000, 0},
+    {"lz_read_value", call_read_value, 1455, 3000, 0},
+    {"lz_read_line_value", call_read_line_value, 1551, 3096, 0},
+    {"lz_read_sentence_value", call_read_sentence_value, 1583, 3144, 0},
+    {"lz_write_sentence_value", call_write_sentence_value, 1455, 3000, 0},
+    {"lz_write_value", call_write_value, 1407, 1864, 0},
+    {"lz_open_value", call_open_value, 8, 216, 0},
+    {"lz_take_value", call_take_value, 2856, 3048, 0},
+    {"lz_depth", call_depth, 8, 8, 0},
+    {"lz_magnitude", call_magnitude, 8, 8, 0},
+    {"lz_arrival", call_arrival, 8, 8, 0},
+    {"lz_height", call_height, 8, 8, 0},
+    {"lz_activity", call_activity, 8, 8, 0},
+    {"lz_validity", call_validity, 8, 8, 0},
+    {"lz_prefecture", call_prefecture, 8, 8, 0},
+    {"lz_standing", call_standing, 492, 492, 0},
 };
 
 /*
@@ -163,7 +167,8 @@ void check_doors(void)
     }
     for (size_t i = 0; i < COUNT(doors); i++) {
         size_t now = doors[i].most, then = doors[i].taken_then;
-        printf("stack of %s: %zu bytes, at most %zu\n", doors[i].name, now, then + ROOM);
+        printf("stack of %s: %zu bytes, at most %zu; %zu with the older kit\n", doors[i].name, now, then + ROOM,
+               doors[i].with_older_kit);
         astray += now > then + ROOM || now + ROOM < then;
     }
     if (astray != 0 || reports == 0) {
