@@ -1,8 +1,8 @@
--- `line::from_line::frame_of_line` meets its contract. First the text's bytes passed are the line's, and its last stays; then the
+-- `line::from_line::frame_of_line` meets its contract.
 use mathlib.Core.Path.{◌≡◌, refl, sym, ap, ◌∙◌}
-use mathlib.Core.Bool.{true, ◌&&◌}
-use mathlib.Core.List.{[], ◌∷◌, ◌++◌, map}
-use Prim.Native.Nat.{ℕ, ◌+◌, ◌<◌}
+use mathlib.Core.Bool.{Bool, ◌&&◌}
+use mathlib.Core.List.{List, [], ◌∷◌, ◌++◌, map}
+use Prim.Native.Nat.{ℕ, ◌+◌, ◌≤◌, ◌<◌}
 use native.Mathlib.Omega.{arith}
 use lib.Dec.{ltb}
 use lib.ListN.{length, take, drop, set, length-set, length-map, take-append-drop}
@@ -13,6 +13,23 @@ use Rattle.line.proofs.DigitLoop.{same_digits, turn, turned, marks_small, framed
 use Rattle.line.proofs.Pairs.{map_at}
 use Rattle.line.proofs.LineEnds.{framing-said}
 use Rattle.line.proofs.from_line.frame_of_line.Goals as goal
+
+-- ---- what the loops leave
+
+-- the text is the line, with a digit of zero behind it
+padded : (t l : List ℕ) (k : ℕ) → length l ≡ 63 → k ≡ 63 → take k t ≡ take k l → drop 63 t ≡ 48 ∷ [] → t ≡ l ++ (48 ∷ [])
+padded t l k n end front last = sym (take-append-drop 63 t) ∙ rw (last, rw end at front, take_all 63 l (omega (arith, n)))
+
+-- `all` tells of the line's digits
+told : (t l : List ℕ) (all : Bool) (i : ℕ) → t ≡ l ++ (48 ∷ []) → length t ≤ i → all && all_digits (drop i t) ≡ all_digits t → all ≡ all_digits l
+told t l all i whole h e = turned t all i h e ∙ ap all_digits whole ∙ same_digits l
+
+-- the values are those of the text
+valued : (t l v : List ℕ) (i : ℕ) → t ≡ l ++ (48 ∷ []) → length t ≡ 64 → length v ≡ 64 → i ≡ 64 → take i v ≡ take i (map mark t) → v ≡ map mark (l ++ (48 ∷ []))
+valued t l v i whole n m end e =
+    copied (map mark t) v 64 (omega (arith, length-map t mark, n)) (omega (arith, m)) (rw end at e) ∙ ap (map mark) whole
+
+-- ---- the answers
 
 pub returns-then-line-ne63 : goal.returns-then-line-ne63
 returns-then-line-ne63 c = let both = framing-said _ _ (c.no_line.ensures ∙ wrong_length _ c.if-line-ne63.true) in record { value = both.0; answer_value = both.1 }
@@ -47,63 +64,25 @@ loop-i-preserved c =
 
 pub returns-then-not-all : goal.returns-then-not-all
 returns-then-not-all c =
-    let padded : c.loop-k.text ≡ c.args.line.now ++ (48 ∷ []) =
-    let v = c.loop-k.invariant in
-    let end : c.loop-k.k ≡ 63 = omega arith in
-    sym (take-append-drop 63 (c.loop-k.text)) ∙ rw (v.3, rw end at v.2, take_all 63 (c.args.line.now) (omega (arith, c.if-line-ne63.false)))
-    in
-    let told : c.loop-i.all ≡ all_digits (c.args.line.now) =
-    turned (c.loop-k.text) c.loop-i.all c.loop-i.i (omega (arith, c.loop-k.invariant.1)) c.loop-i.invariant.3
-    ∙ ap all_digits padded
-    ∙ same_digits (c.args.line.now)
-    in
-    let both = framing-said _ _ (c.no_line-then-not-all.ensures ∙ wrong_digit _ c.if-line-ne63.false (sym told ∙ c.if-not-all.true)) in record { value = both.0; answer_value = both.1 }
+    let l = c.args.line.now in
+    let whole = padded c.loop-k.text l c.loop-k.k c.if-line-ne63.false (omega arith) c.loop-k.invariant.2 c.loop-k.invariant.3 in
+    let all = told c.loop-k.text l c.loop-i.all c.loop-i.i whole (omega (arith, c.loop-k.invariant.1)) c.loop-i.invariant.3 in
+    let both = framing-said _ _ (c.no_line-then-not-all.ensures ∙ wrong_digit _ c.if-line-ne63.false (sym all ∙ c.if-not-all.true)) in record { value = both.0; answer_value = both.1 }
 
 pub pairs-requires : goal.pairs-requires
 pairs-requires c k =
-    let padded : c.loop-k.text ≡ c.args.line.now ++ (48 ∷ []) =
-    let v = c.loop-k.invariant in
-    let end : c.loop-k.k ≡ 63 = omega arith in
-    sym (take-append-drop 63 (c.loop-k.text)) ∙ rw (v.3, rw end at v.2, take_all 63 (c.args.line.now) (omega (arith, c.if-line-ne63.false)))
-    in
-    let valued : c.loop-i.values ≡ map mark (c.args.line.now ++ (48 ∷ [])) =
-    let t = c.loop-k.text in
-    let end : c.loop-i.i ≡ 64 = omega arith in
-    copied (map mark t) c.loop-i.values 64 (omega (arith, length-map t mark, c.loop-k.invariant.1)) (omega (arith, c.loop-i.invariant.1)) (rw end at c.loop-i.invariant.2)
-    ∙ ap (map mark) padded
-    in
-    let told : c.loop-i.all ≡ all_digits (c.args.line.now) =
-    turned (c.loop-k.text) c.loop-i.all c.loop-i.i (omega (arith, c.loop-k.invariant.1)) c.loop-i.invariant.3
-    ∙ ap all_digits padded
-    ∙ same_digits (c.args.line.now)
-    in
-    let good : all_digits (c.args.line.now) ≡ true =
-    sym told ∙ c.if-not-all.false
-    in
     let l = c.args.line.now in
-    rw valued (marks_small (l ++ (48 ∷ [])) (same_digits l ∙ good) k)
+    let whole = padded c.loop-k.text l c.loop-k.k c.if-line-ne63.false (omega arith) c.loop-k.invariant.2 c.loop-k.invariant.3 in
+    let all = told c.loop-k.text l c.loop-i.all c.loop-i.i whole (omega (arith, c.loop-k.invariant.1)) c.loop-i.invariant.3 in
+    let values = valued c.loop-k.text l c.loop-i.values c.loop-i.i whole c.loop-k.invariant.1 c.loop-i.invariant.1 (omega arith) c.loop-i.invariant.2 in
+    rw values (marks_small (l ++ (48 ∷ [])) (same_digits l ∙ sym all ∙ c.if-not-all.false) k)
 
 pub returns : goal.returns
 returns c =
-    let padded : c.loop-k.text ≡ c.args.line.now ++ (48 ∷ []) =
-    let v = c.loop-k.invariant in
-    let end : c.loop-k.k ≡ 63 = omega arith in
-    sym (take-append-drop 63 (c.loop-k.text)) ∙ rw (v.3, rw end at v.2, take_all 63 (c.args.line.now) (omega (arith, c.if-line-ne63.false)))
-    in
-    let told : c.loop-i.all ≡ all_digits (c.args.line.now) =
-    turned (c.loop-k.text) c.loop-i.all c.loop-i.i (omega (arith, c.loop-k.invariant.1)) c.loop-i.invariant.3
-    ∙ ap all_digits padded
-    ∙ same_digits (c.args.line.now)
-    in
-    let good : all_digits (c.args.line.now) ≡ true =
-    sym told ∙ c.if-not-all.false
-    in
-    let valued : c.loop-i.values ≡ map mark (c.args.line.now ++ (48 ∷ [])) =
-    let t = c.loop-k.text in
-    let end : c.loop-i.i ≡ 64 = omega arith in
-    copied (map mark t) c.loop-i.values 64 (omega (arith, length-map t mark, c.loop-k.invariant.1)) (omega (arith, c.loop-i.invariant.1)) (rw end at c.loop-i.invariant.2)
-    ∙ ap (map mark) padded
-    in
     let l = c.args.line.now in
     let n = c.if-line-ne63.false in
-    let both = framing-said _ _ (all_right l _ n good (c.pairs.ensures ∙ ap paired valued ∙ framed l n good)) in record { value = both.0; answer_value = both.1 }
+    let whole = padded c.loop-k.text l c.loop-k.k c.if-line-ne63.false (omega arith) c.loop-k.invariant.2 c.loop-k.invariant.3 in
+    let all = told c.loop-k.text l c.loop-i.all c.loop-i.i whole (omega (arith, c.loop-k.invariant.1)) c.loop-i.invariant.3 in
+    let good = sym all ∙ c.if-not-all.false in
+    let values = valued c.loop-k.text l c.loop-i.values c.loop-i.i whole c.loop-k.invariant.1 c.loop-i.invariant.1 (omega arith) c.loop-i.invariant.2 in
+    let both = framing-said _ _ (all_right l _ n good (c.pairs.ensures ∙ ap paired values ∙ framed l n good)) in record { value = both.0; answer_value = both.1 }
