@@ -1,48 +1,22 @@
 // Category 9, ash fall: what stands from bit 43 to bit 213. Its places are slots.
 #![tactic(auto)]
 
-ghost use Rattle.std.specs.Prelude.{◌≡◌, []};
-ghost use Rattle.bits.specs.Frame.{frame_in};
-ghost use Rattle.rows.specs.Runs.Questions.{◌then◌};
-ghost use Rattle.rows.specs.Runs.Verdict.{walk, body_verdict};
-ghost use Rattle.ash_fall.specs.AshFall.{ash_fall, eruption_values, eruption_from, places};
-ghost use Rattle.rows.specs.Values.{head_values, sides_at, spares_at};
-ghost use Rattle.rows.specs.Runs.Fields.{kept_in, fields_in, table_in};
-ghost use Rattle.slots.specs.Slots.{slots_values};
+ghost use Rattle.ash_fall.specs.AshFall.{ash_fall, eruption_from, eruption_values};
 
 pub mod meaning; // what a place says
 pub mod places; // its slots
 
-use crate::places::check_places;
+use crate::places::Places;
+use bits::Number;
+use category::Category;
 use rows::codes::{is_corrected, is_two_or_seven};
 use rows::common::Common;
-use rows::fields::{Fields, Spares, Table, one_byte, two_bytes};
-use rows::refusal::Verdict;
+use rows::fields::{Fields, Spares, Table};
+use rows::question::{spare, within};
+use rows::refusal::Refusal;
 use rows::time::Time;
+use slots::listed::{check_slots, slots_of};
 use slots::slot::Slot;
-
-// What stands in its spares.
-pub fn spares(f: &[u8]) -> Spares
-    ensures { result ≡ spares_at (frame_in f.now) ash_fall }
-{
-    Spares {
-        first: bits::field64(f, 43, 10),
-        second: bits::field64(f, 199, 15),
-    }
-}
-
-// What its table says in numbers.
-pub fn table() -> Table
-    ensures { result ≡ table_in ash_fall }
-{
-    Table {
-        code: 9,
-        count: 4,
-        widths: [0, 3, 0, 3, 23],
-        text: false,
-        second: true,
-    }
-}
 
 #[derive(Clone, Copy)]
 pub struct Eruption {
@@ -51,62 +25,74 @@ pub struct Eruption {
     pub volcano: u16,
 }
 
-impl Eruption {
-    // The fields of a frame.
-    pub fn of(f: &[u8]) -> Eruption
-        ensures { result ≡ eruption_from (sides_at (frame_in f.now) ash_fall) }
-    {
+impl Category for Eruption {
+    ghost layout = { ash_fall };
+
+    ghost said = { eruption_from };
+
+    ghost values = { eruption_values };
+
+    fn of(f: &[u8]) -> Eruption {
         Eruption {
             time: Time::at(f, 53),
-            warning: bits::field8(f, 69, 2),
-            volcano: bits::field16(f, 71, 12),
+            warning: bits::field(f, 69, 2),
+            volcano: bits::field(f, 71, 12),
         }
     }
 
-    // The fields that numbers say, of each as much as its field holds.
-    pub fn of_values(front: [u64; 18]) -> Eruption
-        ensures { result ≡ eruption_from (kept_in front [] ash_fall) }
-    {
+    fn of_values(front: &[u64; 18], _behind: &[u64; 3]) -> Eruption {
         Eruption {
             time: Time::of_values(front[1], front[2], front[3]),
-            warning: one_byte(front[4]),
-            volcano: two_bytes(front[5]),
+            warning: u8::lowest(front[4]),
+            volcano: u16::lowest(front[5]),
         }
     }
 
-    // The rows in front of the places, behind what has been found.
-    fn front(self, found: Verdict, spares: Spares) -> Verdict
-        ensures { result ≡ found then walk [] ash_fall.front (eruption_values self spares).front }
-    {
-        let time = self.time;
-        found
-            .spare(43, 10, spares.first)
-            .time(53, time)
-            .within(69, self.warning as u64, 1, 2)
-            .within(71, self.volcano as u64, 101, 4000)
+    fn spares(f: &[u8]) -> Spares {
+        Spares {
+            first: bits::field(f, 43, 10),
+            second: bits::field(f, 199, 15),
+        }
     }
 
-    // All rules from bit 8 to bit 213, behind what has been found.
-    pub fn check(self, found: Verdict, c: Common, slots: [Slot; 16], spares: Spares) -> Verdict
-        ensures { result ≡ found then body_verdict ash_fall (head_values c 9) (eruption_values self spares) (slots_values places slots) }
-    {
-        let head = found.common(c, is_two_or_seven(c.rc), is_corrected(c.it));
-        let front = self.front(head, spares);
-        check_places(front, slots).spare(199, 15, spares.second)
+    fn slots(f: &[u8]) -> [Slot; 16] {
+        slots_of::<Places>(f)
     }
 
-    // The rows in front of the places and behind them as numbers, in the order of the table.
-    pub fn fields(self, spares: Spares) -> Fields
-        ensures { result ≡ fields_in ash_fall (eruption_values self spares) }
-    {
-        let time = self.time;
-        let day = time.day as u64;
-        let hour = time.hour as u64;
-        let minute = time.minute as u64;
-        let warning = self.warning as u64;
-        let volcano = self.volcano as u64;
+    fn text(_f: &[u8]) -> [u8; 18] {
+        [0u8; 18]
+    }
+
+    #[tactic(auto, using(rows::proofs::Rules::Walks::body_parts, rows::proofs::Rules::Walks::spare_walk, rows::proofs::Rules::Spans::allowed_one), unfolding(rows::specs::Runs::Verdict::walk, rows::specs::Runs::Verdict::judge))]
+    fn check(self, common: Common, slots: &[Slot; 16], spares: Spares) -> Result<(), Refusal> {
+        common.check(is_two_or_seven(common.rc), is_corrected(common.it))?;
+        spare(43, 10, spares.first)?;
+        self.time.check(53)?;
+        within(69, u64::from(self.warning), 1, 2)?;
+        within(71, u64::from(self.volcano), 101, 4000)?;
+        check_slots::<Places>(slots)?;
+        spare(199, 15, spares.second)
+    }
+
+    fn table() -> Table {
+        Table {
+            code: 9,
+            count: 4,
+            widths: [0, 3, 0, 3, 23],
+            text: false,
+            second: true,
+        }
+    }
+
+    // The rows in front of the places and behind them.
+    fn fields(self, spares: Spares) -> Fields {
+        let day = u64::from(self.time.day);
+        let hour = u64::from(self.time.hour);
+        let minute = u64::from(self.time.minute);
+        let warning = u64::from(self.warning);
+        let volcano = u64::from(self.volcano);
         Fields {
-            table: table(),
+            table: Eruption::table(),
             ahead: [10, 5, 5, 6, 2, 12, 0, 0, 0, 0, 0, 0, 0, 0, 0, 0, 0, 0],
             front: [
                 spares.first,

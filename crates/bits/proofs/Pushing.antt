@@ -1,16 +1,17 @@
 -- Fields put behind each other in four words make the number of their layout.
 use mathlib.Core.Path.{◌≡◌, refl, sym, ap, ◌∙◌, subst}
 use mathlib.Core.List.{List, [], ◌∷◌, ◌++◌}
-use Prim.Native.Nat.{ℕ, zero, suc, ◌+◌, ◌-◌, ◌*◌, ◌/◌, ◌%◌, ◌^◌, ◌<◌, ◌≤◌}
+use Prim.Native.Nat.{ℕ, zero, suc, min, ◌+◌, ◌-◌, ◌*◌, ◌/◌, ◌%◌, ◌^◌, ◌<◌, ◌≤◌}
 use native.Mathlib.Nat.{lt_of_lt_of_le, add-mul, mul_assoc, mul_right_comm, mul-mod_left, mod-lt, mod-eq_of_lt, div-eq_of_lt, zero-add, suc-ne-zero, suc_inj}
 use native.Mathlib.Omega.{arith}
 use lib.Arith.{digits_lt}
 use lib.Bits.{bit_or, or_shifted}
-use lib.ListN.{length, replicate, get_or, drop, drop_of_length-le}
+use lib.ListN.{length, replicate, get_or, drop}
 use lib.Pow.{pow_mono, pow-add, pow_pos, mod-pow-add, shl-shr, shr_lt, shr-shr, split, high, low}
 use borrow.Author.Tests.{eq-eqb, ne_eqb}
 use native.Mathlib.Numerals.{add-one}
 use lib.Seq.{drop-cons}
+use Rattle.std.proofs.lemmas.List.{length-drop}
 use Rattle.bits.proofs.Layouts.{encode-behind, encode_lt}
 use Rattle.bits.specs.declared.words.Words.{Words}
 use Rattle.bits.specs.Layout.{total, encode, Fit}
@@ -196,23 +197,25 @@ held_whole x n s l =
 
 -- ---- one turn of the loop that pushes fields
 
+-- one of the two lists has nothing any more
+at_an_end : (x : Words) (ws vs : List ℕ) → min (length ws) (length vs) ≡ 0 → x ≡ pushed_until x ws vs
+unfolding pushed_until
+at_an_end x [] vs e = refl
+at_an_end x (w ∷ ws) [] e = refl
+at_an_end x (w ∷ ws) (v ∷ vs) e = absurd (omega (arith, e))
+
 module _ (x : Words) (ws vs : List ℕ) (k : ℕ) where
   pub push_more : k < length ws → k < length vs → (get_or ws k 0 % 64 ≡ 0 → ⊥)
       → pushed_until (pushed x (get_or ws k 0 % 64) (get_or vs k 0)) (drop (k + 1) ws) (drop (k + 1) vs) ≡ pushed_until x (drop k ws) (drop k vs)
   unfolding pushed_until
   push_more h l z = rw (add-one k, drop-cons ws k 0 h, drop-cons vs k 0 l, ne_eqb (get_or ws k 0 % 64) 0 z)
 
-  pub push_short : k < length ws → length vs ≤ k → x ≡ pushed_until x (drop k ws) (drop k vs)
-  unfolding pushed_until
-  push_short h l = rw (drop-cons ws k 0 h, drop_of_length-le vs l)
-
   pub push_none : k < length ws → k < length vs → get_or ws k 0 % 64 ≡ 0 → x ≡ pushed_until x (drop k ws) (drop k vs)
   unfolding pushed_until
   push_none h l z = rw (drop-cons ws k 0 h, drop-cons vs k 0 l, eq-eqb (get_or ws k 0 % 64) 0 z)
 
-  pub push_done : length ws ≤ k → x ≡ pushed_until x (drop k ws) (drop k vs)
-  unfolding pushed_until
-  push_done h = rw (drop_of_length-le ws h)
+  pub push_end : min (length ws) (length vs) ≤ k → x ≡ pushed_until x (drop k ws) (drop k vs)
+  push_end h = at_an_end x (drop k ws) (drop k vs) (rw (length-drop k ws, length-drop k vs) (omega arith))
 
 -- ---- a whole layout
 

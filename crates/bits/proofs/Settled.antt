@@ -1,20 +1,20 @@
 -- Every public function of `bits` is settled (crate `settled`).
 use Rattle.bits.proofs as bits
+use mathlib.Core.Path.{◌≡◌}
+use denote.RattleType.{RattleType}
+use denote.Param.Laws.{Laws}
+use mir.Syntax.{Dict}
+use Rattle.bits.specs.declared.number.Number.{Ghosts}
 use Rattle.bits.specs.contracts as promised
 use Rattle.settled.specs.Settled.{Settled}
-use Rattle.settled.proofs.Law.{answer, buffer, beside, second}
+use Rattle.settled.proofs.Law.{answer, told, buffer, second}
 
-pub field64_is_settled : Settled promised.field64.ended bits.field64.Reads.Post
-field64_is_settled κs a x y = beside answer
+module _ (T : RattleType) (laws : Laws T) (N : Ghosts T.Denot) (d : Dict) (told_apart : (x y : T.Denot) → N.value x ≡ N.value y → x ≡ y) where
+  pub Number-lowest_is_settled : Settled (promised.number.Number.lowest.ended T N d) (bits.number.Number.lowest.Reads.Post T laws N d)
+  Number-lowest_is_settled κs a x y = told N.value told_apart
 
-pub field32_is_settled : Settled promised.field32.ended bits.field32.Reads.Post
-field32_is_settled κs a x y = beside answer
-
-pub field16_is_settled : Settled promised.field16.ended bits.field16.Reads.Post
-field16_is_settled κs a x y = beside answer
-
-pub field8_is_settled : Settled promised.field8.ended bits.field8.Reads.Post
-field8_is_settled κs a x y = beside answer
+  pub field_is_settled : Settled (promised.field.ended T N d) (bits.field.Reads.Post T laws N d)
+  field_is_settled κs a x y p q = told N.value told_apart p.0 q.0
 
 pub Words-of_is_settled : Settled promised.words.Words.of.ended bits.words.Words.of.Reads.Post
 Words-of_is_settled κs a x y = answer

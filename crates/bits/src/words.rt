@@ -1,11 +1,10 @@
 // A frame's number of 256 bits in four words, the first the most significant: how a frame is put together, one
 // field behind the other, where nothing is copied for a field.
 ghost use Rattle.std.specs.Prelude.{◌≡◌, ◌<◌};
-ghost use Rattle.lent.specs.Numbers.{wide};
 ghost use Rattle.bits.specs.Frame.{bytes_of, copied_into};
 ghost use Rattle.bits.specs.Words.{carried, pushed, pushed_until, value_of, words_of};
 
-use lent::{byte_of, put_bytes};
+use lent::put_bytes;
 
 #[derive(Clone, Copy)]
 pub struct Words {
@@ -21,23 +20,6 @@ fn carry(high: u64, low: u64, width: usize) -> u64
     ensures { result ≡ carried high low width }
 {
     (high << width) | (low >> (64 - width))
-}
-
-// The bytes of a word, as an array: the compiler makes one store of it, where of eight bytes that a loop puts behind
-// others it makes eight.
-fn word_bytes(word: u64) -> [u8; 8]
-    ensures { result ≡ wide 8 word }
-{
-    [
-        byte_of(word, 7),
-        byte_of(word, 6),
-        byte_of(word, 5),
-        byte_of(word, 4),
-        byte_of(word, 3),
-        byte_of(word, 2),
-        byte_of(word, 1),
-        byte_of(word, 0),
-    ]
 }
 
 impl Words {
@@ -74,18 +56,12 @@ impl Words {
         ensures { out.new ≡ copied_into (bytes_of (value_of self)) out.old }
     {
         if out.len() == 32 {
-            let second = put_bytes(out, 0, &word_bytes(self.first));
-            let third = put_bytes(out, second, &word_bytes(self.second));
-            let last = put_bytes(out, third, &word_bytes(self.third));
-            put_bytes(out, last, &word_bytes(self.last));
+            let second = put_bytes(out, 0, &self.first.to_be_bytes());
+            let third = put_bytes(out, second, &self.second.to_be_bytes());
+            let last = put_bytes(out, third, &self.third.to_be_bytes());
+            put_bytes(out, last, &self.last.to_be_bytes());
         }
     }
-}
-
-fn bits_in(width: u8) -> usize
-    ensures { (result ≡ width) × (result < 256) }
-{
-    width as usize
 }
 
 // Values pushed one behind the other, each in its width, up to the first that has no bits.
@@ -93,18 +69,12 @@ pub fn push_all(words: Words, widths: &[u8], values: &[u64]) -> Words
     ensures { result ≡ pushed_until words widths.now values.now }
 {
     let mut next = words;
-    let mut k = 0;
-    while k < widths.len() {
-        if k >= values.len() {
-            return next;
-        }
-        let bits = bits_in(widths[k]) % 64;
+    for k in 0..widths.len().min(values.len()) {
+        let bits = usize::from(widths[k]) % 64;
         if bits == 0 {
             return next;
         }
-        let more = next.push(bits, values[k]);
-        next = more;
-        k += 1;
+        next = next.push(bits, values[k]);
     }
     next
 }

@@ -14,19 +14,13 @@ pub Store-is_sound_is_settled : Settled promised.store.Store.is_sound.ended bull
 Store-is_sound_is_settled κs a x y = answer
 
 pub Store-take_is_settled : Settled promised.store.Store.take.ended bulletin.store.Store.take.Reads.Post
-Store-take_is_settled κs a x y = beside answer
+Store-take_is_settled κs a x y = beside (both first)
 
 pub Store-merge_is_settled : Settled promised.store.Store.merge.ended bulletin.store.Store.merge.Reads.Post
-Store-merge_is_settled κs a x y = beside answer
+Store-merge_is_settled κs a x y = beside (both first)
 
 pub Store-count_is_settled : Settled promised.store.Store.count.ended bulletin.store.Store.count.Reads.Post
 Store-count_is_settled κs a x y = beside answer
 
 pub Store-text_is_settled : Settled promised.store.Store.text.ended bulletin.store.Store.text.Reads.Post
 Store-text_is_settled κs a x y = beside (both second)
-
-pub taken_in_is_settled : Settled promised.in_place.taken_in.ended bulletin.in_place.taken_in.Reads.Post
-taken_in_is_settled κs a x y = beside answer
-
-pub take_in_is_settled : Settled promised.in_place.take_in.ended bulletin.in_place.take_in.Reads.Post
-take_in_is_settled κs a x y = beside (both first)

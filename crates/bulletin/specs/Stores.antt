@@ -1,11 +1,9 @@
 -- A store: opened, and sound.
-use Rattle.std.specs.Prelude.{◌≡◌, Bool, false, cond, true, ℕ, ◌<◌, suc, length, get_or, replicate, List, [], ◌∷◌}
-use Rattle.rows.specs.declared.refusal.Verdict.{Verdict}
-use Rattle.rows.specs.declared.refusal.Verdict.TheVariants.{Fine, Refused}
+use Rattle.rows.specs.Refusals.{Verdict}
+use Rattle.std.specs.Prelude.{◌≡◌, Bool, false, cond, true, ℕ, ◌<◌, suc, length, get_or, replicate, List, [], ◌∷◌, Ok, Err}
 use Rattle.pages.specs.declared.page.Page.{Page}
 use Rattle.pages.specs.declared.name.Name.{Name}
 use Rattle.bulletin.specs.declared.store.Store.{Store}
-use Rattle.bulletin.specs.declared.store.Opening.{Opening}
 use Rattle.pages.specs.Pages.{absent_page, no_page, sound_at, Shaped}
 use Rattle.pages.specs.Names.{zero_name, name_verdict, name_in_range}
 
@@ -17,9 +15,14 @@ no_pages n = record { name = n; pages = replicate 63 absent_page }
 abbrev pub zero_store : Store
 zero_store = no_pages zero_name
 
+-- what opening comes to: what is found, and a store
+pub record Opening : Type 0 where
+  pub answer : Verdict
+  pub store : Store
+
 abbrev pub opening : Verdict → Name → Opening
-opening Fine n = record { answer = Fine; store = no_pages n }
-opening (Refused x) n = record { answer = Refused x; store = zero_store }
+opening (Ok tt) n = record { answer = Ok tt; store = no_pages n }
+opening (Err x) n = record { answer = Err x; store = zero_store }
 
 abbrev pub open_of : Name → Opening
 open_of n = opening (name_verdict n) n

@@ -1,13 +1,10 @@
 -- "The text is the pages' bytes in order, less all zero bytes at its end"; "Text: 14, 15, 16".
-use Rattle.std.specs.Prelude.{cond, List, [], ◌∷◌, ◌++◌, ℕ, zero, suc, ◌-◌, ◌*◌, length, get_or, take, drop, eqb, ltb}
-use Rattle.rows.specs.declared.refusal.Verdict.{Verdict}
-use Rattle.rows.specs.declared.refusal.Verdict.TheVariants.{Fine, Refused}
+use Rattle.std.specs.Prelude.{cond, List, [], ◌∷◌, ◌++◌, ℕ, zero, suc, ◌-◌, ◌*◌, length, get_or, take, drop, eqb, ltb, Ok, Err}
 use Rattle.rows.specs.declared.refusal.Refusal.TheVariants.{Unsound, NotHeld, Short}
 use Rattle.rows.specs.declared.refusal.Said.{Said}
-use Rattle.rows.specs.Refusals.{answers}
+use Rattle.rows.specs.Refusals.{answers, Verdict}
 use Rattle.pages.specs.declared.page.Page.{Page}
 use Rattle.bulletin.specs.declared.store.Store.{Store}
-use Rattle.bulletin.specs.declared.text.Telling.{Telling}
 use Rattle.bulletin.specs.Stores.{sound_store, page_behind}
 use Rattle.bulletin.specs.Counts.{lowest_not_held}
 
@@ -31,28 +28,33 @@ why_not_held p = cond (eqb p.mark 0) 1 2
 unfoldable pub text_verdict : Store → Verdict
 text_verdict s =
     let k = lowest_not_held s.name.total 0 s.pages in
-    cond (sound_store s) (cond (eqb k 0) Fine (Refused (NotHeld k (why_not_held (page_behind s (k - 1)))))) (Refused Unsound)
+    cond (sound_store s) (cond (eqb k 0) (Ok tt) (Err (NotHeld k (why_not_held (page_behind s (k - 1)))))) (Err Unsound)
 
 -- 16
 abbrev pub with_room : Verdict → ℕ → ℕ → Verdict
-with_room Fine n size = cond (ltb size n) (Refused Short) Fine
-with_room (Refused x) n size = Refused x
+with_room (Ok tt) n size = cond (ltb size n) (Err Short) (Ok tt)
+with_room (Err x) n size = Err x
 
 -- what telling the text says, in the paper's numbers
 abbrev pub text_says : Store → ℕ → Said
 text_says s size = answers (with_room (text_verdict s) (text_length_of s) size)
 
+-- what telling comes to: what is found, and how many bytes are told
+pub record Telling : Type 0 where
+  pub answer : Verdict
+  pub length : ℕ
+
 abbrev pub text_answer_by : Verdict → ℕ → Telling
-text_answer_by Fine n = record { answer = Fine; length = n }
-text_answer_by (Refused x) n = record { answer = Refused x; length = 0 }
+text_answer_by (Ok tt) n = record { answer = Ok tt; length = n }
+text_answer_by (Err x) n = record { answer = Err x; length = 0 }
 
 abbrev pub text_answer : Store → ℕ → Telling
 text_answer s size = text_answer_by (with_room (text_verdict s) (text_length_of s) size) (text_length_of s)
 
 -- "Text leaves the bytes after its length untouched", and a refusal leaves them all
 abbrev pub text_buffer_by : Verdict → ℕ → List ℕ → List ℕ → List ℕ
-text_buffer_by Fine n l out = take n l ++ drop n out
-text_buffer_by (Refused x) n l out = out
+text_buffer_by (Ok tt) n l out = take n l ++ drop n out
+text_buffer_by (Err x) n l out = out
 
 abbrev pub text_buffer : Store → List ℕ → List ℕ
 text_buffer s out = text_buffer_by (with_room (text_verdict s) (text_length_of s) (length out)) (text_length_of s) (bytes_in_order s.pages) out

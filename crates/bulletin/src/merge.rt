@@ -1,71 +1,37 @@
 // Two receivers' stores of one bulletin made one.
 ghost use Rattle.std.specs.Prelude.{◌≡◌};
 ghost use Rattle.rows.specs.Refusals.{answers};
-ghost use Rattle.bulletin.specs.Merges.{joined_stores, merge_verdict, merge_of, merge_says};
+ghost use Rattle.bulletin.specs.Merges.{joined_stores, merge_of, merge_says};
 
 use crate::store::Store;
 use pages::page::{Kept, Page};
-use rows::refusal::{Refusal, Verdict};
-
-// A store after a merge: where that is refused, the first store as it was.
-#[derive(Clone, Copy)]
-pub struct Merging {
-    pub answer: Verdict,
-    pub store: Store,
-}
+use rows::question::unless;
+use rows::refusal::Refusal;
 
 impl Store {
-    // 14, then 13.
-    fn merge_verdict(self, other: Store) -> Verdict
-        ensures { result ≡ merge_verdict self other }
+    // Page by page.
+    fn join(&mut self, other: &Store)
+        ensures { self.new ≡ joined_stores self.old other.now }
     {
-        let a = self.name;
-        let b = other.name;
-        Verdict::Fine
-            .unless(self.is_sound(), Refusal::Unsound)
-            .unless(other.is_sound(), Refusal::Unsound)
-            .unless(a.is(b), Refusal::OtherBulletin)
-    }
-
-    fn joined(mut self, other: Store) -> Store
-        ensures { result ≡ joined_stores self other }
-    {
-        let mut i = 0;
-        while i < Self::PAGES {
-            let mine = self.pages[i];
-            let theirs = other.pages[i];
-            match mine.kept(theirs) {
+        for (i, theirs) in other.pages.iter().enumerate() {
+            match self.pages[i].kept(theirs) {
                 Kept::Own => {}
-                Kept::Other => {
-                    self.pages[i] = theirs;
-                }
-                Kept::Neither => {
-                    let page = Page::disputed();
-                    self.pages[i] = page;
-                }
+                Kept::Other => self.pages[i] = *theirs,
+                Kept::Neither => self.pages[i] = Page::disputed(),
             }
-            i += 1;
         }
-        self
     }
 
-    pub fn merge(self, other: Store) -> Merging
-        ensures value { result ≡ merge_of self other }
-        ensures answer_value { answers result.answer ≡ merge_says self other }
+    // 14, then 13. A refused merge leaves the store as it was.
+    #[tactic(auto, unfolding(crate::specs::Merges::merge_verdict, pages::specs::Names::same_name, pages::specs::Names::same_common))]
+    pub fn merge(&mut self, other: &Store) -> Result<(), Refusal>
+        ensures value { (result ≡ (merge_of self.old other.now).answer) × (self.new ≡ (merge_of self.old other.now).store) }
+        ensures answer_value { answers result ≡ merge_says self.old other.now }
     {
-        let answer = self.merge_verdict(other);
-        match answer {
-            Verdict::Fine => {
-                let store = self.joined(other);
-                Merging {
-                    answer: answer,
-                    store: store,
-                }
-            }
-            Verdict::Refused(_) => Merging {
-                answer: answer,
-                store: self,
-            },
-        }
+        unless(self.is_sound(), Refusal::Unsound)?;
+        unless(other.is_sound(), Refusal::Unsound)?;
+        unless(self.name == other.name, Refusal::OtherBulletin)?;
+        self.join(other);
+        Ok(())
     }
 }

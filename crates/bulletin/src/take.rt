@@ -1,142 +1,73 @@
 // Taking a record into a store.
 ghost use Rattle.std.specs.Prelude.{◌≡◌, ◌-◌, ◌≤◌};
-ghost use Rattle.bulletin.specs.Takings.{taking_answer, page_number_in, admission_verdict, put_page, take_of, taken_says, take_says};
-ghost use Rattle.bulletin.specs.Steps.{soundness, refused_taking};
+ghost use Rattle.bulletin.specs.Takings.{taking_answer, page_number_in, put_page, take_of, taken_says, take_says};
 
 use crate::store::Store;
 use pages::name::Name;
 use pages::page::Page;
-use report::body::Paged;
 use report::record::Record;
 use report::write::write_answer;
-use rows::refusal::{Refusal, Verdict};
+use rows::question::unless;
+use rows::refusal::Refusal;
 
-// What a taking answers.
+// What a taking answers of a record that it takes.
 #[derive(Clone, Copy)]
-pub enum Taken {
+pub enum Took {
     New,
     Same,
     Disputed,
-    Refused(Refusal),
 }
 
-// A store after a taking: where that is refused, the store as it was.
-#[derive(Clone, Copy)]
-pub struct Taking {
-    pub answer: Taken,
-    pub store: Store,
-}
-
-// Which page of the bulletin a record brings.
-#[derive(Clone, Copy)]
-enum Admission {
-    Number(u8),
-    Refused(Refusal),
-}
-
-// What a taking answers, by the page before and after it.
-fn told(before: Page, after: Page) -> Taken
-    ensures { result ≡ taking_answer before after }
+// What that is, by the page before and after it.
+#[tactic(auto, unfolding(crate::specs::Takings::taking_answer))]
+fn told(before: &Page, after: &Page) -> Took
+    ensures { Ok result ≡ taking_answer before.now after.now }
 {
-    if before.mark == 0 {
-        return Taken::New;
+    match (before.mark, after.mark) {
+        (0, _) => Took::New,
+        (_, 1) => Took::Same,
+        _ => Took::Disputed,
     }
-    if after.mark == 1 {
-        return Taken::Same;
-    }
-    Taken::Disputed
 }
 
-// 12, then 13.
-fn admit(name: Name, came: Record) -> Admission
-    ensures { result ≡ page_number_in name came.common came.body }
+// Which page of the bulletin a record brings: 12, then 13.
+#[tactic(auto, unfolding(crate::specs::Takings::page_number_in, pages::specs::Names::same_name, pages::specs::Names::same_common))]
+fn admit(name: Name, came: &Record) -> Result<u8, Refusal>
+    ensures { result ≡ page_number_in name came.now.common came.now.body }
 {
-    let common = came.common;
-    let body = came.body;
-    let Paged::Numbers(page) = body.page() else {
-        return Admission::Refused(Refusal::NoPage);
-    };
+    let page = came.body.page().ok_or(Refusal::NoPage)?;
     let found = Name {
-        common: common,
+        common: came.common,
         serial: page.serial,
         total: page.total,
     };
-    if found.is(name) {
-        return Admission::Number(page.number);
-    }
-    Admission::Refused(Refusal::OtherBulletin)
-}
-
-impl Admission {
-    fn verdict(self) -> Verdict
-        ensures { result ≡ admission_verdict self }
-    {
-        match self {
-            Admission::Number(_) => Verdict::Fine,
-            Admission::Refused(refusal) => Verdict::Refused(refusal),
-        }
-    }
+    unless(found == name, Refusal::OtherBulletin)?;
+    Ok(page.number)
 }
 
 impl Store {
-    // 14.
-    fn soundness(self) -> Verdict
-        ensures { result ≡ soundness self }
-    {
-        Verdict::Fine.unless(self.is_sound(), Refusal::Unsound)
-    }
-
-    // A refused taking leaves the store as it was. No step hands on `Fine`.
-    fn refused(self, verdict: Verdict) -> Taking
-        ensures { result ≡ refused_taking verdict self }
-    {
-        match verdict {
-            Verdict::Refused(refusal) => Taking {
-                answer: Taken::Refused(refusal),
-                store: self,
-            },
-            Verdict::Fine => Taking {
-                answer: Taken::Same,
-                store: self,
-            },
-        }
-    }
-
-    fn put(mut self, number: u8, text: [u8; Self::BYTES]) -> Taking
+    // The page of this number is joined with one held with the text.
+    #[tactic(auto, unfolding(crate::specs::Takings::put_page))]
+    fn put(&mut self, number: u8, text: &[u8; Self::BYTES]) -> Took
         requires { (1 ≤ number) × (number ≤ 63) }
-        ensures { result ≡ put_page self (number - 1) text }
+        ensures { let put = put_page self.old (number - 1) text.now in (Ok result ≡ put.answer) × (self.new ≡ put.store) }
     {
-        let i = (number - 1) as usize;
+        let i = usize::from(number) - 1;
         let before = self.pages[i];
-        let came = Page::held(text);
-        let after = before.join(came);
-        let answer = told(before, after);
+        let after = before.join(&Page::held(*text));
         self.pages[i] = after;
-        Taking {
-            answer: answer,
-            store: self,
-        }
+        told(&before, &after)
     }
 
-    // 14, then what writing to 32 bytes refuses, then 12 and 13: a refusal goes out at once.
-    pub fn take(self, came: Record) -> Taking
-        ensures value { result ≡ take_of self came }
-        ensures answer_value { taken_says result.answer ≡ take_says self came }
+    // 14, then what writing to 32 bytes refuses, then 12 and 13. A refused record leaves the store as it was.
+    #[tactic(auto, unfolding(crate::specs::Takings::taking, crate::specs::Takings::admission))]
+    pub fn take(&mut self, came: &Record) -> Result<Took, Refusal>
+        ensures value { (result ≡ (take_of self.old came.now).answer) × (self.new ≡ (take_of self.old came.now).store) }
+        ensures answer_value { taken_says result ≡ take_says self.old came.now }
     {
-        let name = self.name;
-        let text = came.text;
-        let sound = self.soundness();
-        let Verdict::Fine = sound else {
-            return self.refused(sound);
-        };
-        let written = write_answer(came, 32);
-        let Verdict::Fine = written else {
-            return self.refused(written);
-        };
-        let admitted = admit(name, came);
-        let Admission::Number(number) = admitted else {
-            return self.refused(admitted.verdict());
-        };
-        self.put(number, text)
+        unless(self.is_sound(), Refusal::Unsound)?;
+        write_answer(came, 32)?;
+        let number = admit(self.name, came)?;
+        Ok(self.put(number, &came.text))
     }
 }

@@ -1,141 +1,95 @@
 // The text of a store whose pages are all held.
-ghost use Rattle.std.specs.Prelude.{◌≡◌, ◌++◌, ◌+◌, ◌≤◌, length, take, drop};
+ghost use Rattle.std.specs.Prelude.{◌≡◌, ◌++◌, ◌+◌, ◌<◌, ◌≤◌, ◌≢◌, ℕ, length, take, drop, slice_index, EachIndex, MatchOption};
 ghost use Rattle.std.proofs.Math.Seq.{paste};
-ghost use Rattle.rows.specs.Refusals.{answers};
-ghost use Rattle.bulletin.specs.Text.{bytes_in_order, text_length, text_length_of, why_not_held, text_verdict, text_answer, text_buffer, text_says};
+ghost use Rattle.rows.specs.Refusals.{answers, outcome};
+ghost use Rattle.bulletin.specs.Text.{bytes_in_order, text_length_of, why_not_held, text_verdict, text_answer, text_buffer, text_says};
 
 use crate::store::Store;
 use pages::page::Page;
-use rows::refusal::{Refusal, Verdict};
-
-// The answer, and how many bytes were written.
-#[derive(Clone, Copy)]
-pub struct Telling {
-    pub answer: Verdict,
-    pub length: usize,
-}
+use rows::question::unless;
+use rows::refusal::Refusal;
 
 // How 15 tells that a page is not held: 1 absent, 2 disputed.
-fn absence(page: Page) -> u8
-    ensures { result ≡ why_not_held page }
+#[tactic(auto, unfolding(crate::specs::Text::why_not_held))]
+fn absence(page: &Page) -> u8
+    ensures { result ≡ why_not_held page.now }
 {
-    if page.mark == 0 {
-        return 1;
-    }
-    2
+    if page.mark == 0 { 1 } else { 2 }
 }
 
-// The bytes of a page less all zero bytes at its end.
-fn page_length(page: Page) -> usize
-    ensures { result ≡ text_length 18 page.text }
+// How many bytes stand before the last one that is not zero, if there is one.
+fn last_byte(page: &Page) -> Option<usize>
+    ensures { let text = page.now.text in
+        MatchOption result (EachIndex text (λ k. slice_index text k ≡ 0))
+        (λ last. (last < 18) × (slice_index text last ≢ 0) × ((k : ℕ) → last < k → k < 18 → slice_index text k ≡ 0)) }
 {
-    let text = page.text;
-    let mut n = Store::BYTES;
-    while n > 0 {
-        let m = n - 1;
-        if text[m] != 0 {
-            return n;
-        }
-        n = m;
-    }
-    0
+    page.text.iter().rposition(|byte| *byte != 0)
 }
 
-// The first bytes of a page, of which there are `count`, from the byte `at` on.
+// The first bytes of a page, of which there are `count`, from the byte `at` on. The page is passed by value: of one that is
+// lent the compiler does not know that it lies apart from the buffer, and copies it byte by byte.
 fn put_page(out: &mut [u8], at: usize, page: Page, count: usize)
     requires { (count ≤ 18) × (at + count ≤ length out.old) }
     ensures { out.new ≡ paste out.old at page.text count }
 {
-    let text = page.text;
-    let mut k = 0;
-    while k < count {
-        out[at + k] = text[k];
-        k += 1;
-    }
+    out[at..at + count].copy_from_slice(&page.text[..count]);
 }
 
 impl Store {
     // The bytes of the pages of the bulletin, less all zero bytes at their end: those up to the last
     // page that has others.
-    fn text_length(self) -> usize
-        requires { self.name.total ≤ 63 }
-        ensures { result ≡ text_length_of self }
+    fn text_length(&self) -> usize
+        requires { self.now.name.total ≤ 63 }
+        ensures { result ≡ text_length_of self.now }
     {
-        let name = self.name;
-        let mut i = name.total as usize;
-        while i > 0 {
-            let last = i - 1;
-            let page = self.pages[last];
-            let n = page_length(page);
-            if n > 0 {
-                return Self::BYTES * last + n;
+        for i in (0..usize::from(self.name.total)).rev() {
+            if let Some(last) = last_byte(&self.pages[i]) {
+                return Self::BYTES * i + last + 1;
             }
-            i = last;
         }
         0
     }
 
     // Whole pages, and then what is left of the next.
-    fn copy_text(self, n: usize, out: &mut [u8])
+    fn copy_text(&self, n: usize, out: &mut [u8])
         requires { (n ≤ 1134) × (n ≤ length out.old) }
-        ensures { out.new ≡ take n (bytes_in_order self.pages) ++ drop n out.old }
+        ensures { out.new ≡ take n (bytes_in_order self.now.pages) ++ drop n out.old }
     {
         let whole = n / Self::BYTES;
         let rest = n % Self::BYTES;
-        let mut i = 0;
-        while i < whole {
-            let page = self.pages[i];
-            put_page(out, Self::BYTES * i, page, Self::BYTES);
-            i += 1;
+        for i in 0..whole {
+            put_page(out, Self::BYTES * i, self.pages[i], Self::BYTES);
         }
         if rest > 0 {
-            let page = self.pages[whole];
-            put_page(out, Self::BYTES * whole, page, rest);
+            put_page(out, Self::BYTES * whole, self.pages[whole], rest);
         }
     }
 
     // 14, then 15.
-    fn text_verdict(self) -> Verdict
-        ensures { result ≡ text_verdict self }
+    #[tactic(auto, unfolding(crate::specs::Text::text_verdict))]
+    fn check_whole(&self) -> Result<(), Refusal>
+        ensures { result ≡ text_verdict self.now }
     {
-        if !self.is_sound() {
-            return Verdict::Refused(Refusal::Unsound);
+        unless(self.is_sound(), Refusal::Unsound)?;
+        match self.lowest() {
+            None => Ok(()),
+            Some(before) => Err(Refusal::NotHeld {
+                page: before as u8 + 1,
+                mark: absence(&self.pages[before]),
+            }),
         }
-        let number = self.lowest();
-        if number == 0 {
-            return Verdict::Fine;
-        }
-        let page = self.pages[(number - 1) as usize];
-        Verdict::Refused(Refusal::NotHeld {
-            page: number,
-            mark: absence(page),
-        })
     }
 
-    pub fn text(self, out: &mut [u8]) -> Telling
-        ensures value { (result ≡ text_answer self (length out.old)) × (out.new ≡ text_buffer self out.old) }
-        ensures answer_value { answers result.answer ≡ text_says self (length out.old) }
+    // How many bytes of text are in the buffer: 14, 15, then 16. A refusal leaves the buffer as it was.
+    pub fn text(&self, out: &mut [u8]) -> Result<usize, Refusal>
+        ensures value { let told = text_answer self.now (length out.old) in
+            (result ≡ outcome told.answer told.length) × (out.new ≡ text_buffer self.now out.old) }
+        ensures answer_value { answers result ≡ text_says self.now (length out.old) }
     {
-        let answer = self.text_verdict();
-        match answer {
-            Verdict::Refused(_) => Telling {
-                answer: answer,
-                length: 0,
-            },
-            Verdict::Fine => {
-                let n = self.text_length();
-                if out.len() < n {
-                    return Telling {
-                        answer: Verdict::Refused(Refusal::Short),
-                        length: 0,
-                    };
-                }
-                self.copy_text(n, out);
-                Telling {
-                    answer: answer,
-                    length: n,
-                }
-            }
-        }
+        self.check_whole()?;
+        let n = self.text_length();
+        unless(n <= out.len(), Refusal::Short)?;
+        self.copy_text(n, out);
+        Ok(n)
     }
 }

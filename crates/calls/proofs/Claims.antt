@@ -8,11 +8,10 @@ use Rattle.bits.specs.Frame.{Bytes}
 use Rattle.pages.specs.declared.name.Name.{Name}
 use Rattle.histories.specs.Soundness.{InRange}
 use Rattle.histories.specs.Reports.{Reports, Tells}
-use Rattle.bulletin.specs.declared.count.Count.{Count}
 use Rattle.bulletin.specs.declared.store.Store.{Store}
 use Rattle.bulletin.specs.Takings.{take_says}
 use Rattle.bulletin.specs.Merges.{merge_says}
-use Rattle.bulletin.specs.Counts.{count_says}
+use Rattle.bulletin.specs.Counts.{count_says, Counted}
 use Rattle.bulletin.specs.Text.{text_says}
 use Rattle.report.specs.declared.record.Record.{Record}
 use Rattle.report.specs.Runs.Reading.{read_says}
@@ -90,7 +89,7 @@ merged_stores_have_the_bytes_of_both n a b r = Takings.merged-bytes n r a b
 
 -- Of such a store `lz_count` answers what the frames tell ..
 pub such_a_store_reports_its_frames : (n : Name) (frames : List Frame) → InRange n
-    → (c : Count) × Reports n frames c × (word_bytes (count_answer (store_bytes (store_after n frames))) ≡ 0 ∷ c.held ∷ c.disputed ∷ c.lowest ∷ [])
+    → (c : Counted) × Reports n frames c × (word_bytes (count_answer (store_bytes (store_after n frames))) ≡ 0 ∷ c.held ∷ c.disputed ∷ c.lowest ∷ [])
 such_a_store_reports_its_frames n frames r = Takings.reported-bytes n r frames
 
 -- .. and `lz_text` the text that it tells, with "the bytes after its length untouched"

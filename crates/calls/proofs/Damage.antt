@@ -1,4 +1,5 @@
 -- A damaged frame through `lz_read`.
+use Rattle.std.specs.Prelude.{Ok, Err}
 use mathlib.Core.Path.{◌≡◌, refl, sym, ap, ◌∙◌}
 use mathlib.Core.Logic.{◌⊎◌, inl, inr, ⊎_elim}
 use Prim.Native.Nat.{ℕ, ◌*◌, ◌^◌}
@@ -7,9 +8,7 @@ use lib.ListN.{length}
 use borrow.Author.Tests.{eq-eqb}
 use native.Mathlib.Omega.{arith}
 use Rattle.rows.specs.declared.refusal.Said.{Said}
-use Rattle.rows.specs.declared.refusal.Verdict.{Verdict}
-use Rattle.rows.specs.declared.refusal.Verdict.TheVariants.{Fine, Refused}
-use Rattle.rows.specs.Refusals.{answers, plain}
+use Rattle.rows.specs.Refusals.{answers, plain, Verdict}
 use Rattle.report.specs.Records.{record_of}
 use Rattle.report.specs.Runs.Reading.{read_answer, read_of, read_says}
 use Rattle.report.proofs.Reading.ReadSteps.{answer_found}
@@ -21,8 +20,8 @@ use Rattle.calls.proofs.RoundTrip.{read_zero}
 
 -- a refusal goes into the answer, and nothing into the buffer
 handed_nothing : (v : Verdict) (bytes buffer : List ℕ) → ((answers v).number ≡ 0 → ⊥) → handed_over v bytes buffer ≡ call_result (answer_word (answers v)) buffer
-handed_nothing Fine bytes buffer n = absurd (n refl)
-handed_nothing (Refused x) bytes buffer n = refl
+handed_nothing (Ok tt) bytes buffer n = absurd (n refl)
+handed_nothing (Err x) bytes buffer n = refl
 
 read_nothing : (s buffer : List ℕ) (a : Said) → length buffer ≡ 251 → read_says s ≡ a → (a.number ≡ 0 → ⊥) → read_into s buffer ≡ call_result (answer_word a) buffer
 unfolding reading_into

@@ -1,4 +1,5 @@
 -- A frame through `lz_read` and `lz_write`, and a record's bytes through `lz_write` and `lz_read`.
+use Rattle.std.specs.Prelude.{Ok, Err}
 use mathlib.Core.Path.{◌≡◌, refl, sym, ap, ◌∙◌, subst}
 use mathlib.Core.Bool.{Bool, true, false, cond}
 use Prim.Native.Nat.{ℕ, ◌^◌, ◌≤◌}
@@ -8,9 +9,7 @@ use lib.ListN.{length, drop_of_length-le}
 use lib.Dec.{eqb}
 use borrow.Author.Tests.{eq-eqb, eqb-true}
 use Rattle.bits.specs.Frame.{Bytes}
-use Rattle.rows.specs.declared.refusal.Verdict.{Verdict}
-use Rattle.rows.specs.declared.refusal.Verdict.TheVariants.{Fine, Refused}
-use Rattle.rows.specs.Refusals.{says, answers}
+use Rattle.rows.specs.Refusals.{says, answers, Verdict}
 use Rattle.rows.specs.Runs.Verdict.{allowed}
 use Rattle.rows.proofs.Rules.Outcomes.{false_not_true}
 use Rattle.rows.proofs.Rules.Spans.{in_allowed}
@@ -18,14 +17,12 @@ use Rattle.report.specs.Categories.{preambles}
 use Rattle.report.proofs.Shaped.{Shaped}
 use Rattle.report.proofs.Writing.Validity.{answered}
 use Rattle.report.specs.declared.record.Record.{Record}
-use Rattle.report.specs.declared.read.Reading.{Reading}
 use Rattle.report.specs.Records.{record_of, zeros}
-use Rattle.report.specs.Runs.Reading.{read_of}
+use Rattle.report.specs.Runs.Reading.{read_of, Reading}
 use Rattle.report.specs.Conforms.{Conforms}
 use Rattle.line.specs.Lines.{line_answer, line_of, line_written}
 use Rattle.line.proofs.Claims.{a_frame_has_a_line, a_line_reads_as_its_frame, frame_to_line_to_frame, no_padding_no_digit_lost, printed_exactly_when_nothing_is_wrong}
-use Rattle.sentence.specs.declared.from_sentence.Received.{Received}
-use Rattle.sentence.specs.Sentences.{sentence_reading, sentence_of, send_answer, sent}
+use Rattle.sentence.specs.Sentences.{sentence_reading, sentence_of, send_answer, sent, Received}
 use Rattle.sentence.proofs.Claims.{a_written_sentence_is_read_again, sent_exactly_when_nothing_is_wrong}
 use Rattle.report.specs.Runs.Writing.{write_answer, write_of, Valid}
 use Rattle.report.proofs.Claims.{conforming_gives_its_record, read_again_is_the_record, read_records_are_shaped, written_again_is_the_frame}
@@ -48,15 +45,15 @@ record_whole l e = rw (eq-eqb (length l) 251 e)
 
 -- ---- what an answer of 0 tells of a reading and of a writing
 
-pub read_zero : (got : Reading) (buffer : List ℕ) → (reading_into got buffer).answer ≡ 0 → (got.answer ≡ Fine) × ((reading_into got buffer).buffer ≡ packed got.«record»)
+pub read_zero : (got : Reading) (buffer : List ℕ) → (reading_into got buffer).answer ≡ 0 → (got.answer ≡ Ok tt) × ((reading_into got buffer).buffer ≡ packed got.«record»)
 unfolding reading_into
 read_zero got buffer e = zero_tells (eqb (length buffer) 251) got.answer (packed got.«record») buffer e
 
-read_whole : (r : Record) (buffer : List ℕ) → length buffer ≡ 251 → reading_into (record { answer = Fine; «record» = r }) buffer ≡ call_result 0 (packed r)
+read_whole : (r : Record) (buffer : List ℕ) → length buffer ≡ 251 → reading_into (record { answer = Ok tt; «record» = r }) buffer ≡ call_result 0 (packed r)
 unfolding reading_into
 read_whole r buffer e = rw (eq-eqb (length buffer) 251 e)
 
-write_zero : (r : Record) (buffer : List ℕ) → (write_result r buffer).answer ≡ 0 → write_answer r (length buffer) ≡ Fine
+write_zero : (r : Record) (buffer : List ℕ) → (write_result r buffer).answer ≡ 0 → write_answer r (length buffer) ≡ Ok tt
 unfolding write_result
 write_zero r buffer e = (zero_is_told_of_success (write_answer r (length buffer))).1 e
 
@@ -64,7 +61,7 @@ write_buffer : (r : Record) (buffer : List ℕ) → (write_result r buffer).buff
 unfolding write_result
 write_buffer r buffer = refl
 
-write_whole : (r : Record) (buffer s : List ℕ) → write_answer r (length buffer) ≡ Fine → write_of r buffer ≡ s → write_result r buffer ≡ call_result 0 s
+write_whole : (r : Record) (buffer s : List ℕ) → write_answer r (length buffer) ≡ Ok tt → write_of r buffer ≡ s → write_result r buffer ≡ call_result 0 s
 unfolding write_result
 write_whole r buffer s e w = λ i. call_result (answer_word (answers (e i))) (w i)
 
@@ -87,11 +84,11 @@ read_then_written s bytes buffer b n e =
     ∙ write_whole r buffer s again.0 again.1
 
 -- no record of zeros is written
-zeros_refused : (n : ℕ) → write_answer zeros n ≡ Fine → ⊥
+zeros_refused : (n : ℕ) → write_answer zeros n ≡ Ok tt → ⊥
 unfolding allowed zeros
 zeros_refused n e = false_not_true (in_allowed preambles 0 ((answered zeros n).fine e).0.1.0)
 
-accepted_long : (l : List ℕ) (n : ℕ) → write_answer (record_from l) n ≡ Fine → length l ≡ 251
+accepted_long : (l : List ℕ) (n : ℕ) → write_answer (record_from l) n ≡ Ok tt → length l ≡ 251
 unfolding record_from
 accepted_long l n e = by (eqb (length l) 251) refl
   where
@@ -106,7 +103,7 @@ written_then_read l buffer bytes b n e =
     let long = accepted_long l (length buffer) fine in
     let whole = record_whole l long in
     let r = unpacked l in
-    let fine-too : write_answer r (length buffer) ≡ Fine = ap (λ (q : Record). write_answer q (length buffer)) (sym whole) ∙ fine in
+    let fine-too : write_answer r (length buffer) ≡ (Ok tt) = ap (λ (q : Record). write_answer q (length buffer)) (sym whole) ∙ fine in
     let room : length buffer ≡ 32 = ((answered r (length buffer)).fine fine-too).0.0 in
     let valid : Valid r = ap (write_answer r) (sym room) ∙ fine-too in
     ap (λ (q : Record). read_into (write_result q buffer).buffer bytes) whole
@@ -127,9 +124,9 @@ slots_told s bytes c n =
 
 -- ---- a line
 
-line_by : (v : Verdict) (s line : List ℕ) → length line ≡ 63 → answer_word (answers v) ≡ 0 → (v ≡ Fine) × (line_written v s line ≡ line_of s)
-line_by Fine s line n e = (refl, ap (λ (l : List ℕ). line_of s ++ l) (drop_of_length-le line {i = 63} (omega (arith, n))) ∙ append-nil (line_of s))
-line_by (Refused x) s line n e = let high : 2 ^ 24 ≤ answer_word (says x) = a_refusal_is_told_as_one x in absurd (omega (arith, high, e))
+line_by : (v : Verdict) (s line : List ℕ) → length line ≡ 63 → answer_word (answers v) ≡ 0 → (v ≡ Ok tt) × (line_written v s line ≡ line_of s)
+line_by (Ok tt) s line n e = (refl, ap (λ (l : List ℕ). line_of s ++ l) (drop_of_length-le line {i = 63} (omega (arith, n))) ∙ append-nil (line_of s))
+line_by (Err x) s line n e = let high : 2 ^ 24 ≤ answer_word (says x) = a_refusal_is_told_as_one x in absurd (omega (arith, high, e))
 
 pub printed_then_read : (s line bytes : List ℕ) → Bytes s → length line ≡ 63 → (write_line_into s line).answer ≡ 0
     → read_line_into (write_line_into s line).buffer bytes ≡ read_into s bytes
@@ -143,9 +140,9 @@ printed_then_read s line bytes b n e =
 
 -- ---- a sentence
 
-sent_by : (v : Verdict) (n : ℕ) (s buffer : List ℕ) → length buffer ≡ 78 → answer_word (answers v) ≡ 0 → (v ≡ Fine) × (sent v n s buffer ≡ sentence_of n s)
-sent_by Fine n s buffer l e = (refl, ap (λ (t : List ℕ). sentence_of n s ++ t) (drop_of_length-le buffer {i = 78} (omega (arith, l))) ∙ append-nil (sentence_of n s))
-sent_by (Refused x) n s buffer l e = let high : 2 ^ 24 ≤ answer_word (says x) = a_refusal_is_told_as_one x in absurd (omega (arith, high, e))
+sent_by : (v : Verdict) (n : ℕ) (s buffer : List ℕ) → length buffer ≡ 78 → answer_word (answers v) ≡ 0 → (v ≡ Ok tt) × (sent v n s buffer ≡ sentence_of n s)
+sent_by (Ok tt) n s buffer l e = (refl, ap (λ (t : List ℕ). sentence_of n s ++ t) (drop_of_length-le buffer {i = 78} (omega (arith, l))) ∙ append-nil (sentence_of n s))
+sent_by (Err x) n s buffer l e = let high : 2 ^ 24 ≤ answer_word (says x) = a_refusal_is_told_as_one x in absurd (omega (arith, high, e))
 
 pub sent_then_read : (n : ℕ) (s buffer bytes : List ℕ) → Bytes s → length buffer ≡ 78 → length bytes ≡ 251 → (write_sentence_into n s buffer).answer ≡ 0
     → read_sentence_into (write_sentence_into n s buffer).buffer bytes ≡ call_result n (read_into s bytes).buffer

@@ -1,4 +1,5 @@
 -- A store opened by `lz_open`, and passed to any list of `lz_take`, has the bytes of the store that took those frames.
+use Rattle.rows.specs.Refusals.{Verdict}
 use mathlib.Core.Path.{◌≡◌, refl, sym, ap, ◌∙◌}
 use mathlib.Core.Bool.{◌&&◌}
 use Prim.Native.Nat.{ℕ, ◌≤◌}
@@ -7,16 +8,13 @@ use mathlib.Core.List.{List, [], ◌∷◌, ◌++◌, map, append_assoc, append-
 use lib.ListN.{length, drop}
 use lib.Dec.{eqb}
 use borrow.Author.Tests.{eq-eqb}
-use Rattle.rows.specs.declared.refusal.Verdict.{Verdict}
 use Rattle.report.specs.declared.record.Record.{Record}
 use Rattle.pages.specs.declared.name.Name.{Name}
 use Rattle.bulletin.specs.declared.store.Store.{Store}
 use Rattle.bulletin.specs.Stores.{open_of, ShapedStore}
 use Rattle.bulletin.specs.Takings.{take_of}
-use Rattle.bulletin.specs.declared.merge.Merging.{Merging}
-use Rattle.bulletin.specs.declared.count.Count.{Count}
-use Rattle.bulletin.specs.Counts.{count_of}
-use Rattle.bulletin.specs.Merges.{merge_of}
+use Rattle.bulletin.specs.Counts.{count_of, Counted}
+use Rattle.bulletin.specs.Merges.{merge_of, Merging}
 use Rattle.bulletin.proofs.Telling.PageBytes.{Eighteen}
 use Rattle.histories.specs.Soundness.{InRange}
 use Rattle.histories.specs.Reports.{Reports, Tells}
@@ -87,15 +85,15 @@ module _ (n : Name) (range : InRange n) where
 
   -- ---- what it reports and tells
 
-  pub reported-bytes : (fs : List Frame) → (c : Count) × Reports n fs c × (word_bytes (count_answer (store_bytes (store_after n fs))) ≡ 0 ∷ c.held ∷ c.disputed ∷ c.lowest ∷ [])
+  pub reported-bytes : (fs : List Frame) → (c : Counted) × Reports n fs c × (word_bytes (count_answer (store_bytes (store_after n fs))) ≡ 0 ∷ c.held ∷ c.disputed ∷ c.lowest ∷ [])
   reported-bytes fs =
       let bytes : List ℕ = store_bytes (store_after n fs) in
       let reports = the_report_is_told_by_the_frames n fs range in
       let same : count_of (store_or_zeros bytes) ≡ count_of (store_after n fs) = ap count_of (after_whole fs) in (
         count_of (store_after n fs),
         reports,
-        a_report_has_held_disputed_and_lowest bytes (ap (λ (c : Count). c.answer) same ∙ reports.answer)
-            ∙ ap (λ (c : Count). 0 ∷ c.held ∷ c.disputed ∷ c.lowest ∷ []) same,
+        a_report_has_held_disputed_and_lowest bytes (ap (λ (c : Counted). c.answer) same ∙ reports.answer)
+            ∙ ap (λ (c : Counted). 0 ∷ c.held ∷ c.disputed ∷ c.lowest ∷ []) same,
       )
 
   pub told_bytes : (fs : List Frame) (text buffer : List ℕ) → Tells (store_after n fs) text → length text ≤ length buffer

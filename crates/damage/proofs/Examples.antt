@@ -11,7 +11,6 @@ use Rattle.parity.specs.Parity.{step, parity_of}
 use Rattle.parity.specs.Groups.{bits_of}
 use Rattle.parity.proofs.Taken.{field_bit}
 use Rattle.rows.specs.Refusals.{plain}
-use Rattle.rows.specs.Runs.Questions.{◌then◌, unless}
 use Rattle.rows.specs.Runs.Verdict.{allowed, empty, judge, later, slots_verdict, verdict, walk}
 use Rattle.rows.specs.Values.{values_of}
 use Rattle.slots.specs.Slots.{slots_of}
@@ -82,7 +81,7 @@ abbrev pub Found : Case → Type 0
 Found c = Damaged c.first sent (frame_of c.line) × (read_says (frame_of c.line) ≡ plain c.number)
 
 pub cases-found : Each Found cases
-unfolding changes outer_of ◌then◌ unless allowed parity_of step
+unfolding changes outer_of allowed parity_of step
 cases-found = (
   (changed_between _ 0 sent _ (omega arith) refl refl refl refl 0 refl, refl),
   (
@@ -108,7 +107,7 @@ unfolding changes
 wider_changed = changed_between 25 70 sent wider (omega arith) refl refl refl refl 13 refl
 
 pub both_read : (read_says sent ≡ plain 0) × (read_says wider ≡ plain 0)
-unfolding outer_of ◌then◌ unless allowed parity_of step body_from verdict values_of walk judge slots_verdict later empty
+unfolding outer_of allowed parity_of step body_from verdict values_of walk judge slots_verdict later empty
 both_read = (refl, refl)
 
 pub both_told : (first_three sent ≡ (4, 44) ∷ (4, 45) ∷ (3, 39) ∷ []) × (first_three wider ≡ (7, 47) ∷ (5, 33) ∷ (4, 17) ∷ [])

@@ -1,4 +1,5 @@
 -- What is answered to a frame that was read and then damaged.
+use Rattle.std.specs.Prelude.{Err}
 use mathlib.Core.Path.{◌≡◌, refl, sym, ap, ◌∙◌}
 use mathlib.Core.Bool.{Bool, true, false}
 use mathlib.Core.Logic.{◌⊎◌, ◌↔◌, inl, inr, ⊎_elim}
@@ -11,12 +12,10 @@ use borrow.Author.Tests.{eq-eqb, ne_eqb, ltb-true, ltb-false}
 use Rattle.bits.specs.Frame.{field_of}
 use Rattle.parity.specs.Parity.{parity_of}
 use Rattle.parity.proofs.Claims.{right_frames_are_far_apart}
-use Rattle.rows.specs.declared.refusal.Verdict.TheVariants.{Refused}
 use Rattle.rows.specs.declared.refusal.Refusal.TheVariants.{Preamble, Parity}
 use Rattle.rows.specs.declared.refusal.Said.{Said}
 use Rattle.rows.specs.Refusals.{answers, plain}
 use Rattle.rows.specs.Kept.{In}
-use Rattle.rows.specs.Runs.Questions.{◌then◌, unless}
 use Rattle.rows.specs.Runs.Verdict.{allowed}
 use Rattle.rows.proofs.Rules.Numbers.{zero_fine}
 use Rattle.rows.proofs.Rules.Outcomes.{false_not_true}
@@ -59,12 +58,12 @@ module _ (s t : List ℕ) (k : ℕ) (read : read_says s ≡ plain 0) (d : Damage
   unset : eqb (field_of t 250 6) 0 ≡ true
   unset = eq-eqb (field_of t 250 6) 0 padded
 
-  refused_with_3 : (In preambles (field_of t 0 8) → ⊥) → read_answer t ≡ Refused Preamble
-  unfolding outer_of unless ◌then◌
+  refused_with_3 : (In preambles (field_of t 0 8) → ⊥) → read_answer t ≡ Err Preamble
+  unfolding outer_of
   refused_with_3 n = simp (long, unset, not_allowed preambles (field_of t 0 8) n)
 
-  refused_with_4 : In preambles (field_of t 0 8) → read_answer t ≡ Refused Parity
-  unfolding outer_of unless ◌then◌
+  refused_with_4 : In preambles (field_of t 0 8) → read_answer t ≡ Err Parity
+  unfolding outer_of
   refused_with_4 i = simp (long, unset, in_allowed preambles (field_of t 0 8) i, ne_eqb (parity_of t) (field_of t 226 24) wrong)
 
   -- ---- in the paper's numbers

@@ -1,12 +1,13 @@
 -- What is proved of a store from its opening on, through takings and merges, each claim with the sentence of document 01 that
 -- it settles.
+use Rattle.bulletin.specs.declared.take.Took.TheVariants.{New, Same, Disputed as AnswersDisputed}
+use Rattle.std.specs.Prelude.{Ok, Err}
 use mathlib.Core.Path.{◌≡◌, refl, sym, subst}
 use mathlib.Core.Bool.{true}
 use mathlib.Core.List.{List, ◌++◌}
 use mathlib.Core.Logic.{◌↔◌, ◌⊎◌}
 use Prim.Native.Nat.{ℕ, ◌≤◌, ◌<◌}
 use lib.ListN.{length, replicate}
-use Rattle.rows.specs.declared.refusal.Verdict.TheVariants.{Fine, Refused as Rejected}
 use Rattle.rows.specs.declared.refusal.Refusal.{Refusal}
 use Rattle.rows.specs.declared.refusal.Refusal.TheVariants.{Unsound, NotHeld}
 use Rattle.rows.specs.Faults.{Met}
@@ -14,12 +15,10 @@ use Rattle.report.specs.declared.record.Record.{Record}
 use Rattle.report.specs.Runs.Writing.{Valid}
 use Rattle.pages.specs.declared.name.Name.{Name}
 use Rattle.bulletin.specs.declared.store.Store.{Store}
-use Rattle.bulletin.specs.declared.count.Count.{Count}
-use Rattle.bulletin.specs.declared.take.Taken.TheVariants.{New, Same, Disputed as AnswersDisputed, Refused}
 use Rattle.pages.specs.Pages.{absent_page, held_page, disputed_page}
 use Rattle.bulletin.specs.Stores.{no_pages, open_of, sound_store, page_behind, ShapedStore}
 use Rattle.bulletin.specs.Takings.{take_of}
-use Rattle.bulletin.specs.Counts.{count_of}
+use Rattle.bulletin.specs.Counts.{count_of, Counted}
 use Rattle.bulletin.specs.Merges.{joined_stores, merge_of}
 use Rattle.bulletin.specs.Text.{text_answer}
 use Rattle.bulletin.proofs.Claims.{every_name_in_range_is_opened}
@@ -51,15 +50,15 @@ use Rattle.histories.proofs.Reports.OnePageTwice.{all-taken, twice_reported, twi
 -- ---- opened and sound
 
 -- "So every name in range is opened", and no other ..
-pub opened_exactly_when_in_range : (n : Name) → (open_of n).answer ≡ Fine ↔ InRange n
+pub opened_exactly_when_in_range : (n : Name) → (open_of n).answer ≡ (Ok tt) ↔ InRange n
 opened_exactly_when_in_range n = open_exactly n
 
 -- .. "it starts with no page"
-pub opened_without_a_page : (n : Name) → InRange n → open_of n ≡ record { answer = Fine; store = no_pages n }
+pub opened_without_a_page : (n : Name) → InRange n → open_of n ≡ record { answer = Ok tt; store = no_pages n }
 opened_without_a_page n r = every_name_in_range_is_opened n (in_range_fine n r)
 
 -- "Opening: 8 at the first bad value in frame order; the total is 1-63, at bit 207"
-pub opening_refused_for_a_reason : (n : Name) (x : Refusal) → (open_of n).answer ≡ Rejected x → WhyNotOpened n x
+pub opening_refused_for_a_reason : (n : Name) (x : Refusal) → (open_of n).answer ≡ Err x → WhyNotOpened n x
 opening_refused_for_a_reason n x e = open_reason n x e
 
 -- "A store is sound when its name is in range, each page's state is one of the three, absent and disputed pages hold zero
@@ -71,17 +70,17 @@ sound_exactly_when_tested s = (tested_sound s, sound_tested s)
 
 -- "a sound store takes every valid page of its bulletin", and nothing else
 pub taken_exactly_when_a_page_of_the_bulletin : (s : Store) (r : Record) → Sound s
-    → ((x : Refusal) → (take_of s r).answer ≡ Refused x → ⊥) ↔ ((p : ℕ) × Brings s.name r p r.text)
+    → ((x : Refusal) → (take_of s r).answer ≡ Err x → ⊥) ↔ ((p : ℕ) × Brings s.name r p r.text)
 taken_exactly_when_a_page_of_the_bulletin s r h = (taken_brings s r, λ b. brings_not_refused s r b.0 r.text h b.1)
 
 -- "Taking: 14, then what writing that record to 32 bytes would refuse, 12, 13": the condition of the number fails, and every
 -- earlier one holds ..
-pub taking_refused_for_a_reason : (s : Store) (r : Record) (x : Refusal) → (take_of s r).answer ≡ Refused x → WhyNotTaken s r x
+pub taking_refused_for_a_reason : (s : Store) (r : Record) (x : Refusal) → (take_of s r).answer ≡ Err x → WhyNotTaken s r x
 taking_refused_for_a_reason s r x e = take_reason s r x e
 
 -- .. and where all of them hold, and there alone, it is not refused: "where no row tested by a call applies, the call succeeds"
 pub taken_exactly_when_nothing_is_wrong : (s : Store) (r : Record)
-    → ((x : Refusal) → (take_of s r).answer ≡ Refused x → ⊥) ↔ (Sound s × Valid r × Met (page_questions s.name r))
+    → ((x : Refusal) → (take_of s r).answer ≡ Err x → ⊥) ↔ (Sound s × Valid r × Met (page_questions s.name r))
 taken_exactly_when_nothing_is_wrong s r = take_exactly s r
 
 -- "Each page from 1 to the total is absent, held with its 18 bytes, or disputed": absent exactly when no frame brought it ..
@@ -102,22 +101,22 @@ disputed_exactly_when_two_differ n frames p r low high = (told_page n r frames p
 
 -- "Taking a page answers new where it was absent" ..
 pub new_where_none_came : (n : Name) (frames : List Frame) (f : Frame) (p : ℕ) (t : List ℕ) → InRange n → Brings n f.came p t
-    → Absent n frames p → (take_of (store_after n frames) f.came).answer ≡ New
+    → Absent n frames p → (take_of (store_after n frames) f.came).answer ≡ (Ok New)
 new_where_none_came n frames f p t r b h = answers_new n r frames f p t b h
 
 -- .. "same where it was held with those 18 bytes" ..
 pub same_where_that_text_came : (n : Name) (frames : List Frame) (f : Frame) (p : ℕ) (t : List ℕ) → InRange n → Brings n f.came p t
-    → Held n frames p t → (take_of (store_after n frames) f.came).answer ≡ Same
+    → Held n frames p t → (take_of (store_after n frames) f.came).answer ≡ (Ok Same)
 same_where_that_text_came n frames f p t r b h = answers_same n r frames f p t b h
 
 -- .. "and disputed otherwise": where another text had come
 pub disputed_where_another_came : (n : Name) (frames : List Frame) (f : Frame) (p : ℕ) (t u : List ℕ) → InRange n → Brings n f.came p t
-    → Came n frames p u → (u ≡ t → ⊥) → (take_of (store_after n frames) f.came).answer ≡ AnswersDisputed
+    → Came n frames p u → (u ≡ t → ⊥) → (take_of (store_after n frames) f.came).answer ≡ (Ok AnswersDisputed)
 disputed_where_another_came n frames f p t u r b c d = answers_disputed n r frames f p t b u c d
 
 -- .. and so it is where the page was disputed already
 pub disputed_where_it_was_disputed : (n : Name) (frames : List Frame) (f : Frame) (p : ℕ) (t : List ℕ) → InRange n → Brings n f.came p t
-    → Disputed n frames p → (take_of (store_after n frames) f.came).answer ≡ AnswersDisputed
+    → Disputed n frames p → (take_of (store_after n frames) f.came).answer ≡ (Ok AnswersDisputed)
 disputed_where_it_was_disputed n frames f p t r b h = answers_still_disputed n r frames f p t b h
 
 -- In whatever order frames come, and however often ("one may have come twice"): where the same texts came for the same pages,
@@ -138,7 +137,7 @@ the_same_frames_bring_the_same n a b same = frames_bring n a b same
 
 -- "a merged store counts as having taken the frames of both"
 pub merging_takes_the_frames_of_both : (n : Name) (a b : List Frame) → InRange n
-    → merge_of (store_after n a) (store_after n b) ≡ record { answer = Fine; store = store_after n (a ++ b) }
+    → merge_of (store_after n a) (store_after n b) ≡ record { answer = Ok tt; store = store_after n (a ++ b) }
 merging_takes_the_frames_of_both n a b r = merge_after n r a b
 
 -- .. however many receivers there are, and however their stores are merged ..
@@ -150,14 +149,14 @@ pub ways_of_merging_agree : (n : Name) (a b : Tree) → InRange n → SamePages 
 ways_of_merging_agree n a b r same = same_trees n r a b same
 
 -- "Merging: 14, 13": two sound stores of one bulletin are merged, page by page, and what they give is sound
-pub sound_stores_are_merged : (a b : Store) → Sound a → Sound b → a.name ≡ b.name → merge_of a b ≡ record { answer = Fine; store = joined_stores a b }
+pub sound_stores_are_merged : (a b : Store) → Sound a → Sound b → a.name ≡ b.name → merge_of a b ≡ record { answer = Ok tt; store = joined_stores a b }
 sound_stores_are_merged a b p q e = merge_joins a b p q e
 
 -- .. and no others: a merge is refused with 14 where one of the two is not sound, and with 13 only where both are
-pub merging_refused_for_a_reason : (a b : Store) (x : Refusal) → (merge_of a b).answer ≡ Rejected x → WhyNotMerged a b x
+pub merging_refused_for_a_reason : (a b : Store) (x : Refusal) → (merge_of a b).answer ≡ Err x → WhyNotMerged a b x
 merging_refused_for_a_reason a b x e = merge_reason a b x e
 
-pub merged_exactly_when_nothing_is_wrong : (a b : Store) → (merge_of a b).answer ≡ Fine ↔ Met (merge_questions a b)
+pub merged_exactly_when_nothing_is_wrong : (a b : Store) → (merge_of a b).answer ≡ (Ok tt) ↔ Met (merge_questions a b)
 merged_exactly_when_nothing_is_wrong a b = merge_exactly a b
 
 pub merging_keeps_soundness : (a b : Store) → Sound a → Sound b → ShapedStore a → ShapedStore b → a.name ≡ b.name → Sound (joined_stores a b) × ShapedStore (joined_stores a b)
@@ -173,7 +172,7 @@ pub merging_is_associative : (a b c : Store) → Sound a → Sound b → Sound c
 merging_is_associative a b c p q r x y z e f = associates a b c p q r x.long y.long z.long e f
 
 -- .. nor how often
-pub merging_is_idempotent : (a : Store) → Sound a → ShapedStore a → merge_of a a ≡ record { answer = Fine; store = a }
+pub merging_is_idempotent : (a : Store) → Sound a → ShapedStore a → merge_of a a ≡ record { answer = Ok tt; store = a }
 merging_is_idempotent a p x = repeats a p x.long
 
 -- "all else is disputed": the text of a held page is never replaced by another, in whatever store it is merged with
@@ -225,7 +224,7 @@ pub the_report_is_told_by_the_frames : (n : Name) (frames : List Frame) → InRa
 the_report_is_told_by_the_frames n frames r = reported n r frames
 
 -- .. and no other report is told by them: not "an invented number of held or disputed pages" ..
-pub the_frames_tell_one_report : (n : Name) (frames : List Frame) (c d : Count) → Reports n frames c → Reports n frames d → c ≡ d
+pub the_frames_tell_one_report : (n : Name) (frames : List Frame) (c d : Counted) → Reports n frames c → Reports n frames d → c ≡ d
 the_frames_tell_one_report n frames c d p q = reported_once n frames c d p q
 
 -- .. also after merges, and with stores from elsewhere
@@ -233,25 +232,25 @@ pub a_history_reports_its_frames : (n : Name) (h : History n) → InRange n → 
 a_history_reports_its_frames n h r = subst (λ (s : Store). Reports n (frames_of h) (count_of s)) (sym (history_after n r h)) (reported n r (frames_of h))
 
 -- "The reports of a store: 14": refused where the store is not sound, and there alone ..
-pub report_refused_for_a_reason : (s : Store) (x : Refusal) → (count_of s).answer ≡ Rejected x → WhyNotReported s x
+pub report_refused_for_a_reason : (s : Store) (x : Refusal) → (count_of s).answer ≡ Err x → WhyNotReported s x
 report_refused_for_a_reason s x e = report_reason s x e
 
-pub reported_exactly_when_sound : (s : Store) → (count_of s).answer ≡ Fine ↔ Sound s
+pub reported_exactly_when_sound : (s : Store) → (count_of s).answer ≡ (Ok tt) ↔ Sound s
 reported_exactly_when_sound s = report_exactly s
 
 -- .. "A refused report gives zeros"
 pub a_store_that_is_not_sound_reports_zeros : (s : Store) → (Sound s → ⊥)
-    → count_of s ≡ record { answer = Rejected Unsound; held = 0; disputed = 0; lowest = 0 }
+    → count_of s ≡ record { answer = Err Unsound; held = 0; disputed = 0; lowest = 0 }
 a_store_that_is_not_sound_reports_zeros s h = unsound_reported s h
 
 -- "Text: 14, 15, 16", "with the lowest such page and whether it is absent or disputed": the condition of the number fails, and
 -- every earlier one holds ..
-pub text_refused_for_a_reason : (s : Store) (size : ℕ) (x : Refusal) → ShapedStore s → (text_answer s size).answer ≡ Rejected x → WhyNotTold s size x
+pub text_refused_for_a_reason : (s : Store) (size : ℕ) (x : Refusal) → ShapedStore s → (text_answer s size).answer ≡ Err x → WhyNotTold s size x
 text_refused_for_a_reason s size x h e = text_reason s h size x e
 
 -- .. and where all of them hold, and there alone, the text is told ..
 pub told_exactly_when_nothing_is_wrong : (s : Store) (size : ℕ) → ShapedStore s
-    → (text_answer s size).answer ≡ Fine ↔ (Sound s × All (PageHeld s) s.name.total × TextFits s size)
+    → (text_answer s size).answer ≡ (Ok tt) ↔ (Sound s × All (PageHeld s) s.name.total × TextFits s size)
 told_exactly_when_nothing_is_wrong s size h = text_exactly s h size
 
 -- .. with its length: "the pages' bytes in order, less all zero bytes at its end"
@@ -288,11 +287,11 @@ a_page_that_did_not_come_is_missed n frames p r low high none = missed n r frame
 -- Reserved and every bit of the spares. Both are taken, one page is held and none disputed, page 2 is the lowest that is not held,
 -- and the text is refused with 15, page 2, absent.
 pub one_page_twice_is_not_complete : AllTaken of_two_pages came_twice × (length came_twice ≡ of_two_pages.total)
-    × (count_of (store_after of_two_pages came_twice) ≡ record { answer = Fine; held = 1; disputed = 0; lowest = 2 })
+    × (count_of (store_after of_two_pages came_twice) ≡ record { answer = Ok tt; held = 1; disputed = 0; lowest = 2 })
     × TellsNothing (store_after of_two_pages came_twice) (NotHeld 2 1)
 one_page_twice_is_not_complete = (all-taken, refl, twice_reported, twice_told)
 
 -- .. but where each came, it is complete: there is a bulletin that comes to be so, and tells its text
-pub a_bulletin_comes_to_be_complete : (count_of (store_after of_two_pages came_both) ≡ record { answer = Fine; held = 2; disputed = 0; lowest = 0 })
+pub a_bulletin_comes_to_be_complete : (count_of (store_after of_two_pages came_both) ≡ record { answer = Ok tt; held = 2; disputed = 0; lowest = 0 })
     × Tells (store_after of_two_pages came_both) (replicate 36 65)
 a_bulletin_comes_to_be_complete = (complete_reported, complete_told)

@@ -1,6 +1,5 @@
 -- Why a store refuses: the order in which document 01 asks ("What each number says").
-use Rattle.std.specs.Prelude.{◌≡◌, List, [], ◌∷◌, ◌⊎◌, ℕ, ◌≤◌, length}
-use Rattle.rows.specs.declared.refusal.Verdict.TheVariants.{Refused}
+use Rattle.std.specs.Prelude.{◌≡◌, List, [], ◌∷◌, ◌⊎◌, ℕ, ◌≤◌, length, Err}
 use Rattle.rows.specs.declared.refusal.Refusal.{Refusal}
 use Rattle.rows.specs.declared.refusal.Refusal.TheVariants.{NoPage, OtherBulletin, Unsound, NotHeld, Short}
 use Rattle.rows.specs.Faults.{◌or◌, First, Question}
@@ -51,7 +50,7 @@ abbrev pub page_questions : Name → Record → List Question
 page_questions n r = IsPage r or NoPage ∷ IsPageOf n r or OtherBulletin ∷ []
 
 abbrev pub WhyNotTaken : Store → Record → Refusal → Type 0
-WhyNotTaken s r x = First (Sound s or Unsound ∷ []) x ((write_answer r 32 ≡ Refused x) ⊎ (Valid r × First (page_questions s.name r) x ⊥))
+WhyNotTaken s r x = First (Sound s or Unsound ∷ []) x ((write_answer r 32 ≡ Err x) ⊎ (Valid r × First (page_questions s.name r) x ⊥))
 
 -- ---- "Text: 14, 15, 16"
 

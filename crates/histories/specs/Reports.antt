@@ -1,11 +1,10 @@
 -- What a store reports and tells, defined from the frames that it took (document 01, "The page store").
-use Rattle.std.specs.Prelude.{◌≡◌, List, [], ◌∷◌, ◌++◌, ◌⊎◌, ℕ, zero, suc, ◌≤◌, ◌<◌, length, drop, replicate}
-use Rattle.rows.specs.declared.refusal.Verdict.TheVariants.{Fine, Refused}
+use Rattle.std.specs.Prelude.{◌≡◌, List, [], ◌∷◌, ◌++◌, ◌⊎◌, ℕ, zero, suc, ◌≤◌, ◌<◌, length, drop, replicate, Ok, Err}
 use Rattle.rows.specs.declared.refusal.Refusal.{Refusal}
 use Rattle.rows.specs.declared.refusal.Refusal.TheVariants.{Short}
 use Rattle.pages.specs.declared.name.Name.{Name}
 use Rattle.bulletin.specs.declared.store.Store.{Store}
-use Rattle.bulletin.specs.declared.count.Count.{Count}
+use Rattle.bulletin.specs.Counts.{Counted as Count}
 use Rattle.bulletin.specs.Text.{text_answer, text_buffer}
 use Rattle.histories.specs.Frames.{Frame, Absent, Held, Disputed}
 
@@ -33,7 +32,7 @@ abbrev pub IsHeld : Name → List Frame → ℕ → Type 0
 IsHeld n frames p = (t : List ℕ) × Held n frames p t
 
 pub record Reports (n : Name) (frames : List Frame) (c : Count) : Type 0 where
-  pub answer : c.answer ≡ Fine
+  pub answer : c.answer ≡ Ok tt
   pub held : Counted (IsHeld n frames) n.total c.held
   pub disputed : Counted (Disputed n frames) n.total c.disputed
   pub lowest : ((c.lowest ≡ 0) × All (IsHeld n frames) n.total) ⊎ LowestWithout (IsHeld n frames) n.total c.lowest
@@ -52,14 +51,14 @@ pub record Trimmed (whole text : List ℕ) : Type 0 where
 
 -- a store tells the text: "Text leaves the bytes after its length untouched", and 16 where the buffer is too short
 pub record Tells (s : Store) (text : List ℕ) : Type 0 where
-  pub answer : (out : List ℕ) → length text ≤ length out → text_answer s (length out) ≡ record { answer = Fine; length = length text }
+  pub answer : (out : List ℕ) → length text ≤ length out → text_answer s (length out) ≡ record { answer = Ok tt; length = length text }
   pub written : (out : List ℕ) → length text ≤ length out → text_buffer s out ≡ text ++ drop (length text) out
-  pub short : (out : List ℕ) → length out < length text → text_answer s (length out) ≡ record { answer = Refused Short; length = 0 }
+  pub short : (out : List ℕ) → length out < length text → text_answer s (length out) ≡ record { answer = Err Short; length = 0 }
   pub untouched : (out : List ℕ) → length out < length text → text_buffer s out ≡ out
 
 -- a store tells nothing, for this reason
 pub record TellsNothing (s : Store) (x : Refusal) : Type 0 where
-  pub answer : (size : ℕ) → text_answer s size ≡ record { answer = Refused x; length = 0 }
+  pub answer : (size : ℕ) → text_answer s size ≡ record { answer = Err x; length = 0 }
   pub untouched : (out : List ℕ) → text_buffer s out ≡ out
 
 -- "15: a page is not held; with the lowest such page and whether it is absent or disputed": mark 1 is absent, 2 disputed

@@ -1,4 +1,3 @@
 pub mod Claims
 pub mod Walks
-pub mod KnownCodes
 pub mod Settled

@@ -1,1 +1,2 @@
 pub mod Hypocenter
+pub mod Runs

@@ -2,12 +2,12 @@
 ghost use Rattle.std.specs.Prelude.{◌≡◌, [], ◌∷◌, map, ◌≤◌, ◌%◌, ◌^◌};
 ghost use Rattle.bits.specs.Frame.{frame_in};
 ghost use Rattle.rows.specs.Values.{cut};
-ghost use Rattle.rows.specs.Runs.Questions.{◌then◌};
 ghost use Rattle.rows.specs.Runs.Verdict.{walk};
 ghost use Rattle.hypocenter.specs.Hypocenter.{angle, angle_from, angle_values};
 
-use rows::fields::one_byte;
-use rows::refusal::Verdict;
+use bits::Number;
+use rows::question::within;
+use rows::refusal::Refusal;
 
 // Side 0 is north or east, 1 is south or west.
 #[derive(Clone, Copy)]
@@ -25,10 +25,10 @@ impl Angle {
         ensures { result ≡ angle_from (side % 2 ^ 8 ∷ degrees % 2 ^ 8 ∷ minutes % 2 ^ 8 ∷ seconds % 2 ^ 8 ∷ []) 0 }
     {
         Angle {
-            side: one_byte(side),
-            degrees: one_byte(degrees),
-            minutes: one_byte(minutes),
-            seconds: one_byte(seconds),
+            side: u8::lowest(side),
+            degrees: u8::lowest(degrees),
+            minutes: u8::lowest(minutes),
+            seconds: u8::lowest(seconds),
         }
     }
 
@@ -37,21 +37,22 @@ impl Angle {
         ensures { result ≡ angle_from (map (cut (frame_in f.now)) (angle at width 0)) 0 }
     {
         Angle {
-            side: bits::field8(f, at, 1),
-            degrees: bits::field8(f, at + 1, width),
-            minutes: bits::field8(f, at + 1 + width, 6),
-            seconds: bits::field8(f, at + 7 + width, 6),
+            side: bits::field(f, at, 1),
+            degrees: bits::field(f, at + 1, width),
+            minutes: bits::field(f, at + 1 + width, 6),
+            seconds: bits::field(f, at + 7 + width, 6),
         }
     }
 
-    pub(crate) fn check(self, found: Verdict, at: u8, width: u8, most: u64) -> Verdict
+    // What is found in the angle whose first bit is `at`, of at most so many degrees.
+    #[tactic(auto, using(rows::proofs::Rules::Spans::allowed_one, rows::proofs::Rules::Outcomes::then_fine), unfolding(rows::specs::Runs::Verdict::walk, rows::specs::Runs::Verdict::judge))]
+    pub(crate) fn check(self, at: u8, width: u8, most: u64) -> Result<(), Refusal>
         requires { (at ≤ 200) × (width ≤ 8) }
-        ensures { result ≡ found then walk [] (angle at width most) (angle_values self) }
+        ensures { result ≡ walk [] (angle at width most) (angle_values self) }
     {
-        found
-            .within(at, self.side as u64, 0, 1)
-            .within(at + 1, self.degrees as u64, 0, most)
-            .within(at + 1 + width, self.minutes as u64, 0, 59)
-            .within(at + 7 + width, self.seconds as u64, 0, 59)
+        within(at, u64::from(self.side), 0, 1)?;
+        within(at + 1, u64::from(self.degrees), 0, most)?;
+        within(at + 1 + width, u64::from(self.minutes), 0, 59)?;
+        within(at + 7 + width, u64::from(self.seconds), 0, 59)
     }
 }

@@ -15,6 +15,7 @@ pub enum Depth {
 }
 
 impl Depth {
+    #[tactic(auto, unfolding(crate::specs::Hypocenter::depth_of))]
     pub fn of(code: u16) -> Depth
         ensures { result ≡ depth_of code }
     {
@@ -39,6 +40,7 @@ pub enum Magnitude {
 }
 
 impl Magnitude {
+    #[tactic(auto, unfolding(crate::specs::Hypocenter::magnitude_of))]
     pub fn of(code: u8) -> Magnitude
         ensures { result ≡ magnitude_of code }
     {

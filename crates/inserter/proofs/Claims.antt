@@ -1,4 +1,6 @@
 -- What is claimed of one call, over the words and bytes that a program in C sees. What calls in a row come to is claimed in `calls`.
+use Rattle.bulletin.specs.declared.take.Took.TheVariants.{New, Same, Disputed}
+use Rattle.std.specs.Prelude.{Ok, Err}
 use mathlib.Core.Path.{◌≡◌, refl, sym, ap, ◌∙◌}
 use mathlib.Core.Bool.{true}
 use mathlib.Core.Logic.{◌↔◌, ◌⊎◌, ⊎_elim}
@@ -8,10 +10,8 @@ use lib.ListN.{get_or, length}
 use Prim.Native.Nat.{ℕ, ◌+◌, ◌*◌, ◌/◌, ◌^◌, ◌≤◌, ◌<◌}
 use Rattle.rows.specs.declared.refusal.Refusal.{Refusal}
 use Rattle.rows.specs.declared.refusal.Said.{Said}
-use Rattle.rows.specs.declared.refusal.Verdict.{Verdict}
-use Rattle.rows.specs.declared.refusal.Verdict.TheVariants.{Fine, Refused}
 use Rattle.rows.specs.declared.refusal.Refusal.TheVariants.{Range}
-use Rattle.rows.specs.Refusals.{at, plain, says, answers}
+use Rattle.rows.specs.Refusals.{at, plain, says, answers, Verdict}
 use Rattle.rows.proofs.Rules.Numbers.{answered_value}
 use Rattle.report.specs.Runs.Reading.{read_answer, read_of, read_says}
 use Rattle.report.specs.Runs.Writing.{write_answer, write_says}
@@ -20,10 +20,8 @@ use Rattle.rows.specs.Kept.{In}
 use Rattle.sentence.specs.Sentences.{satellites, sentence_answer, sentence_reading, sentence_says, send_says}
 use Rattle.record_bytes.specs.Packed.{packed}
 use Rattle.pages.specs.Names.{name_says}
-use Rattle.bulletin.specs.declared.take.Taken.{Taken}
-use Rattle.bulletin.specs.declared.take.Taken.TheVariants.{New, Same, Disputed, Refused as NotTaken}
 use Rattle.bulletin.specs.Stores.{sound_store}
-use Rattle.bulletin.specs.Takings.{take_of, take_says}
+use Rattle.bulletin.specs.Takings.{take_of, take_says, Taken}
 use Rattle.bulletin.specs.Merges.{merge_says}
 use Rattle.record_bytes.specs.Unpacked.{record_from}
 use Rattle.bulletin.specs.Counts.{count_of}
@@ -104,7 +102,7 @@ pub a_wrong_call_is_told_as_a_refusal : IsRefusal (answer_word (plain 255))
 a_wrong_call_is_told_as_a_refusal = Refusing.wrong_call_is_high
 
 -- .. and what succeeds has none: 0 where there is nothing to say ..
-pub zero_is_told_of_success : (v : Verdict) → (v ≡ Fine → answer_word (answers v) ≡ 0) × (answer_word (answers v) ≡ 0 → v ≡ Fine)
+pub zero_is_told_of_success : (v : Verdict) → (v ≡ Ok tt → answer_word (answers v) ≡ 0) × (answer_word (answers v) ≡ 0 → v ≡ Ok tt)
 zero_is_told_of_success v = (Refusing.low_word v, Refusing.fine_word v)
 
 -- .. and each call that answers with a verdict says the number of its function there, with place, page and mark ..
@@ -124,12 +122,12 @@ pub writing_a_sentence_says_its_number : (satellite : ℕ) (frame buffer : List 
 writing_a_sentence_says_its_number satellite frame buffer = refl
 
 -- (reading a sentence says the number where it refuses, the buffer untouched ..
-pub a_refused_sentence_says_its_number : (sentence buffer : List ℕ) (x : Refusal) → length buffer ≡ 251 → sentence_answer sentence ≡ Refused x
+pub a_refused_sentence_says_its_number : (sentence buffer : List ℕ) (x : Refusal) → length buffer ≡ 251 → sentence_answer sentence ≡ Err x
     → read_sentence_into sentence buffer ≡ call_result (answer_word (says x)) buffer
 a_refused_sentence_says_its_number sentence buffer x long e = SentenceDoors.refused_told sentence buffer long x e
 
 -- .. and where it does not, the satellite, 55 to 61, beside the record's bytes)
-pub a_sentence_that_is_read_says_its_satellite : (sentence buffer : List ℕ) → length buffer ≡ 251 → sentence_answer sentence ≡ Fine
+pub a_sentence_that_is_read_says_its_satellite : (sentence buffer : List ℕ) → length buffer ≡ 251 → sentence_answer sentence ≡ Ok tt
     → (read_sentence_into sentence buffer ≡ call_result (sentence_reading sentence).satellite (packed (sentence_reading sentence).reading.«record»))
     × ((55 ≤ (sentence_reading sentence).satellite) × ((sentence_reading sentence).satellite ≤ 61))
 a_sentence_that_is_read_says_its_satellite sentence buffer long e = (SentenceDoors.read_told sentence buffer long e, SentenceDoors.satellite_told sentence e)
@@ -152,37 +150,37 @@ a_record_of_another_length_for_a_sentence_is_255 sentence buffer n = sym (no_rec
 
 -- .. 1, 2 or 3 of a taking, or why it is refused ..
 pub a_taking_is_told : (buffer bytes : List ℕ)
-    → ((take_of (store_or_zeros buffer) (record_from bytes)).answer ≡ New → (take_into buffer bytes).answer ≡ 1)
-    × ((take_of (store_or_zeros buffer) (record_from bytes)).answer ≡ Same → (take_into buffer bytes).answer ≡ 2)
-    × ((take_of (store_or_zeros buffer) (record_from bytes)).answer ≡ Disputed → (take_into buffer bytes).answer ≡ 3)
-    × ((x : Refusal) → (take_of (store_or_zeros buffer) (record_from bytes)).answer ≡ NotTaken x → (take_into buffer bytes).answer ≡ answer_word (says x))
-a_taking_is_told buffer bytes = (Said.take_told buffer bytes New, Said.take_told buffer bytes Same, Said.take_told buffer bytes Disputed, λ x. Said.take_told buffer bytes (NotTaken x))
+    → ((take_of (store_or_zeros buffer) (record_from bytes)).answer ≡ Ok New → (take_into buffer bytes).answer ≡ 1)
+    × ((take_of (store_or_zeros buffer) (record_from bytes)).answer ≡ Ok Same → (take_into buffer bytes).answer ≡ 2)
+    × ((take_of (store_or_zeros buffer) (record_from bytes)).answer ≡ Ok Disputed → (take_into buffer bytes).answer ≡ 3)
+    × ((x : Refusal) → (take_of (store_or_zeros buffer) (record_from bytes)).answer ≡ Err x → (take_into buffer bytes).answer ≡ answer_word (says x))
+a_taking_is_told buffer bytes = (Said.take_told buffer bytes (Ok New), Said.take_told buffer bytes (Ok Same), Said.take_told buffer bytes (Ok Disputed), λ x. Said.take_told buffer bytes (Err x))
 
-pub a_taking_is_no_refusal : (t : Taken) → ((x : Refusal) → t ≡ NotTaken x → ⊥) → taken_word t ≤ 3
+pub a_taking_is_no_refusal : (t : Taken) → ((x : Refusal) → t ≡ Err x → ⊥) → taken_word t ≤ 3
 a_taking_is_no_refusal = Refusing.taken_is_low
 
 -- .. held, disputed and lowest of a report, each at most 63 ..
-pub a_report_is_no_refusal : (store : List ℕ) → (count_of (store_or_zeros store)).answer ≡ Fine
+pub a_report_is_no_refusal : (store : List ℕ) → (count_of (store_or_zeros store)).answer ≡ Ok tt
     → ((count_of (store_or_zeros store)).held ≤ 63) × ((count_of (store_or_zeros store)).disputed ≤ 63) × ((count_of (store_or_zeros store)).lowest ≤ 63) × (count_answer store < 2 ^ 24)
 a_report_is_no_refusal = Counting.report_is_low
 
 -- .. which stand where a refusal has place, page and mark ..
-pub a_report_has_held_disputed_and_lowest : (store : List ℕ) → (count_of (store_or_zeros store)).answer ≡ Fine
+pub a_report_has_held_disputed_and_lowest : (store : List ℕ) → (count_of (store_or_zeros store)).answer ≡ Ok tt
     → word_bytes (count_answer store) ≡ 0 ∷ (count_of (store_or_zeros store)).held ∷ (count_of (store_or_zeros store)).disputed ∷ (count_of (store_or_zeros store)).lowest ∷ []
 a_report_has_held_disputed_and_lowest = Counting.report_in_bytes
 
-pub a_refused_report_says_why : (store : List ℕ) (x : Refusal) → (count_of (store_or_zeros store)).answer ≡ Refused x → count_answer store ≡ answer_word (says x)
+pub a_refused_report_says_why : (store : List ℕ) (x : Refusal) → (count_of (store_or_zeros store)).answer ≡ Err x → count_answer store ≡ answer_word (says x)
 a_refused_report_says_why = Said.count_refused
 
 -- .. and the length of a text, which is "at most 1,134 bytes"
 pub a_length_is_no_refusal : (store : List ℕ) (size : ℕ) → (text_answer (store_or_zeros store) size).length ≤ 1134
 a_length_is_no_refusal store size = Counting.text_is_low store size
 
-pub a_text_is_told_by_its_length : (store buffer : List ℕ) → (text_answer (store_or_zeros store) (length buffer)).answer ≡ Fine
+pub a_text_is_told_by_its_length : (store buffer : List ℕ) → (text_answer (store_or_zeros store) (length buffer)).answer ≡ Ok tt
     → (text_into store buffer).answer ≡ (text_answer (store_or_zeros store) (length buffer)).length
 a_text_is_told_by_its_length = Said.text_told
 
-pub a_refused_text_says_why : (store buffer : List ℕ) (x : Refusal) → (text_answer (store_or_zeros store) (length buffer)).answer ≡ Refused x
+pub a_refused_text_says_why : (store buffer : List ℕ) (x : Refusal) → (text_answer (store_or_zeros store) (length buffer)).answer ≡ Err x
     → (text_into store buffer).answer ≡ answer_word (says x)
 a_refused_text_says_why = Said.text_refused
 
@@ -199,7 +197,7 @@ a_parity_is_no_refusal = Counting.parity_is_low
 -- ---- the value of an 8
 
 -- "reading, writing and opening pass it on": beside a call that refuses with 8 the question for the value answers it, ..
-pub a_refused_frame_tells_its_value : (frame buffer : List ℕ) (p x : ℕ) → length buffer ≡ 251 → read_answer frame ≡ Refused (Range p x)
+pub a_refused_frame_tells_its_value : (frame buffer : List ℕ) (p x : ℕ) → length buffer ≡ 251 → read_answer frame ≡ Err (Range p x)
     → ((read_into frame buffer).answer ≡ answer_word (at 8 p x)) × (read_value frame ≡ x)
 a_refused_frame_tells_its_value frame buffer p x long e =
     (Said.read_told frame buffer long ∙ ap (λ (v : Verdict). answer_word (answers v)) e, ap (λ (v : Verdict). (answers v).value) e)
@@ -208,18 +206,18 @@ pub a_refused_line_tells_its_value : (line buffer : List ℕ) (p x : ℕ) → le
     → ((read_line_into line buffer).answer ≡ answer_word (at 8 p x)) × (read_line_value line ≡ x)
 a_refused_line_tells_its_value line buffer p x long e = (Said.line_told line buffer long ∙ ap answer_word e, ap (λ (s : Said). s.value) e)
 
-pub a_refused_sentence_tells_its_value : (sentence buffer : List ℕ) (p x : ℕ) → length buffer ≡ 251 → sentence_answer sentence ≡ Refused (Range p x)
+pub a_refused_sentence_tells_its_value : (sentence buffer : List ℕ) (p x : ℕ) → length buffer ≡ 251 → sentence_answer sentence ≡ Err (Range p x)
     → ((read_sentence_into sentence buffer).answer ≡ answer_word (at 8 p x)) × (read_sentence_value sentence ≡ x)
 a_refused_sentence_tells_its_value sentence buffer p x long e =
     (ap (λ (l : CallResult). l.answer) (SentenceDoors.refused_told sentence buffer long (Range p x) e), ap (λ (v : Verdict). (answers v).value) e)
 
 -- (whatever the buffer, since 16 comes last)
-pub a_refused_sending_tells_its_value : (satellite : ℕ) (frame buffer : List ℕ) (p x : ℕ) → In satellites satellite → read_answer frame ≡ Refused (Range p x)
+pub a_refused_sending_tells_its_value : (satellite : ℕ) (frame buffer : List ℕ) (p x : ℕ) → In satellites satellite → read_answer frame ≡ Err (Range p x)
     → ((write_sentence_into satellite frame buffer).answer ≡ answer_word (at 8 p x)) × (write_sentence_value satellite frame ≡ x)
 a_refused_sending_tells_its_value satellite frame buffer p x listed e =
     (ap (λ (v : Verdict). answer_word (answers v)) (ValuesSaid.frame_refused satellite frame (length buffer) (Range p x) listed e), ap (λ (v : Verdict). (answers v).value) (ValuesSaid.frame_refused satellite frame 78 (Range p x) listed e))
 
-pub a_refused_record_tells_its_value : (bytes buffer : List ℕ) (p x : ℕ) → write_answer (record_from bytes) (length buffer) ≡ Refused (Range p x)
+pub a_refused_record_tells_its_value : (bytes buffer : List ℕ) (p x : ℕ) → write_answer (record_from bytes) (length buffer) ≡ Err (Range p x)
     → ((write_into bytes buffer).answer ≡ answer_word (at 8 p x)) × (write_value bytes (length buffer) ≡ x)
 a_refused_record_tells_its_value bytes buffer p x e =
     (Said.write_told bytes buffer ∙ ap (λ (v : Verdict). answer_word (answers v)) e, ap (λ (v : Verdict). (answers v).value) e)
@@ -310,7 +308,7 @@ place_100000_is_told_as_unlisted_in_prefecture_1 = (ap standing_word place_10000
 
 -- "The standard allows unlisted codes, so reading refuses no more than it did": a report with such a place is written, and read ..
 pub a_report_with_an_unlisted_place_is_read : (standing_answer (get_or unlisted_report.slots 0 no_slot).place ≡ 2)
-    × ((buffer : List ℕ) → length buffer ≡ 32 → read_of (write_of unlisted_report buffer) ≡ record { answer = Fine; «record» = unlisted_report })
+    × ((buffer : List ℕ) → length buffer ≡ 32 → read_of (write_of unlisted_report buffer) ≡ record { answer = Ok tt; «record» = unlisted_report })
 a_report_with_an_unlisted_place_is_read = (ap standing_word place_110001_is_unlisted, read_all_the_same)
 
 -- .. whatever place a volcano or an ash fall report that is read names is 1 or 2 ..

@@ -1,4 +1,6 @@
 -- The numbers that are answered in place of a refusal do not reach the high byte.
+use Rattle.std.specs.Prelude.{Ok, Err}
+use Rattle.rows.specs.Refusals.{Verdict}
 use mathlib.Core.Path.{◌≡◌, refl}
 use mathlib.Core.Bool.{Bool, true, false, cond}
 use Prim.Native.Nat.{ℕ, suc, ◌^◌, ◌≤◌, ◌<◌}
@@ -6,14 +8,11 @@ use native.Mathlib.Omega.{arith}
 use mathlib.Core.List.{List, [], ◌∷◌}
 use lib.ListN.{length}
 use lib.Dec.{eqb}
-use Rattle.rows.specs.declared.refusal.Verdict.{Verdict}
-use Rattle.rows.specs.declared.refusal.Verdict.TheVariants.{Fine, Refused}
 use Rattle.rows.specs.declared.refusal.Refusal.TheVariants.{Unsound}
 use Rattle.pages.specs.declared.page.Page.{Page}
 use Rattle.bulletin.specs.declared.store.Store.{Store}
-use Rattle.bulletin.specs.declared.count.Count.{Count}
 use Rattle.bulletin.specs.Stores.{sound_store, zero_store}
-use Rattle.bulletin.specs.Counts.{count_marked, count_of, lowest_not_held}
+use Rattle.bulletin.specs.Counts.{count_marked, count_of, lowest_not_held, Counted}
 use Rattle.bulletin.specs.Text.{text_answer}
 use Rattle.bulletin.proofs.Stores.Counted.{lowest-most}
 use Rattle.store_bytes.specs.Stores.{store_from, store_or_zeros}
@@ -34,7 +33,7 @@ unfolding count_marked
 marked_most k [] = omega arith
 marked_most k (p ∷ ps) = one_more (eqb p.mark k) (count_marked k ps) (length ps) (marked_most k ps)
 
-record Few (c : Count) : Type 0 where
+record Few (c : Counted) : Type 0 where
   held : c.held ≤ 63
   disputed : c.disputed ≤ 63
   lowest : c.lowest ≤ 63
@@ -43,11 +42,11 @@ few : (s : Store) → length s.pages ≡ 63 → Few (count_of s)
 unfolding count_of
 few s n = by (sound_store s)
   where
-    told : Count
-    told = record { answer = Fine; held = count_marked 1 s.pages; disputed = count_marked 2 s.pages; lowest = lowest_not_held s.name.total 0 s.pages }
+    told : Counted
+    told = record { answer = Ok tt; held = count_marked 1 s.pages; disputed = count_marked 2 s.pages; lowest = lowest_not_held s.name.total 0 s.pages }
 
-    none : Count
-    none = record { answer = Refused Unsound; held = 0; disputed = 0; lowest = 0 }
+    none : Counted
+    none = record { answer = Err Unsound; held = 0; disputed = 0; lowest = 0 }
 
     by : (b : Bool) → Few (cond b told none)
     by true = record {
@@ -65,22 +64,22 @@ pages_long store = by (eqb (length store) 1205)
     by true = refl
     by false = refl
 
-low : (v : Verdict) (c : Count) → v ≡ Fine → Few c → count_word_by v c < 2 ^ 24
+low : (v : Verdict) (c : Counted) → v ≡ Ok tt → Few c → count_word_by v c < 2 ^ 24
 low v c e f = rw e (omega (arith, f.held, f.disputed, f.lowest))
 
-pub report_is_low : (store : List ℕ) → (count_of (store_or_zeros store)).answer ≡ Fine
+pub report_is_low : (store : List ℕ) → (count_of (store_or_zeros store)).answer ≡ Ok tt
     → ((count_of (store_or_zeros store)).held ≤ 63) × ((count_of (store_or_zeros store)).disputed ≤ 63) × ((count_of (store_or_zeros store)).lowest ≤ 63) × (count_answer store < 2 ^ 24)
 report_is_low store e =
     let c = count_of (store_or_zeros store) in
     let f = few (store_or_zeros store) (pages_long store) in
     (f.held, f.disputed, f.lowest, low c.answer c e f)
 
-told : (v : Verdict) (c : Count) → v ≡ Fine → Few c → word_bytes (count_word_by v c) ≡ 0 ∷ c.held ∷ c.disputed ∷ c.lowest ∷ []
+told : (v : Verdict) (c : Counted) → v ≡ Ok tt → Few c → word_bytes (count_word_by v c) ≡ 0 ∷ c.held ∷ c.disputed ∷ c.lowest ∷ []
 told v c e f =
     rw e (four_bytes (record { number = 0; place = c.held; value = 0; page = c.disputed; mark = c.lowest })
     (record { place = omega (arith, f.held); page = omega (arith, f.disputed); mark = omega (arith, f.lowest) }))
 
-pub report_in_bytes : (store : List ℕ) → (count_of (store_or_zeros store)).answer ≡ Fine
+pub report_in_bytes : (store : List ℕ) → (count_of (store_or_zeros store)).answer ≡ Ok tt
     → word_bytes (count_answer store) ≡ 0 ∷ (count_of (store_or_zeros store)).held ∷ (count_of (store_or_zeros store)).disputed ∷ (count_of (store_or_zeros store)).lowest ∷ []
 report_in_bytes store e = told (count_of (store_or_zeros store)).answer (count_of (store_or_zeros store)) e (few (store_or_zeros store) (pages_long store))
 

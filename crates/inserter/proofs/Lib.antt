@@ -2,7 +2,6 @@ pub mod Claims
 pub mod PutBack
 pub mod Reading
 pub mod Received
-pub mod Writing
 pub mod StoreDoors
 pub mod Settled
 pub mod Refusing

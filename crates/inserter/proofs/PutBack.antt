@@ -1,4 +1,5 @@
 -- The one page that a taking can have changed, put back alone.
+use Rattle.std.specs.Prelude.{Err}
 use mathlib.Core.Path.{◌≡◌, refl, sym, subst, ap, ◌∙◌}
 use mathlib.Core.List.{List}
 use mathlib.Core.Logic.{◌⊎◌, inl, inr}
@@ -16,10 +17,8 @@ use Rattle.pages.specs.declared.page.Kept.TheVariants.{Own, Other, Neither}
 use Rattle.pages.specs.Pages.{held_page, join, kept_of, no_page}
 use Rattle.pages.proofs.KeptPages.{joined_by, kept_page}
 use Rattle.bulletin.specs.declared.store.Store.{Store}
-use Rattle.bulletin.specs.declared.take.Taken.TheVariants.{Refused}
-use Rattle.bulletin.specs.declared.take.Taking.{Taking}
 use Rattle.bulletin.specs.Stores.{page_behind}
-use Rattle.bulletin.specs.Takings.{put_page, take_of, with_page}
+use Rattle.bulletin.specs.Takings.{put_page, take_of, with_page, Taking}
 use Rattle.bulletin.proofs.Claims.{a_sound_store_takes_every_page}
 use Rattle.bulletin.proofs.Taking.TakingOutcomes.{Admits}
 use Rattle.bulletin.proofs.Taking.TakenOrRefused.{taken_or_refused}
@@ -60,7 +59,7 @@ module _ (buffer bytes : List ℕ) where
       joined : Page
       joined = join (page_behind s i) (held_page r.text)
 
-      by : ((k : ℕ) × Admits s r k) ⊎ ((x : Refusal) × (take_of s r ≡ record { answer = Refused x; store = s }))
+      by : ((k : ℕ) × Admits s r k) ⊎ ((x : Refusal) × (take_of s r ≡ record { answer = Err x; store = s }))
           → (p : Page) × ((take_of s r).store ≡ with_page s i p) × (i < 63 → length p.text ≡ 18)
       by (inl (k, a)) =
           let here : a.page.number - 1 ≡ i = sym (ap (λ (b : Body). pages_before (paged_of b)) a.is) in (
@@ -88,11 +87,11 @@ module _ (buffer bytes : List ℕ) where
       let same : with_page s i q.0 ≡ s = λ j. record { name = s.name; pages = set_out s.pages i q.0 (omega (arith, any_long buffer, h)) j }
       in sym (same_bytes buffer) ∙ ap (λ (z : Store). store_into z buffer) (sym (q.1 ∙ same))
 
-  -- what the door leaves in the buffer, by the place that it found
-  module _ (t : Taking) (n : ℕ) (is : t ≡ take_of s r) (at : n ≡ i) where
-    pub page-left : n < 63 → page_into (page_behind t.store n) n buffer ≡ store_into t.store buffer
+  -- what is left in the buffer, by the place that was found
+  module _ (t : Store) (n : ℕ) (is : t ≡ (take_of s r).store) (at : n ≡ i) where
+    pub page-left : n < 63 → page_into (page_behind t n) n buffer ≡ store_into t buffer
     page-left h =
-        (λ j. page_into (page_behind (is j).store (at j)) (at j) buffer) ∙ put_back (omega (arith, at, h)) ∙ ap (λ (u : Taking). store_into u.store buffer) (sym is)
+        (λ j. page_into (page_behind (is j) (at j)) (at j) buffer) ∙ put_back (omega (arith, at, h)) ∙ ap (λ (u : Store). store_into u buffer) (sym is)
 
-    pub none_left : 63 ≤ n → buffer ≡ store_into t.store buffer
-    none_left h = nothing_to_put (omega (arith, at, h)) ∙ ap (λ (u : Taking). store_into u.store buffer) (sym is)
+    pub none_left : 63 ≤ n → buffer ≡ store_into t buffer
+    none_left h = nothing_to_put (omega (arith, at, h)) ∙ ap (λ (u : Store). store_into u buffer) (sym is)

@@ -1,26 +1,26 @@
--- The two ways out of handing over what was read, in a buffer of 251 bytes.
-use mathlib.Core.Path.{◌≡◌, sym, ◌∙◌}
+-- Handing over what was read.
+use Rattle.report.specs.Runs.Reading.{Reading}
+use Rattle.std.specs.Prelude.{Ok, Err}
+use mathlib.Core.Path.{◌≡◌, refl}
 use Prim.Native.Nat.{ℕ}
 use mathlib.Core.List.{List}
 use lib.ListN.{length}
 use lib.Dec.{eqb}
 use borrow.Author.Tests.{eq-eqb}
-use Rattle.rows.specs.declared.refusal.Verdict.TheVariants.{Fine, Refused}
-use Rattle.rows.specs.declared.refusal.Refusal.{Refusal}
-use Rattle.report.specs.declared.read.Reading.{Reading}
-use Rattle.rows.specs.Refusals.{says}
-use Rattle.record_bytes.specs.Packed.{packed, packed_into}
-use Rattle.record_bytes.proofs.ToBytes.Whole.{into_right}
-use Rattle.inserter.specs.Answers.{answer_word, call_result, handed_over, reading_into}
-use Rattle.inserter.proofs.HandedOver.{fits, handed, withheld}
+use Rattle.rows.specs.Refusals.{outcome, Verdict}
+use Rattle.record_bytes.specs.Packed.{packed}
+use Rattle.inserter.specs.Answers.{handed_over, if_lengths_fit, reading_into, record_into}
+use Rattle.inserter.proofs.HandedOver.{fits}
 
-module _ (got : Reading) (buffer : List ℕ) (long : length buffer ≡ 251) where
-  pub reading_fits : reading_into got buffer ≡ handed_over got.answer (packed got.«record») buffer
-  unfolding reading_into
-  reading_fits = fits (eqb (length buffer) 251) (handed_over got.answer (packed got.«record») buffer) buffer (eq-eqb (length buffer) 251 long)
+-- as code hands it back
+pub handed_back : (got : Reading) (buffer : List ℕ) → record_into (outcome got.answer got.«record») buffer ≡ reading_into got buffer
+unfolding record_into reading_into
+handed_back got buffer = by got.answer
+  where
+    by : (v : Verdict) → record_into (outcome v got.«record») buffer ≡ if_lengths_fit (eqb (length buffer) 251) (handed_over v (packed got.«record») buffer) buffer
+    by (Ok tt) = refl
+    by (Err x) = refl
 
-  pub read_whole : (out : List ℕ) → got.answer ≡ Fine → out ≡ packed_into got.«record» buffer → call_result 0 out ≡ reading_into got buffer
-  read_whole out e p = handed got.answer _ buffer out e (p ∙ into_right got.«record» buffer long) ∙ sym reading_fits
-
-  pub refused : (x : Refusal) (answer : ℕ) → got.answer ≡ Refused x → answer ≡ answer_word (says x) → call_result answer buffer ≡ reading_into got buffer
-  refused x answer e p = withheld got.answer _ buffer x answer e p ∙ sym reading_fits
+pub reading_fits : (got : Reading) (buffer : List ℕ) → length buffer ≡ 251 → reading_into got buffer ≡ handed_over got.answer (packed got.«record») buffer
+unfolding reading_into
+reading_fits got buffer long = fits (eqb (length buffer) 251) (handed_over got.answer (packed got.«record») buffer) buffer (eq-eqb (length buffer) 251 long)

@@ -1,45 +1,30 @@
 -- A sentence that was read is answered with its satellite, and any other as its reading is.
+use Rattle.std.specs.Prelude.{Ok, Err}
 use mathlib.Core.Path.{◌≡◌, refl, sym, ap, ◌∙◌}
 use mathlib.Core.Bool.{Bool, cond}
 use mathlib.Core.List.{List}
 use Prim.Native.Nat.{ℕ}
 use native.Mathlib.Omega.{arith}
 use borrow.Author.Tests.{eq-eqb, ne_eqb}
+use lib.Dec.{eqb}
 use lib.ListN.{length}
-use Rattle.rows.specs.declared.refusal.Verdict.{Verdict}
-use Rattle.rows.specs.declared.refusal.Verdict.TheVariants.{Fine, Refused}
 use Rattle.rows.specs.declared.refusal.Refusal.{Refusal}
-use Rattle.rows.specs.Refusals.{plain, says}
-use Rattle.report.specs.declared.read.Reading.{Reading}
-use Rattle.report.specs.Runs.Reading.{unread}
+use Rattle.rows.specs.Refusals.{outcome, plain, says, Verdict}
+use Rattle.report.specs.Runs.Reading.{unread, Reading}
 use Rattle.line.specs.Lines.{line_reading}
 use Rattle.record_bytes.specs.Packed.{packed}
-use Rattle.sentence.specs.declared.form.Around.{Around}
-use Rattle.sentence.specs.declared.from_sentence.Received.{Received}
-use Rattle.sentence.specs.Sentences.{digits_in, satellite_in, around_answer, around_of, satellite_of, received, unheard, sentence_reading}
-use Rattle.sentence.proofs.Hearing.{found, found_satellite, read_on, read_not}
+use Rattle.sentence.specs.Sentences.{digits_in, around_of, satellite_of, Received}
+use Rattle.sentence.proofs.Hearing.{reads_on, reads_no_more}
 use Rattle.inserter.specs.Answers.{CallResult, answer_word, call_result, handed_over, reading_into, read_line_into, with_satellite, received_into, read_sentence_into}
-use Rattle.inserter.proofs.Reading.{reading_fits, refused}
+use Rattle.inserter.proofs.Reading.{reading_fits}
 use Rattle.inserter.proofs.Refusing.{refusal_is_high}
 
-module _ (r x : Received) (e : r ≡ x) (buffer after : List ℕ) (answer : ℕ) (handed : call_result answer after ≡ reading_into r.reading buffer) where
-  whole : with_satellite r.satellite (call_result answer after) ≡ received_into x buffer
-  unfolding received_into
-  whole = ap (with_satellite r.satellite) handed ∙ ap (λ (y : Received). with_satellite y.satellite (reading_into y.reading buffer)) e
+-- a word of 0 is told of what was read alone
+read_by : (v : Verdict) (bytes buffer : List ℕ) → (handed_over v bytes buffer).answer ≡ 0 → v ≡ Ok tt
+read_by (Ok tt) bytes buffer e = refl
+read_by (Err x) bytes buffer e = absurd (omega (arith, refusal_is_high x, e))
 
-  told_satellite : answer ≡ 0 → call_result r.satellite after ≡ received_into x buffer
-  told_satellite z = sym (ap (λ (b : Bool). call_result (cond b r.satellite answer) after) (eq-eqb answer 0 z)) ∙ whole
-
-  told_answer : (answer ≡ 0 → ⊥) → call_result answer after ≡ received_into x buffer
-  told_answer n = sym (ap (λ (b : Bool). call_result (cond b r.satellite answer) after) (ne_eqb answer 0 n)) ∙ whole
-
--- ---- a word of 0 is told of what was read alone
-
-read_by : (v : Verdict) (bytes buffer : List ℕ) → (handed_over v bytes buffer).answer ≡ 0 → v ≡ Fine
-read_by Fine bytes buffer e = refl
-read_by (Refused x) bytes buffer e = absurd (omega (arith, refusal_is_high x, e))
-
-read_fine : (r : Reading) (buffer after : List ℕ) (answer : ℕ) → length buffer ≡ 251 → call_result answer after ≡ reading_into r buffer → answer ≡ 0 → r.answer ≡ Fine
+read_fine : (r : Reading) (buffer after : List ℕ) (answer : ℕ) → length buffer ≡ 251 → call_result answer after ≡ reading_into r buffer → answer ≡ 0 → r.answer ≡ Ok tt
 read_fine r buffer after answer long handed z = read_by r.answer (packed r.«record») buffer (sym (ap (λ (c : CallResult). c.answer) (handed ∙ reading_fits r buffer long)) ∙ z)
 
 -- ---- the ways out of reading a sentence
@@ -48,27 +33,27 @@ pub no_record : (s buffer : List ℕ) → (length buffer ≡ 251 → ⊥) → ca
 unfolding received_into reading_into
 no_record s buffer n = simp (ne_eqb (length buffer) 251 n)
 
-module _ (s buffer : List ℕ) (long : length buffer ≡ 251) (a : Around) (e : a ≡ around_of s) where
+module _ (s buffer : List ℕ) where
   -- 18, 19, 20
-  pub not_read : (x : Refusal) (answer : ℕ) → a.answer ≡ Refused x → answer ≡ answer_word (says x) → call_result answer buffer ≡ read_sentence_into s buffer
-  not_read x answer f w =
-      told_answer (unheard (Refused x)) (sentence_reading s) (read_not s (Refused x) x refl (found s a (Refused x) e f)) buffer buffer answer
-      (refused (unread (Refused x)) buffer long x answer refl w) (λ z. omega (arith, refusal_is_high x, w, z))
+  pub not_read : (x : Refusal) → length buffer ≡ 251 → outcome (around_of s).answer (around_of s).satellite ≡ Err x → call_result (answer_word (says x)) buffer ≡ read_sentence_into s buffer
+  unfolding received_into
+  not_read x long e =
+      sym (ap (λ (b : Bool). call_result (cond b 0 (answer_word (says x))) buffer) (ne_eqb (answer_word (says x)) 0 (λ z. omega (arith, refusal_is_high x, z))))
+      ∙ sym (ap (with_satellite 0) (reading_fits (unread (Err x)) buffer long))
+      ∙ sym (ap (λ (r : Received). with_satellite r.satellite (reading_into r.reading buffer)) (reads_no_more s x e))
 
   -- as the line of its digits
-  module _ (f : a.answer ≡ Fine) (after : List ℕ) (answer : ℕ) (handed : call_result answer after ≡ read_line_into (digits_in s) buffer) where
-    around : around_answer s ≡ Fine
-    around = found s a Fine e f
+  module _ (n : ℕ) (e : outcome (around_of s).answer (around_of s).satellite ≡ Ok n) (after : List ℕ) (answer : ℕ) (handed : call_result answer after ≡ read_line_into (digits_in s) buffer) where
+    whole : call_result (cond (eqb answer 0) (satellite_of (line_reading (digits_in s)).answer n) answer) after ≡ read_sentence_into s buffer
+    unfolding received_into
+    whole =
+        ap (with_satellite (satellite_of (line_reading (digits_in s)).answer n)) handed
+        ∙ sym (ap (λ (r : Received). with_satellite r.satellite (reading_into r.reading buffer)) (reads_on s n e))
 
-    same : received (satellite_in s) (line_reading (digits_in s)) ≡ sentence_reading s
-    same = read_on s around (satellite_of (line_reading (digits_in s)).answer (satellite_in s)) (satellite_in s) (line_reading (digits_in s)) refl refl refl
-
-    pub told_number : answer ≡ 0 → call_result a.satellite after ≡ read_sentence_into s buffer
-    told_number z =
-        let number : a.satellite ≡ satellite_of (line_reading (digits_in s)).answer (satellite_in s) =
-        found_satellite s a e around ∙ sym (ap (λ (v : Verdict). satellite_of v (satellite_in s)) (read_fine (line_reading (digits_in s)) buffer after answer long handed z)) in
-        ap (λ (n : ℕ). call_result n after) number
-        ∙ told_satellite (received (satellite_in s) (line_reading (digits_in s))) (sentence_reading s) same buffer after answer handed z
+    pub told_number : length buffer ≡ 251 → answer ≡ 0 → call_result n after ≡ read_sentence_into s buffer
+    told_number long z =
+        let fine = read_fine (line_reading (digits_in s)) buffer after answer long handed z in
+        sym (λ i. call_result (cond (eq-eqb answer 0 z i) (satellite_of (fine i) n) answer) after) ∙ whole
 
     pub told_why_not : (answer ≡ 0 → ⊥) → call_result answer after ≡ read_sentence_into s buffer
-    told_why_not n = told_answer (received (satellite_in s) (line_reading (digits_in s))) (sentence_reading s) same buffer after answer handed n
+    told_why_not m = sym (ap (λ (b : Bool). call_result (cond b (satellite_of (line_reading (digits_in s)).answer n) answer) after) (ne_eqb answer 0 m)) ∙ whole

@@ -1,4 +1,7 @@
 -- What a word says of a call: a refusal's word has a high byte, and no other has.
+use Rattle.bulletin.specs.declared.take.Took.TheVariants.{New, Same, Disputed}
+use Rattle.bulletin.specs.Takings.{Taken}
+use Rattle.std.specs.Prelude.{Ok, Err}
 use mathlib.Core.Path.{◌≡◌, refl, sym, ap, ◌∙◌}
 use Prim.Native.Nat.{ℕ, ◌+◌, ◌*◌, ◌/◌, ◌%◌, ◌^◌, ◌≤◌, ◌<◌}
 use mathlib.Core.List.{List, [], ◌∷◌}
@@ -6,12 +9,8 @@ use lib.ListN.{get_or}
 use native.Mathlib.Omega.{arith}
 use Rattle.rows.specs.declared.refusal.Refusal.{Refusal}
 use Rattle.rows.specs.declared.refusal.Said.{Said}
-use Rattle.rows.specs.declared.refusal.Verdict.{Verdict}
-use Rattle.rows.specs.declared.refusal.Verdict.TheVariants.{Fine, Refused}
-use Rattle.rows.specs.Refusals.{plain, says, answers}
+use Rattle.rows.specs.Refusals.{plain, says, answers, Verdict}
 use Rattle.rows.proofs.Rules.Numbers.{says_apart, says-numbered}
-use Rattle.bulletin.specs.declared.take.Taken.{Taken}
-use Rattle.bulletin.specs.declared.take.Taken.TheVariants.{New, Same, Disputed, Refused as NotTaken}
 use Rattle.inserter.specs.Answers.{answer_word, taken_word, word_bytes, InBytes, IsRefusal}
 
 high : (s : Said) → 1 ≤ s.number → IsRefusal (answer_word s)
@@ -54,15 +53,15 @@ wrong_call_is_high = omega arith
 
 -- ---- of a verdict, and of a taking
 
-pub fine_word : (v : Verdict) → answer_word (answers v) ≡ 0 → v ≡ Fine
-fine_word Fine e = refl
-fine_word (Refused x) e = let h : 2 ^ 24 ≤ answer_word (says x) = refusal_is_high x in absurd (omega (arith, h, e))
+pub fine_word : (v : Verdict) → answer_word (answers v) ≡ 0 → v ≡ Ok tt
+fine_word (Ok tt) e = refl
+fine_word (Err x) e = let h : 2 ^ 24 ≤ answer_word (says x) = refusal_is_high x in absurd (omega (arith, h, e))
 
-pub low_word : (v : Verdict) → v ≡ Fine → answer_word (answers v) ≡ 0
+pub low_word : (v : Verdict) → v ≡ Ok tt → answer_word (answers v) ≡ 0
 low_word v e = rw e refl
 
-pub taken_is_low : (t : Taken) → ((x : Refusal) → t ≡ NotTaken x → ⊥) → taken_word t ≤ 3
-taken_is_low New h = omega arith
-taken_is_low Same h = omega arith
-taken_is_low Disputed h = omega arith
-taken_is_low (NotTaken x) h = absurd (h x refl)
+pub taken_is_low : (t : Taken) → ((x : Refusal) → t ≡ Err x → ⊥) → taken_word t ≤ 3
+taken_is_low (Ok New) h = omega arith
+taken_is_low (Ok Same) h = omega arith
+taken_is_low (Ok Disputed) h = omega arith
+taken_is_low (Err x) h = absurd (h x refl)

@@ -1,5 +1,6 @@
 -- Each door answers what its function says.
-use mathlib.Core.Path.{◌≡◌, refl, ap, ◌∙◌}
+use Rattle.std.specs.Prelude.{Ok, Err}
+use mathlib.Core.Path.{◌≡◌, refl, sym, ap, ◌∙◌}
 use mathlib.Core.Bool.{Bool, ◌&&◌}
 use Prim.Native.Nat.{ℕ}
 use mathlib.Core.List.{List}
@@ -8,21 +9,19 @@ use lib.Dec.{eqb}
 use borrow.Author.Tests.{eq-eqb, ne_eqb}
 use Rattle.rows.specs.declared.refusal.Refusal.{Refusal}
 use Rattle.rows.specs.declared.refusal.Said.{Said}
-use Rattle.rows.specs.declared.refusal.Verdict.{Verdict}
-use Rattle.rows.specs.declared.refusal.Verdict.TheVariants.{Fine, Refused}
-use Rattle.rows.specs.Refusals.{plain, says, answers}
+use Rattle.rows.specs.Refusals.{plain, says, answers, Verdict}
 use Rattle.parity.specs.Parity.{parity_of}
-use Rattle.report.specs.declared.read.Reading.{Reading}
-use Rattle.report.specs.Runs.Reading.{read_of, read_says}
+use Rattle.report.specs.Runs.Reading.{read_answer, read_of, read_says, Reading}
 use Rattle.report.specs.Runs.Writing.{write_says}
-use Rattle.report.proofs.Reading.ReadSteps.{read_said}
+use Rattle.report.specs.Records.{record_of}
+use Rattle.report.proofs.Reading.ReadSteps.{answer_found}
+use Rattle.rows.proofs.Rules.Outcomes.{said_outcome}
 use Rattle.line.specs.Lines.{line_reading, line_says}
 use Rattle.line.proofs.LineEnds.{line_said}
 use Rattle.pages.specs.Names.{name_says}
-use Rattle.bulletin.specs.declared.take.Taken.{Taken}
 use Rattle.bulletin.specs.Stores.{open_of}
-use Rattle.bulletin.specs.Takings.{take_of}
-use Rattle.bulletin.specs.Merges.{merge_of, merge_says}
+use Rattle.bulletin.specs.Takings.{take_of, Taken}
+use Rattle.bulletin.specs.Merges.{merge_says}
 use Rattle.bulletin.specs.Counts.{count_of}
 use Rattle.bulletin.specs.Text.{text_answer}
 use Rattle.bulletin.proofs.Stores.OpeningOutcomes.{opened-said}
@@ -50,10 +49,12 @@ reading-said got buffer s long e =
     ap (λ (l : CallResult). l.answer) (reading_fits got buffer long) ∙ word_of got.answer (packed got.«record») buffer ∙ ap answer_word e
 
 pub read_told : (frame buffer : List ℕ) → length buffer ≡ 251 → (read_into frame buffer).answer ≡ answer_word (read_says frame)
-read_told frame buffer long = reading-said (read_of frame) buffer (read_says frame) long (read_said frame (read_of frame) refl).1
+read_told frame buffer long = reading-said (read_of frame) buffer (read_says frame) long (ap answers (answer_found (read_answer frame) (record_of frame)))
 
 pub line_told : (line buffer : List ℕ) → length buffer ≡ 251 → (read_line_into line buffer).answer ≡ answer_word (line_says line)
-line_told line buffer long = reading-said (line_reading line) buffer (line_says line) long (line_said line (line_reading line) refl).1
+line_told line buffer long =
+    let got = line_reading line in
+    reading-said got buffer (line_says line) long (sym (line_said line ∙ said_outcome got.answer got.«record»))
 
 pub no_room : (got : Reading) (buffer : List ℕ) → (length buffer ≡ 251 → ⊥) → (reading_into got buffer).answer ≡ answer_word (plain 255)
 unfolding reading_into
@@ -70,7 +71,7 @@ open_told name buffer e f =
     let o = open_of (name_from name) in
     ap (λ (l : CallResult). l.answer) (opening_whole name buffer e f)
     ∙ word_of o.answer (store_bytes o.store) buffer
-    ∙ ap answer_word (opened-said (name_from name) o refl).1
+    ∙ ap answer_word (opened-said (name_from name))
 
 pub no_name : (name buffer : List ℕ) → (length name ≡ 8 → ⊥) → (open_into name buffer).answer ≡ answer_word (plain 255)
 unfolding open_into
@@ -83,18 +84,16 @@ take_told buffer bytes t e = ap taken_word e
 
 pub merge_told : (buffer other : List ℕ) → (merge_into buffer other).answer ≡ answer_word (merge_says (store_or_zeros buffer) (store_or_zeros other))
 merge_told buffer other =
-    let s = store_or_zeros buffer in
-    let o = store_or_zeros other in
-    ap answer_word (merged-said s o (merge_of s o) refl).1
+    ap answer_word (merged-said (store_or_zeros buffer) (store_or_zeros other))
 
-pub count_refused : (store : List ℕ) (x : Refusal) → (count_of (store_or_zeros store)).answer ≡ Refused x → count_answer store ≡ answer_word (says x)
+pub count_refused : (store : List ℕ) (x : Refusal) → (count_of (store_or_zeros store)).answer ≡ Err x → count_answer store ≡ answer_word (says x)
 count_refused store x e = ap (λ (v : Verdict). count_word_by v (count_of (store_or_zeros store))) e
 
-pub text_told : (store buffer : List ℕ) → (text_answer (store_or_zeros store) (length buffer)).answer ≡ Fine
+pub text_told : (store buffer : List ℕ) → (text_answer (store_or_zeros store) (length buffer)).answer ≡ Ok tt
     → (text_into store buffer).answer ≡ (text_answer (store_or_zeros store) (length buffer)).length
 unfolding text_result
 text_told store buffer e = ap (λ (v : Verdict). length_or_refusal v (text_answer (store_or_zeros store) (length buffer)).length) e
 
-pub text_refused : (store buffer : List ℕ) (x : Refusal) → (text_answer (store_or_zeros store) (length buffer)).answer ≡ Refused x → (text_into store buffer).answer ≡ answer_word (says x)
+pub text_refused : (store buffer : List ℕ) (x : Refusal) → (text_answer (store_or_zeros store) (length buffer)).answer ≡ Err x → (text_into store buffer).answer ≡ answer_word (says x)
 unfolding text_result
 text_refused store buffer x e = ap (λ (v : Verdict). length_or_refusal v (text_answer (store_or_zeros store) (length buffer)).length) e

@@ -1,10 +1,9 @@
 -- A report whose place the list does not have: it is written, and read again.
+use Rattle.std.specs.Prelude.{Ok}
 use mathlib.Core.Path.{◌≡◌, refl}
 use Prim.Native.Nat.{ℕ}
 use mathlib.Core.List.{List, ◌∷◌}
 use lib.ListN.{length, replicate}
-use Rattle.rows.specs.declared.refusal.Verdict.TheVariants.{Fine}
-use Rattle.rows.specs.Runs.Questions.{◌then◌, unless}
 use Rattle.rows.specs.Runs.Verdict.{allowed, empty, judge, later, slots_verdict, verdict, walk}
 use Rattle.rows.specs.Values.{no_spares}
 use Rattle.slots.specs.Slots.{no_slot, tidy_slots, vacant}
@@ -28,8 +27,8 @@ unlisted_report = record {
 }
 
 valid : Valid unlisted_report
-unfolding write_answer ◌then◌ unless allowed judge walk empty later slots_verdict verdict values tidy_slots vacant
+unfolding write_answer allowed judge walk empty later slots_verdict verdict values tidy_slots vacant
 valid = refl
 
-pub read_all_the_same : (buffer : List ℕ) → length buffer ≡ 32 → read_of (write_of unlisted_report buffer) ≡ record { answer = Fine; «record» = unlisted_report }
+pub read_all_the_same : (buffer : List ℕ) → length buffer ≡ 32 → read_of (write_of unlisted_report buffer) ≡ record { answer = Ok tt; «record» = unlisted_report }
 read_all_the_same buffer l = read_again_is_the_record unlisted_report buffer (record { slots = refl; text = refl }) valid l

@@ -1,30 +1,23 @@
 -- What the functions for C and Rust answer, and what they leave in a lent buffer.
-use Rattle.std.specs.Prelude.{ℕ, ◌+◌, ◌-◌, ◌*◌, ◌/◌, ◌%◌, ◌^◌, ◌≤◌, ◌<◌, Bool, ◌&&◌, cond, List, [], ◌∷◌, length, eqb}
+use Rattle.bulletin.specs.declared.take.Took.TheVariants.{New, Same, Disputed}
+use Rattle.nankai.specs.declared.PageNumbers.{PageNumbers}
+use Rattle.std.specs.Prelude.{ℕ, ◌+◌, ◌-◌, ◌*◌, ◌/◌, ◌%◌, ◌^◌, ◌≤◌, ◌<◌, Bool, ◌&&◌, cond, List, [], ◌∷◌, length, eqb, Result, Ok, Err, Option, None, Some}
 use Rattle.parity.specs.Parity.{parity_of}
+use Rattle.rows.specs.declared.refusal.Refusal.{Refusal}
 use Rattle.rows.specs.declared.refusal.Said.{Said}
-use Rattle.rows.specs.declared.refusal.Verdict.{Verdict}
-use Rattle.rows.specs.declared.refusal.Verdict.TheVariants.{Fine, Refused}
 use Rattle.report.specs.declared.record.Record.{Record}
-use Rattle.report.specs.declared.body.Paged.{Paged}
-use Rattle.report.specs.declared.body.Paged.TheVariants.{NoPages, Numbers}
-use Rattle.report.specs.declared.read.Reading.{Reading}
-use Rattle.rows.specs.Refusals.{plain, says, answers}
-use Rattle.report.specs.Runs.Reading.{read_of, read_says}
+use Rattle.rows.specs.Refusals.{plain, says, answers, Verdict}
+use Rattle.report.specs.Runs.Reading.{read_of, read_says, Reading}
 use Rattle.report.specs.Runs.Writing.{write_answer, write_of, write_says}
 use Rattle.line.specs.Lines.{line_reading, line_answer, line_into, line_says}
-use Rattle.sentence.specs.declared.from_sentence.Received.{Received}
-use Rattle.sentence.specs.Sentences.{sentence_reading, sentence_says, send_answer, send_says, sent_into}
+use Rattle.sentence.specs.Sentences.{sentence_reading, sentence_says, send_answer, send_says, sent_into, Received}
 use Rattle.pages.specs.Names.{name_says}
-use Rattle.bulletin.specs.declared.store.Store.{Store}
-use Rattle.bulletin.specs.declared.take.Taken.{Taken}
-use Rattle.bulletin.specs.declared.take.Taken.TheVariants.{New, Same, Disputed, Refused as NotTaken}
-use Rattle.bulletin.specs.declared.take.Taking.{Taking}
-use Rattle.bulletin.specs.declared.merge.Merging.{Merging}
 use Rattle.bulletin.specs.declared.count.Count.{Count}
+use Rattle.bulletin.specs.declared.store.Store.{Store}
 use Rattle.bulletin.specs.Stores.{open_of}
-use Rattle.bulletin.specs.Takings.{take_of, take_says}
-use Rattle.bulletin.specs.Merges.{merge_of}
-use Rattle.bulletin.specs.Counts.{count_of}
+use Rattle.bulletin.specs.Takings.{take_of, take_says, Taken, Taking}
+use Rattle.bulletin.specs.Merges.{merge_of, Merging}
+use Rattle.bulletin.specs.Counts.{count_of, Counted}
 use Rattle.bulletin.specs.Text.{text_answer, text_buffer}
 use Rattle.record_bytes.specs.Packed.{packed}
 use Rattle.record_bytes.specs.Unpacked.{record_from}
@@ -67,13 +60,18 @@ if_lengths_fit right l buffer = cond right l (call_result (answer_word (plain 25
 
 -- what is handed over goes into the buffer; a refusal leaves the buffer as it was
 abbrev pub handed_over : Verdict → List ℕ → List ℕ → CallResult
-handed_over Fine bytes buffer = call_result (answer_word (answers Fine)) bytes
-handed_over (Refused x) bytes buffer = call_result (answer_word (answers (Refused x))) buffer
+handed_over (Ok tt) bytes buffer = call_result (answer_word (plain 0)) bytes
+handed_over (Err x) bytes buffer = call_result (answer_word (says x)) buffer
 
 -- ---- reading
 
 unfoldable pub reading_into : Reading → List ℕ → CallResult
 reading_into r buffer = if_lengths_fit (eqb (length buffer) 251) (handed_over r.answer (packed r.«record») buffer) buffer
+
+-- the same of a reading as code hands it back, with a record or without
+unfoldable pub record_into : Result Record Refusal → List ℕ → CallResult
+record_into (Ok r) buffer = if_lengths_fit (eqb (length buffer) 251) (call_result 0 (packed r)) buffer
+record_into (Err x) buffer = if_lengths_fit (eqb (length buffer) 251) (call_result (answer_word (says x)) buffer) buffer
 
 abbrev pub read_into : List ℕ → List ℕ → CallResult
 read_into frame buffer = reading_into (read_of frame) buffer
@@ -115,18 +113,18 @@ open_into name buffer =
 
 -- "new where it was absent, same where it was held with those 18 bytes, and disputed otherwise"
 abbrev pub taken_word : Taken → ℕ
-taken_word New = 1
-taken_word Same = 2
-taken_word Disputed = 3
-taken_word (NotTaken x) = answer_word (says x)
+taken_word (Ok New) = 1
+taken_word (Ok Same) = 2
+taken_word (Ok Disputed) = 3
+taken_word (Err x) = answer_word (says x)
 
 abbrev pub take_result : Taking → List ℕ → CallResult
 take_result t buffer = call_result (taken_word t.answer) (store_into t.store buffer)
 
 -- how many pages stand before the one that a body brings, all 63 where it brings none: no other page than that is changed
-unfoldable pub pages_before : Paged → ℕ
-pages_before NoPages = 63
-pages_before (Numbers p) = p.number - 1
+unfoldable pub pages_before : Option PageNumbers → ℕ
+pages_before None = 63
+pages_before (Some p) = p.number - 1
 
 abbrev pub take_into : List ℕ → List ℕ → CallResult
 take_into buffer bytes = take_result (take_of (store_or_zeros buffer) (record_from bytes)) buffer
@@ -138,11 +136,14 @@ abbrev pub merge_into : List ℕ → List ℕ → CallResult
 merge_into buffer other = merge_result (merge_of (store_or_zeros buffer) (store_or_zeros other)) buffer
 
 -- held, disputed and lowest stand where a refusal has place, page and mark
-abbrev pub count_word_by : Verdict → Count → ℕ
-count_word_by Fine c = answer_word (record { number = 0; place = c.held; value = 0; page = c.disputed; mark = c.lowest })
-count_word_by (Refused x) c = answer_word (says x)
+abbrev pub report_word : Count → ℕ
+report_word c = answer_word (record { number = 0; place = c.held; value = 0; page = c.disputed; mark = c.lowest })
 
-abbrev pub count_word : Count → ℕ
+abbrev pub count_word_by : Verdict → Counted → ℕ
+count_word_by (Ok tt) c = answer_word (record { number = 0; place = c.held; value = 0; page = c.disputed; mark = c.lowest })
+count_word_by (Err x) c = answer_word (says x)
+
+abbrev pub count_word : Counted → ℕ
 count_word c = count_word_by c.answer c
 
 abbrev pub count_answer : List ℕ → ℕ
@@ -150,8 +151,8 @@ count_answer store = count_word (count_of (store_or_zeros store))
 
 -- the length of the text, or the refusal
 abbrev pub length_or_refusal : Verdict → ℕ → ℕ
-length_or_refusal Fine n = n
-length_or_refusal (Refused x) n = answer_word (says x)
+length_or_refusal (Ok tt) n = n
+length_or_refusal (Err x) n = answer_word (says x)
 
 unfoldable pub text_result : Store → List ℕ → CallResult
 text_result s buffer =

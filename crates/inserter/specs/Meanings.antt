@@ -1,12 +1,10 @@
 -- What the functions for C and Rust answer of a number: whether it is known, and what it says. 0 is said of a number that
 -- says nothing.
-use Rattle.std.specs.Prelude.{ℕ, ◌+◌, ◌*◌, ◌^◌, List}
+use Rattle.std.specs.Prelude.{ℕ, ◌+◌, ◌*◌, ◌^◌, List, Option, Some, None}
 use Rattle.hypocenter.specs.declared.meaning.Depth.{Depth}
 use Rattle.hypocenter.specs.declared.meaning.Depth.TheVariants.{Kilometres, Deeper, Unknown, OutOfRange}
 use Rattle.hypocenter.specs.declared.meaning.Magnitude.{Magnitude}
 use Rattle.hypocenter.specs.declared.meaning.Magnitude.TheVariants.{InRange, UnknownAboveEight, Unknown as NoMagnitude, OutOfRange as NotAMagnitude}
-use Rattle.ash_fall.specs.declared.meaning.Prefecture.{Prefecture}
-use Rattle.ash_fall.specs.declared.meaning.Prefecture.TheVariants.{Number, Nowhere}
 use Rattle.hypocenter.specs.Hypocenter.{depth_of, magnitude_of}
 use Rattle.ash_fall.specs.Meaning.{prefecture_of}
 use Rattle.place_list.specs.declared.Standing.{Standing}
@@ -54,9 +52,9 @@ abbrev pub magnitude_answer : ℕ → ℕ
 magnitude_answer code = magnitude_word (magnitude_of code)
 
 -- no prefecture has the number 0
-abbrev pub prefecture_word : Prefecture → ℕ
-prefecture_word (Number n) = n
-prefecture_word Nowhere = 0
+abbrev pub prefecture_word : Option ℕ → ℕ
+prefecture_word (Some n) = n
+prefecture_word None = 0
 
 abbrev pub prefecture_answer : ℕ → ℕ
 prefecture_answer place = prefecture_word (prefecture_of place)

@@ -4,7 +4,7 @@
 ghost use Rattle.std.specs.Prelude.{◌≡◌};
 ghost use Rattle.inserter.specs.Meanings.{depth_answer, magnitude_answer, prefecture_answer, standing_answer, arrival_answer, height_answer, activity_answer, validity_answer, slots_answer};
 
-use ash_fall::meaning::Prefecture;
+use ash_fall::meaning::prefecture_of;
 use hypocenter::meaning::{Depth, Magnitude};
 use place_list::Standing;
 use tsunami::meaning::{Arrival, Height};
@@ -16,7 +16,7 @@ pub fn lz_depth(code: u16) -> u32
     ensures { result ≡ depth_answer code }
 {
     match Depth::of(code) {
-        Depth::Kilometres(kilometres) => 0x1_0000 + kilometres as u32,
+        Depth::Kilometres(kilometres) => 0x1_0000 + u32::from(kilometres),
         Depth::Deeper => 0x2_0000,
         Depth::Unknown => 0x3_0000,
         Depth::OutOfRange => 0,
@@ -29,7 +29,7 @@ pub fn lz_magnitude(code: u8) -> u32
     ensures { result ≡ magnitude_answer code }
 {
     match Magnitude::of(code) {
-        Magnitude::InRange(tenths) => 0x1_0000 + tenths as u32,
+        Magnitude::InRange(tenths) => 0x1_0000 + u32::from(tenths),
         Magnitude::UnknownAboveEight => 0x2_0000,
         Magnitude::Unknown => 0x3_0000,
         Magnitude::OutOfRange => 0,
@@ -40,10 +40,7 @@ pub fn lz_magnitude(code: u8) -> u32
 pub fn lz_prefecture(place: u64) -> u32
     ensures { result ≡ prefecture_answer place }
 {
-    match Prefecture::of(place) {
-        Prefecture::Number(prefecture) => prefecture as u32,
-        Prefecture::Nowhere => 0,
-    }
+    prefecture_of(place).map_or(0, u32::from)
 }
 
 // 1 where the list of places has this one, 2 where it does not but its first digits are those of a prefecture; 0 where it lies
@@ -64,7 +61,7 @@ pub fn lz_arrival(hour: u8, minute: u8) -> u32
     ensures { result ≡ arrival_answer hour minute }
 {
     match Arrival::of(hour, minute) {
-        Arrival::At { hour, minute } => 0x1_0000 + (hour as u32) * 0x100 + minute as u32,
+        Arrival::At { hour, minute } => 0x1_0000 + u32::from(hour) * 0x100 + u32::from(minute),
         Arrival::Arrived => 0x4_0000,
         Arrival::OutOfRange => 0,
     }
@@ -75,7 +72,7 @@ pub fn lz_height(code: u8) -> u32
     ensures { result ≡ height_answer code }
 {
     match Height::of(code) {
-        Height::Code(code) => 0x1_0000 + code as u32,
+        Height::Code(code) => 0x1_0000 + u32::from(code),
         Height::Unknown => 0x3_0000,
         Height::OutOfRange => 0,
     }
@@ -88,7 +85,7 @@ pub fn lz_activity(day: u8, hour: u8, minute: u8) -> u32
 {
     match ActivityTime::of(day, hour, minute) {
         ActivityTime::At { day, hour, minute } => {
-            0x1_0000 + (day as u32) * 0x800 + (hour as u32) * 0x40 + minute as u32
+            0x1_0000 + u32::from(day) * 0x800 + u32::from(hour) * 0x40 + u32::from(minute)
         }
         ActivityTime::Unknown => 0x3_0000,
         ActivityTime::OutOfRange => 0,
@@ -110,6 +107,7 @@ pub fn lz_validity(ambiguity: u8) -> u32
 }
 
 // How many slots of a record's 251 bytes are used, 0 to 16: those in front of the first empty one.
+#[tactic(auto, using(report::proofs::Reading::Used::few))]
 pub fn lz_slots_used(record_bytes: &[u8]) -> u32
     ensures { result ≡ slots_answer record_bytes.now }
 {

@@ -4,48 +4,39 @@ ghost use Rattle.std.specs.Prelude.{◌≡◌};
 ghost use Rattle.inserter.specs.Answers.{call_result, open_into, pages_before, take_into, merge_into, count_answer, text_into};
 ghost use Rattle.report.specs.Categories.{paged_of};
 
-use crate::words::{WRONG_CALL, count_word, refusal_word, taken_word, verdict_word};
-use bulletin::in_place::taken_in;
+use crate::words::{WRONG_CALL, refusal_word, report_word, taken_word, word_of};
 use bulletin::store::Store;
-use report::body::{Body, Paged};
-use rows::refusal::Verdict;
+use report::body::Body;
 use store_bytes::sizes::{NAME_SIZE, STORE_SIZE};
 
 // Opens a store for the bulletin that 8 bytes name: Rc, month, day, hour, minute, It, Is, page total.
 // 8 with its place where a value is out of range, and then the store's bytes stay as they were.
+#[tactic(auto, using(crate::proofs::StoreDoors::opened), unfolding(crate::specs::Answers::open_into, store_bytes::specs::Stores::name_or_zeros, store_bytes::specs::Stores::store_into))]
 pub fn lz_open(name: &[u8], store: &mut [u8]) -> u32
     ensures { call_result result store.new ≡ open_into name.now store.old }
 {
-    if name.len() != NAME_SIZE {
+    if name.len() != NAME_SIZE || store.len() != STORE_SIZE {
         return WRONG_CALL;
     }
-    if store.len() != STORE_SIZE {
-        return WRONG_CALL;
-    }
-    let opening = Store::open(store_bytes::unpack_name(name));
-    let answer = opening.answer;
-    match answer {
-        Verdict::Fine => {
-            let opened = opening.store;
-            store_bytes::pack_store(opened, store);
+    match Store::open(store_bytes::unpack_name(name)) {
+        Ok(opened) => {
+            store_bytes::pack_store(&opened, store);
             0
         }
-        Verdict::Refused(refusal) => refusal_word(refusal),
+        Err(refusal) => refusal_word(refusal),
     }
 }
 
 // How many pages stand before the one that a body brings: all 63 where it brings none. A number 0 is
 // refused, and then it does not matter which page it stands for.
+#[tactic(auto, unfolding(crate::specs::Answers::pages_before))]
 fn pages_before(body: Body) -> usize
     ensures { result ≡ pages_before (paged_of body) }
 {
-    let Paged::Numbers(page) = body.page() else {
-        return Store::PAGES;
-    };
-    if page.number == 0 {
-        return 0;
+    match body.page() {
+        Some(page) => usize::from(page.number.saturating_sub(1)),
+        None => Store::PAGES,
     }
-    (page.number - 1) as usize
 }
 
 // Takes the page of a record's 251 bytes: 1 where it is new, 2 where the store had the same, 3 where it
@@ -54,32 +45,24 @@ fn pages_before(body: Body) -> usize
 pub fn lz_take(store: &mut [u8], record_bytes: &[u8]) -> u32
     ensures { call_result result store.new ≡ take_into store.old record_bytes.now }
 {
-    let before = store_bytes::unpack_store(store);
+    let mut held = store_bytes::unpack_store(store);
     let came = record_bytes::unpack(record_bytes);
-    let taking = taken_in(before, came);
-    let answer = taking.answer;
-    let after = taking.store;
-    // the pages alone: to take one out of the store would be a copy of the store more
-    let pages = after.pages;
-    let body = came.body;
-    let i = pages_before(body);
+    let took = held.take(&came);
+    let i = pages_before(came.body);
     if i < Store::PAGES {
-        let page = pages[i];
-        store_bytes::pack_page(page, i, store);
+        store_bytes::pack_page(&held.pages[i], i, store);
     }
-    taken_word(answer)
+    taken_word(took)
 }
 
 // Merges another store of the same bulletin into a store. A refusal leaves the store as it was.
 pub fn lz_merge(store: &mut [u8], other: &[u8]) -> u32
     ensures { call_result result store.new ≡ merge_into store.old other.now }
 {
-    let before = store_bytes::unpack_store(store);
-    let merging = before.merge(store_bytes::unpack_store(other));
-    let after = merging.store;
-    let answer = merging.answer;
-    store_bytes::pack_store(after, store);
-    verdict_word(answer)
+    let mut merged = store_bytes::unpack_store(store);
+    let answer = merged.merge(&store_bytes::unpack_store(other));
+    store_bytes::pack_store(&merged, store);
+    word_of(answer, |()| 0)
 }
 
 // How many pages are held, how many are disputed, and the lowest that is not held, 0 where all are: one
@@ -87,19 +70,18 @@ pub fn lz_merge(store: &mut [u8], other: &[u8]) -> u32
 pub fn lz_count(store: &[u8]) -> u32
     ensures { result ≡ count_answer store.now }
 {
-    count_word(store_bytes::unpack_store(store).count())
+    word_of(store_bytes::unpack_store(store).count(), report_word)
 }
 
 // Puts the text of a store whose pages are all held into a lent buffer, and answers its length, which
 // is at most 1134. Bytes behind the text stay as they were, and where something is refused all of
 // them do.
+#[tactic(auto, using(crate::proofs::StoreDoors::text_is_small), unfolding(crate::specs::Answers::text_result))]
 pub fn lz_text(store: &[u8], text: &mut [u8]) -> u32
     ensures { call_result result text.new ≡ text_into store.now text.old }
 {
-    let telling = store_bytes::unpack_store(store).text(text);
-    let answer = telling.answer;
-    match answer {
-        Verdict::Fine => telling.length as u32,
-        Verdict::Refused(refusal) => refusal_word(refusal),
-    }
+    word_of(
+        store_bytes::unpack_store(store).text(text),
+        |length| length as u32,
+    )
 }

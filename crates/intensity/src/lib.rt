@@ -1,99 +1,86 @@
 // Category 3, seismic intensity: what stands from bit 43 to bit 213. The prefectures that shake are slots.
 #![tactic(auto)]
 
-ghost use Rattle.std.specs.Prelude.{◌≡◌, []};
-ghost use Rattle.bits.specs.Frame.{frame_in};
-ghost use Rattle.rows.specs.Runs.Questions.{◌then◌};
-ghost use Rattle.rows.specs.Runs.Verdict.{walk, body_verdict};
-ghost use Rattle.intensity.specs.Intensity.{intensity, shaking_values, prefectures, shaking_from};
-ghost use Rattle.rows.specs.Values.{head_values, sides_at, spares_at};
-ghost use Rattle.rows.specs.Runs.Fields.{kept_in, fields_in, table_in};
-ghost use Rattle.slots.specs.Slots.{slots_values};
+ghost use Rattle.intensity.specs.Intensity.{intensity, shaking_from, shaking_values};
 
 pub mod prefectures; // its slots
 
-use crate::prefectures::check_prefectures;
+use crate::prefectures::Prefectures;
+use category::Category;
 use rows::codes::{is_two_or_seven, is_uncorrected};
 use rows::common::Common;
 use rows::fields::{Fields, Spares, Table};
-use rows::refusal::Verdict;
+use rows::question::spare;
+use rows::refusal::Refusal;
 use rows::time::Time;
+use slots::listed::{check_slots, slots_of};
 use slots::slot::Slot;
-
-// What stands in its spares.
-pub fn spares(f: &[u8]) -> Spares
-    ensures { result ≡ spares_at (frame_in f.now) intensity }
-{
-    Spares {
-        first: bits::field64(f, 43, 10),
-        second: bits::field64(f, 213, 1),
-    }
-}
-
-// What its table says in numbers.
-pub fn table() -> Table
-    ensures { result ≡ table_in intensity }
-{
-    Table {
-        code: 3,
-        count: 16,
-        widths: [0, 0, 0, 3, 6],
-        text: false,
-        second: true,
-    }
-}
 
 #[derive(Clone, Copy)]
 pub struct Shaking {
     pub time: Time,
 }
 
-impl Shaking {
-    // The fields of a frame.
-    pub fn of(f: &[u8]) -> Shaking
-        ensures { result ≡ shaking_from (sides_at (frame_in f.now) intensity) }
-    {
+impl Category for Shaking {
+    ghost layout = { intensity };
+
+    ghost said = { shaking_from };
+
+    ghost values = { shaking_values };
+
+    fn of(f: &[u8]) -> Shaking {
         Shaking {
             time: Time::at(f, 53),
         }
     }
 
-    // The fields that numbers say, of each as much as its field holds.
-    pub fn of_values(front: [u64; 18]) -> Shaking
-        ensures { result ≡ shaking_from (kept_in front [] intensity) }
-    {
+    fn of_values(front: &[u64; 18], _behind: &[u64; 3]) -> Shaking {
         Shaking {
             time: Time::of_values(front[1], front[2], front[3]),
         }
     }
 
-    // The rows in front of the prefectures, behind what has been found.
-    fn front(self, found: Verdict, spares: Spares) -> Verdict
-        ensures { result ≡ found then walk [] intensity.front (shaking_values self spares).front }
-    {
-        let time = self.time;
-        found.spare(43, 10, spares.first).time(53, time)
+    fn spares(f: &[u8]) -> Spares {
+        Spares {
+            first: bits::field(f, 43, 10),
+            second: bits::field(f, 213, 1),
+        }
     }
 
-    // All rules from bit 8 to bit 213, behind what has been found.
-    pub fn check(self, found: Verdict, c: Common, slots: [Slot; 16], spares: Spares) -> Verdict
-        ensures { result ≡ found then body_verdict intensity (head_values c 3) (shaking_values self spares) (slots_values prefectures slots) }
-    {
-        let head = found.common(c, is_two_or_seven(c.rc), is_uncorrected(c.it));
-        let front = self.front(head, spares);
-        check_prefectures(front, slots).spare(213, 1, spares.second)
+    fn slots(f: &[u8]) -> [Slot; 16] {
+        slots_of::<Prefectures>(f)
     }
 
-    // The rows in front of the prefectures and behind them as numbers, in the order of the table.
-    pub fn fields(self, spares: Spares) -> Fields
-        ensures { result ≡ fields_in intensity (shaking_values self spares) }
-    {
-        let time = self.time;
-        let day = time.day as u64;
-        let hour = time.hour as u64;
-        let minute = time.minute as u64;
+    fn text(_f: &[u8]) -> [u8; 18] {
+        [0u8; 18]
+    }
+
+    #[tactic(auto, using(rows::proofs::Rules::Walks::body_parts, rows::proofs::Rules::Walks::spare_walk), unfolding(rows::specs::Runs::Verdict::walk, rows::specs::Runs::Verdict::judge))]
+    fn check(self, common: Common, slots: &[Slot; 16], spares: Spares) -> Result<(), Refusal> {
+        common.check(is_two_or_seven(common.rc), is_uncorrected(common.it))?;
+        spare(43, 10, spares.first)?;
+        self.time.check(53)?;
+        check_slots::<Prefectures>(slots)?;
+        spare(213, 1, spares.second)
+    }
+
+    fn table() -> Table {
+        Table {
+            code: 3,
+            count: 16,
+            widths: [0, 0, 0, 3, 6],
+            text: false,
+            second: true,
+        }
+    }
+
+    // The rows in front of the prefectures and behind them.
+    fn fields(self, spares: Spares) -> Fields {
+        let day = u64::from(self.time.day);
+        let hour = u64::from(self.time.hour);
+        let minute = u64::from(self.time.minute);
         Fields {
-            table: table(),
+            table: Shaking::table(),
             ahead: [10, 5, 5, 6, 0, 0, 0, 0, 0, 0, 0, 0, 0, 0, 0, 0, 0, 0],
             front: [
                 spares.first,

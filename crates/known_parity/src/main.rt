@@ -8,11 +8,8 @@ use std::io;
 // count, since the register starts from zero: so the nine bytes are bits 154 to 225 of a frame.
 fn check_value() -> [u8; 32] {
     let mut words = Words::of(0);
-    let mut digit: u64 = 0;
-    while digit < 9 {
-        let more = words.push(8, 49 + digit);
-        words = more;
-        digit += 1;
+    for digit in b"123456789" {
+        words = words.push(8, u64::from(*digit));
     }
     let mut frame = [0u8; 32];
     words.push(30, 0).put(&mut frame);

@@ -1,22 +1,19 @@
 -- Bytes put one behind the other.
 use mathlib.Core.Path.{◌≡◌, refl, sym, ap, subst, ◌∙◌}
 use mathlib.Core.Bool.{Bool, true, false}
-use mathlib.Core.List.{List, [], ◌∷◌, ◌++◌, append-nil}
-use Prim.Native.Nat.{ℕ, zero, suc, ◌+◌, ◌-◌, ◌≤◌, ◌<◌, min}
+use mathlib.Core.List.{List, [], ◌∷◌, ◌++◌, append-nil, append_assoc}
+use Prim.Native.Nat.{ℕ, suc, ◌+◌, ◌-◌, ◌≤◌, ◌<◌, min}
 use native.Mathlib.Numerals.{add-one}
 use native.Mathlib.Omega.{arith}
 use borrow.Author.Tests.{leb-true, leb-false}
 use lib.Dec.{leb}
-use lib.ListN.{length, get_or, set, take, drop, length-append}
-use lib.Seq.{sets, length-sets, sets-eq, take-suc, take_all, drop-length, length-take-le}
+use lib.ListN.{length, get_or, set, take, drop, length-append, take-append-drop}
+use lib.Seq.{sets, length-sets, sets-eq, take-suc, drop-drop, drop-length, length-take-le}
+use borrow.Rule.Slice.PartMut.{put_mid}
+use Rattle.std.proofs.lemmas.List.{set_past}
 use Rattle.lent.specs.Writing.{Wrote}
 
 -- ---- places past the end
-
-pub set_past : (l : List ℕ) (i v : ℕ) → length l ≤ i → set l i v ≡ l
-set_past [] i v h = refl
-set_past (x ∷ l) zero v h = absurd (omega arith)
-set_past (x ∷ l) (suc i) v h = ap (λ (r : List ℕ). x ∷ r) (set_past l i v (omega arith))
 
 pub sets-past : (t l : List ℕ) (i : ℕ) → length l ≤ i → sets l i t ≡ l
 sets-past [] l i h = refl
@@ -46,6 +43,15 @@ sets_next t u l i j e = by_room (leb (i + length t) (length l)) refl ∙ sets-se
         let m : length (sets l i t) ≡ length l = length-sets l i t in
         sets-past u (sets l i t) j (omega arith) ∙ sym (sets-past u (sets l i t) (i + length t) (omega arith))
 
+-- what was behind the end of l changed nothing
+pub sets_cut : (t l : List ℕ) (i room : ℕ) → i + room ≡ length l → room ≤ length t → sets l i (take room t) ≡ sets l i t
+sets_cut t l i room e h =
+    let m : length (sets l i (take room t)) ≡ length l = length-sets l i (take room t) in
+    let n : i + length (take room t) ≡ i + room = ap (λ (k : ℕ). i + k) (length-take-le room t h) in
+    sym (sets-past (drop room t) (sets l i (take room t)) (i + length (take room t)) (omega arith))
+    ∙ sets-sets (take room t) (drop room t) l i
+    ∙ ap (sets l i) (take-append-drop room t)
+
 pub nothing : (l : List ℕ) (i : ℕ) → Wrote l l i i []
 nothing l i = record { bytes = refl; place = omega arith }
 
@@ -64,15 +70,6 @@ pub ◌then◌ : {l m r : List ℕ} {a b c : ℕ} {t u : List ℕ} → Wrote l m
 pub wrote_as : {l m t u : List ℕ} {i j : ℕ} → t ≡ u → Wrote l m i j t → Wrote l m i j u
 wrote_as {l} {m} {t} {u} {i} {j} e w = subst (λ (x : List ℕ). Wrote l m i j x) e w
 
--- ---- a loop that puts t from the front
-
-pub one_more : {l m r : List ℕ} {i j n v : ℕ} (t : List ℕ) (k : ℕ) → k < length t → v ≡ get_or t k 0 → Wrote l m i j (take k t) → Wrote m r j n (v ∷ [])
-    → Wrote l r i n (take (k + 1) t)
-one_more t k h e x y = rw (add-one k, take-suc t k 0 h, ← e) (x then y)
-
-pub all_put : {l m : List ℕ} {i j : ℕ} (t : List ℕ) (k : ℕ) → length t ≤ k → Wrote l m i j (take k t) → Wrote l m i j t
-all_put t k h x = rw (take_all k t h) at x
-
 -- the answer is not further on than t is long
 pub wrote_within : {l m t : List ℕ} {i j k : ℕ} → Wrote l m i j t → length t ≤ k → j ≤ i + k
 wrote_within w h = omega (arith, w.place)
@@ -85,6 +82,29 @@ all_placed h w = omega (arith, w.place)
 
 pub placed : {l m t : List ℕ} {i j : ℕ} → j ≤ length l → m ≡ sets l i t → j ≡ i + length t → Wrote l m i j t
 placed h e p = record { bytes = e; place = omega arith }
+
+-- ---- where there was none, or not for all
+
+pub none_put : (t l : List ℕ) (i : ℕ) → length l < i → Wrote l l i i t
+none_put t l i h = record { bytes = sym (sets-past t l i (omega arith)); place = omega arith }
+
+-- what is written to the n bytes from i on is put there
+put_there : (t l : List ℕ) (i n : ℕ) → n ≡ length t → i + length t ≤ length l → put_mid i n l t ≡ sets l i t
+put_there t l i n e h =
+    let behind : drop n (drop i l) ≡ drop (i + length t) l = drop-drop n i l ∙ ap (λ (k : ℕ). drop (i + k) l) e in
+    ap (λ (r : List ℕ). take i l ++ (t ++ r)) behind ∙ sym (append_assoc (take i l) t (drop (i + length t) l)) ∙ sym (sets-eq t l i h)
+
+pub put_whole : (t l m : List ℕ) (i n : ℕ) → m ≡ t → n ≡ length t → i + length t ≤ length l → Wrote l (put_mid i n l m) i (i + length t) t
+put_whole t l m i n e long h = record { bytes = ap (put_mid i n l) e ∙ put_there t l i n long h; place = omega arith }
+
+-- .. and where only so many find a place, none of the others does
+pub put_cut : (t l m : List ℕ) (i room : ℕ) → m ≡ take room t → i + room ≡ length l → room < length t
+    → Wrote l (put_mid i room l m) i (length (put_mid i room l m) + 1) t
+put_cut t l m i room e h cut =
+    let long : length (take room t) ≡ room = length-take-le room t (omega arith) in
+    let put : put_mid i room l m ≡ sets l i t = ap (put_mid i room l) e ∙ put_there (take room t) l i room (sym long) (omega arith) ∙ sets_cut t l i room h (omega arith) in
+    let as_long : length (put_mid i room l m) ≡ length l = ap length put ∙ length-sets l i t in
+    record { bytes = put; place = omega arith }
 
 -- as many bytes as the buffer has
 pub sets_whole : (t l : List ℕ) → length t ≡ length l → sets l 0 t ≡ t

@@ -2,8 +2,8 @@
 use mathlib.Core.Path.{◌≡◌, refl, ap}
 use mathlib.Core.Bool.{Bool, true, false}
 use mathlib.Core.List.{[], ◌∷◌, ◌++◌}
-use Prim.Native.Nat.{ℕ, zero, suc, ◌+◌, ◌/◌, ◌%◌, ◌^◌, ◌≤◌, ◌<◌}
-use native.Mathlib.Nat.{div-lt_self, div-lt_iff_lt-mul}
+use Prim.Native.Nat.{ℕ, zero, suc, ◌+◌, ◌*◌, ◌/◌, ◌%◌, ◌^◌, ◌≤◌, ◌<◌}
+use native.Mathlib.Nat.{div-lt_self, div-lt_iff_lt-mul, le-div_iff_mul-le, pow-le-pow_right}
 use native.Mathlib.Omega.{arith}
 use borrow.Author.Tests.{lt-ltb, le-ltb, ltb-true, ltb-false}
 use lib.Dec.{ltb}
@@ -16,7 +16,7 @@ unfolding figures
 by_size f g n true e ih = simp e
 by_size f g n false e ih = simp (e, ih (ltb-false n 10 e))
 
-pub smaller : (n : ℕ) → 10 ≤ n → n / 10 < n
+smaller : (n : ℕ) → 10 ≤ n → n / 10 < n
 smaller n h = div-lt_self {n = n} {k = 10} (omega arith) (omega arith)
 
 -- room for more digits than there are changes nothing
@@ -40,7 +40,7 @@ decimal_more (suc n) h = simp (le-ltb (suc n) 10 h, same_figures n (suc n / 10) 
 pub length-decimal_one : (n : ℕ) → n < 10 → length (decimal n) ≡ 1
 length-decimal_one n h = ap length (decimal_one n h)
 
-pub length-decimal_more : (n : ℕ) → 10 ≤ n → length (decimal n) ≡ length (decimal (n / 10)) + 1
+length-decimal_more : (n : ℕ) → 10 ≤ n → length (decimal n) ≡ length (decimal (n / 10)) + 1
 length-decimal_more n h = simp (decimal_more n h, length-append)
 
 longer : (k n : ℕ) (t : Bool) → ltb n 10 ≡ t → (10 ≤ n → length (decimal (n / 10)) ≤ suc k) → length (decimal n) ≤ suc (suc k)
@@ -76,6 +76,22 @@ front-digits n k h l = by (ltb n 10) refl
 decimal-length : (k n : ℕ) → n < 10 ^ suc k → length (decimal n) ≤ suc k
 decimal-length zero n h = omega (arith, length-decimal_one n h)
 decimal-length (suc k) n h = longer k n (ltb n 10) refl λ b. decimal-length k (n / 10) ((div-lt_iff_lt-mul {k = 10} {x = n} {y = 10 ^ suc k} (omega arith)).1 (omega (arith, h)))
+
+-- and one of 10 ^ k or more has as many
+decimal-long : (k n : ℕ) → 10 ^ k ≤ n → suc k ≤ length (decimal n)
+decimal-long zero n h = some n (ltb n 10) refl
+  where
+    some : (n : ℕ) (t : Bool) → ltb n 10 ≡ t → 1 ≤ length (decimal n)
+    some n true e = omega (arith, length-decimal_one n (ltb-true n 10 e))
+    some n false e = omega (arith, length-decimal_more n (ltb-false n 10 e))
+decimal-long (suc k) n h =
+    let front : 10 ^ k ≤ n / 10 = (le-div_iff_mul-le {k = 10} {x = 10 ^ k} {y = n} (omega arith)).1 (omega (arith, h)) in
+    let one : 1 ≤ 10 ^ k = pow-le-pow_right {n = 10} (omega arith) {i = 0} {j = k} (omega arith) in
+    omega (arith, h, length-decimal_more n (omega (arith, h, one)), decimal-long k (n / 10) front)
+
+-- the power of ten below it tells how many
+pub digits_by_power : (k n : ℕ) → 10 ^ k ≤ n → n < 10 * 10 ^ k → k + 1 ≡ length (decimal n)
+digits_by_power k n low high = omega (arith, decimal-long k n low, decimal-length k n (omega (arith, high)))
 
 -- and room for that many is enough
 enough : (k f n : ℕ) → n < 10 ^ suc k → n ≤ f → figures f n ≡ figures k n

@@ -12,15 +12,12 @@ pub fn byte_of(value: u64, behind: usize) -> u8
     ((value >> (8 * behind)) % 256) as u8
 }
 
-// How many decimal digits a number has.
+// How many decimal digits a number has; 0 has one.
 pub(crate) fn digits(number: u64) -> usize
     ensures { result ≡ length (decimal number) }
 {
-    let mut count = 1;
-    let mut rest = number;
-    while rest > 9 {
-        rest = rest / 10;
-        count += 1;
+    match number.checked_ilog10() {
+        Some(tens) => tens as usize + 1,
+        None => 1,
     }
-    count
 }

@@ -1,4 +1,5 @@
 -- What this crate claims of its definitions. Each is proved in the file that its last line names.
+use Rattle.std.specs.Prelude.{Ok, Err}
 use mathlib.Core.Path.{◌≡◌}
 use mathlib.Core.Bool.{true, false}
 use mathlib.Core.List.{List}
@@ -6,7 +7,6 @@ use mathlib.Core.Logic.{◌↔◌}
 use Prim.Native.Nat.{ℕ, ◌*◌, ◌<◌}
 use lib.ListN.{length, get_or}
 use Rattle.bits.specs.Frame.{Bytes, bytes_of, field_of}
-use Rattle.rows.specs.declared.refusal.Verdict.TheVariants.{Fine, Refused}
 use Rattle.rows.specs.declared.refusal.Refusal.{Refusal}
 use Rattle.rows.specs.declared.refusal.Refusal.TheVariants.{Line}
 use Rattle.rows.specs.Faults.{Met}
@@ -54,11 +54,11 @@ line_to_frame_to_line = ThereAndBack.line_back
 pub a_line_reads_as_its_frame : (l : List ℕ) → is_line l ≡ true → line_reading l ≡ read_of (frame_of_line l)
 a_line_reads_as_its_frame = ReadLines.line_reads
 
-pub no_line_is_17 : (l : List ℕ) → is_line l ≡ false → line_reading l ≡ record { answer = Refused Line; «record» = zeros }
+pub no_line_is_17 : (l : List ℕ) → is_line l ≡ false → line_reading l ≡ record { answer = Err Line; «record» = zeros }
 no_line_is_17 = ReadLines.no_line_reads
 
 -- "A refusal is given only when its row's reason is there."
-pub only_no_line_is_17 : (l : List ℕ) → (line_reading l).answer ≡ Refused Line → is_line l ≡ false
+pub only_no_line_is_17 : (l : List ℕ) → (line_reading l).answer ≡ Err Line → is_line l ≡ false
 only_no_line_is_17 = ReadLines.only_17
 
 -- The test of a line asks just for that: 63 bytes, and each of them a digit.
@@ -66,7 +66,7 @@ pub a_line_is_63_digits : (l : List ℕ) → is_line l ≡ true ↔ SixtyThreeDi
 a_line_is_63_digits = LineReasons.tested_exactly
 
 -- So "17" is answered where that is not so, and there alone ..
-pub seventeen_exactly_when_not_63_digits : (l : List ℕ) → (line_reading l).answer ≡ Refused Line ↔ (SixtyThreeDigits l → ⊥)
+pub seventeen_exactly_when_not_63_digits : (l : List ℕ) → (line_reading l).answer ≡ Err Line ↔ (SixtyThreeDigits l → ⊥)
 seventeen_exactly_when_not_63_digits = LineReasons.refused_17
 
 -- .. 63 digits are read as their frame ..
@@ -74,11 +74,11 @@ pub digits_read_as_their_frame : (l : List ℕ) → SixtyThreeDigits l → line_
 digits_read_as_their_frame = LineReasons.digits_read
 
 -- .. and refused for the reasons of that frame.
-pub line_refused_for_a_reason : (l : List ℕ) (x : Refusal) → (line_reading l).answer ≡ Refused x → WhyNotReadAsLine l x
+pub line_refused_for_a_reason : (l : List ℕ) (x : Refusal) → (line_reading l).answer ≡ Err x → WhyNotReadAsLine l x
 line_refused_for_a_reason = LineReasons.read_reason
 
 -- "A refused reading gives a record of zeros."
-pub a_refused_line_gives_zeros : (l : List ℕ) (x : Refusal) → (line_reading l).answer ≡ Refused x → (line_reading l).«record» ≡ zeros
+pub a_refused_line_gives_zeros : (l : List ℕ) (x : Refusal) → (line_reading l).answer ≡ Err x → (line_reading l).«record» ≡ zeros
 a_refused_line_gives_zeros = ReadLines.refused_zeros
 
 -- "hexadecimal digits, either case": whatever the bytes, they are read as if their small letters were capitals.
@@ -86,15 +86,15 @@ pub either_case_reads_the_same : (l : List ℕ) → line_reading (capitals l) �
 either_case_reads_the_same = ReadLines.capitals_read
 
 -- What a valid record writes, as a line, is read as that record.
-pub a_written_line_is_read_again : (r : Record) → Shaped r → Valid r → line_reading (line_of (bytes_of (frame r))) ≡ record { answer = Fine; «record» = r }
+pub a_written_line_is_read_again : (r : Record) → Shaped r → Valid r → line_reading (line_of (bytes_of (frame r))) ≡ record { answer = Ok tt; «record» = r }
 a_written_line_is_read_again = ReadLines.record_again
 
 -- ---- a line written: 1 where "a lent frame is not 32 bytes long", 2 where there is padding, 16 where the buffer is too short
 
 -- The condition of the number fails, and every earlier one holds ..
-pub printing_refused_for_a_reason : (s : List ℕ) (room : ℕ) (x : Refusal) → line_answer s room ≡ Refused x → WhyNotPrinted s room x
+pub printing_refused_for_a_reason : (s : List ℕ) (room : ℕ) (x : Refusal) → line_answer s room ≡ Err x → WhyNotPrinted s room x
 printing_refused_for_a_reason = LineReasons.print_reason
 
 -- .. and "where no row tested by a call applies, the call succeeds", and there alone.
-pub printed_exactly_when_nothing_is_wrong : (s : List ℕ) (room : ℕ) → line_answer s room ≡ Fine ↔ Met (print_questions s room)
+pub printed_exactly_when_nothing_is_wrong : (s : List ℕ) (room : ℕ) → line_answer s room ≡ (Ok tt) ↔ Met (print_questions s room)
 printed_exactly_when_nothing_is_wrong = LineReasons.print_exactly

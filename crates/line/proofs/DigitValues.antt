@@ -1,20 +1,22 @@
 -- What a byte of a line is worth, and how the code tells it. What holds of every byte is one computed test.
+use Rattle.std.specs.Prelude.{Option, Some, None, is_some}
+use Rattle.std.specs.Option.{unwrap_or}
 use mathlib.Core.Path.{◌≡◌, refl, sym, ap, ◌∙◌}
 use mathlib.Core.Bool.{Bool, true, false, ◌&&◌, cond}
 use mathlib.Core.Logic.{⊎_elim}
 use mathlib.Core.List.{List, [], ◌∷◌}
-use Prim.Native.Nat.{ℕ, ◌-◌, ◌≤◌, ◌<◌}
+use Prim.Native.Nat.{ℕ, ◌+◌, ◌-◌, ◌≤◌, ◌<◌}
 use native.Mathlib.Omega.{arith}
 use lib.ListN.{get_or}
 use lib.Bits.{bit_or}
-use lib.Dec.{ltb, leb}
-use borrow.Author.Tests.{leb-true, lt-ltb}
+use lib.Dec.{leb}
+use borrow.Author.Tests.{leb-true}
 use Rattle.rows.specs.Layout.{Span, ◌to◌}
 use Rattle.rows.specs.Runs.Verdict.{allowed}
 use Rattle.rows.specs.Values.{each}
-use Rattle.rows.proofs.Rules.Spans.{allowed_in}
+use Rattle.rows.proofs.Rules.Spans.{allowed_in, span_in, span_out}
 use Rattle.rows.proofs.Layouts.Lengths.{each_at}
-use Rattle.line.specs.Lines.{digits, worth, mark, capital, upper}
+use Rattle.line.specs.Lines.{digits, worth, digit_of, capital, upper}
 
 -- ---- two tables that are the same
 
@@ -24,28 +26,22 @@ agree n f g e i h = sym (each_at n f (f 0) i h) ∙ ap (λ l. get_or l i (f 0)) 
 -- ---- the tests of the code
 
 -- a byte from 0 to 9, or one that is from a to f with 32 set
-abbrev figure : ℕ → Bool
-figure b = leb 48 b && leb b 57
+abbrev tested : ℕ → Option ℕ
+tested b = cond (leb 48 b && leb b 57) (Some (b - 48)) (cond (leb 97 (bit_or b 32) && leb (bit_or b 32) 102) (Some (bit_or b 32 - 97 + 10)) None)
 
-abbrev letter : ℕ → Bool
-letter b = leb 97 (bit_or b 32) && leb (bit_or b 32) 102
-
-abbrev tested : ℕ → ℕ
-tested b = cond (figure b) (b - 48) (cond (letter b) (bit_or b 32 - 87) 16)
-
-tests_agree : each 256 tested ≡ each 256 mark
+tests_agree : each 256 tested ≡ each 256 digit_of
 unfolding allowed
 tests_agree = refl
 
 module _ (b : ℕ) (h : b < 256) where
-  pub figure-mark : figure b ≡ true → b - 48 ≡ mark b
-  figure-mark f = rw f at (agree 256 tested mark tests_agree b h)
+  pub figure_digit : (48 ≤ b) × (b ≤ 57) → Some (b - 48) ≡ digit_of b
+  figure_digit f = rw (span_in 48 57 b f) at (agree 256 tested digit_of tests_agree b h)
 
-  pub letter-mark : figure b ≡ false → letter b ≡ true → bit_or b 32 - 87 ≡ mark b
-  letter-mark f l = rw (f, l) at (agree 256 tested mark tests_agree b h)
+  pub letter_digit : ((48 ≤ b) × (b ≤ 57) → ⊥) → (97 ≤ bit_or b 32) × (bit_or b 32 ≤ 102) → Some (bit_or b 32 - 97 + 10) ≡ digit_of b
+  letter_digit f l = rw (span_out 48 57 b f, span_in 97 102 (bit_or b 32) l) at (agree 256 tested digit_of tests_agree b h)
 
-  pub no_mark : figure b ≡ false → letter b ≡ false → 16 ≡ mark b
-  no_mark f l = rw (f, l) at (agree 256 tested mark tests_agree b h)
+  pub no_digit : ((48 ≤ b) × (b ≤ 57) → ⊥) → ((97 ≤ bit_or b 32) × (bit_or b 32 ≤ 102) → ⊥) → None ≡ digit_of b
+  no_digit f l = rw (span_out 48 57 b f, span_out 97 102 (bit_or b 32) l) at (agree 256 tested digit_of tests_agree b h)
 
 all_small : each 256 (λ b. cond (allowed digits b) (leb (worth b) 15) true) ≡ each 256 (λ b. true)
 unfolding allowed
@@ -65,16 +61,45 @@ digit_byte b e = ⊎_elim (λ h. omega arith) (λ k. ⊎_elim (λ h. omega arith
 pub worth_small : (b : ℕ) → allowed digits b ≡ true → worth b < 16
 worth_small b e = omega (arith, small_byte b (digit_byte b e) e)
 
-pub mark-worth : (b : ℕ) → allowed digits b ≡ true → mark b ≡ worth b
-mark-worth b e = ap (λ (t : Bool). cond t (worth b) 16) e
-
--- below 16 stand the digits alone
-pub mark-tells : (b : ℕ) → ltb (mark b) 16 ≡ allowed digits b
-mark-tells b = by (allowed digits b) refl
+-- what the code finds of a byte: whether it is a digit ..
+pub digit_tells : (b : ℕ) → is_some (digit_of b) ≡ allowed digits b
+digit_tells b = by (allowed digits b)
   where
-    by : (t : Bool) → allowed digits b ≡ t → ltb (mark b) 16 ≡ allowed digits b
-    by true e = ap (λ (x : ℕ). ltb x 16) (mark-worth b e) ∙ lt-ltb (worth b) 16 (worth_small b e) ∙ sym e
-    by false e = ap (λ (t : Bool). ltb (cond t (worth b) 16) 16) e ∙ sym e
+    by : (t : Bool) → is_some (cond t (Some (worth b)) None) ≡ t
+    by true = refl
+    by false = refl
+
+-- .. and what it is worth, 0 where it is none
+abbrev pub worth_found : ℕ → ℕ
+worth_found b = unwrap_or (digit_of b) 0
+
+pub digit_worth : (b : ℕ) → allowed digits b ≡ true → worth_found b ≡ worth b
+digit_worth b e = ap (λ (t : Bool). unwrap_or (cond t (Some (worth b)) None) 0) e
+
+-- a number is found of a digit alone, and it is what that is worth
+pub digit_found : (b v : ℕ) → digit_of b ≡ Some v → (allowed digits b ≡ true) × (v ≡ worth b)
+digit_found b v e = by (allowed digits b) refl e
+  where
+    by : (t : Bool) → allowed digits b ≡ t → cond t (Some (worth b)) None ≡ Some v → (allowed digits b ≡ true) × (v ≡ worth b)
+    by true a f = (a, cc)
+    by false a f = cc
+
+pub digit_missed : (b : ℕ) → digit_of b ≡ None → allowed digits b ≡ false
+digit_missed b e = by (allowed digits b) refl e
+  where
+    by : (t : Bool) → allowed digits b ≡ t → cond t (Some (worth b)) None ≡ None → allowed digits b ≡ false
+    by true a f = cc
+    by false a f = a
+
+pub digit_small : (b v : ℕ) → digit_of b ≡ Some v → v < 16
+digit_small b v e = let q = digit_found b v e in rw q.1 (worth_small b q.0)
+
+pub worth_small_found : (b : ℕ) → worth_found b < 16
+worth_small_found b = by (allowed digits b) refl
+  where
+    by : (t : Bool) → allowed digits b ≡ t → worth_found b < 16
+    by true e = rw (digit_worth b e) (worth_small b e)
+    by false e = rw e (omega arith)
 
 capitals_are_digits : each 16 (λ d. allowed digits (capital d)) ≡ each 16 (λ d. true)
 unfolding allowed

@@ -1,4 +1,5 @@
 -- What a line is, byte by byte, and why one is refused.
+use Rattle.std.specs.Prelude.{Ok, Err}
 use mathlib.Core.Path.{◌≡◌, refl, sym, ap, ◌∙◌}
 use mathlib.Core.Bool.{Bool, true, false}
 use mathlib.Core.List.{List, [], ◌∷◌}
@@ -9,7 +10,6 @@ use lib.ListN.{length, get_or}
 use lib.Dec.{eqb, leb}
 use borrow.Author.Tests.{eqb-true, eq-eqb, leb-true, le-leb}
 use Rattle.bits.specs.Frame.{field_of}
-use Rattle.rows.specs.declared.refusal.Verdict.TheVariants.{Fine, Refused}
 use Rattle.rows.specs.declared.refusal.Refusal.{Refusal}
 use Rattle.rows.specs.declared.refusal.Refusal.TheVariants.{Length, Padding, Short, Line}
 use Rattle.rows.specs.Kept.{In}
@@ -18,9 +18,8 @@ use Rattle.rows.specs.Runs.Verdict.{allowed}
 use Rattle.rows.proofs.Rules.Outcomes.{and_both, both_and, false_not_true, same_refusal}
 use Rattle.rows.proofs.Rules.Spans.{allowed_in, in_allowed}
 use Rattle.rows.proofs.Rules.Ordered.{Answers, question, last_question, met_exactly, first_not_met}
-use Rattle.report.specs.declared.read.Reading.{Reading}
 use Rattle.report.specs.Records.{record_of}
-use Rattle.report.specs.Runs.Reading.{read_answer, read_of}
+use Rattle.report.specs.Runs.Reading.{read_answer, read_of, Reading}
 use Rattle.report.proofs.Claims.{refused_for_a_reason}
 use Rattle.line.specs.Lines.{digits, all_digits, is_line, frame_of_line, line_reading, line_answer}
 use Rattle.line.specs.Reasons.{SixtyThreeDigits, WhyNotReadAsLine, print_questions, WhyNotPrinted}
@@ -65,14 +64,14 @@ digits_read l d = line_reads l (digits-tested l d)
 not_a_line : (l : List ℕ) → is_line l ≡ false → SixtyThreeDigits l → ⊥
 not_a_line l e d = false_not_true (sym e ∙ digits-tested l d)
 
-pub refused_17 : (l : List ℕ) → (line_reading l).answer ≡ Refused Line ↔ (SixtyThreeDigits l → ⊥)
+pub refused_17 : (l : List ℕ) → (line_reading l).answer ≡ Err Line ↔ (SixtyThreeDigits l → ⊥)
 refused_17 l = (λ e. not_a_line l (only_17 l e), λ n. by n (is_line l) refl)
   where
-    by : (SixtyThreeDigits l → ⊥) → (t : Bool) → is_line l ≡ t → (line_reading l).answer ≡ Refused Line
+    by : (SixtyThreeDigits l → ⊥) → (t : Bool) → is_line l ≡ t → (line_reading l).answer ≡ Err Line
     by n true e = absurd (n (tested-digits l e))
     by n false e = ap (λ (r : Reading). r.answer) (no_line_reads l e)
 
-pub read_reason : (l : List ℕ) (x : Refusal) → (line_reading l).answer ≡ Refused x → WhyNotReadAsLine l x
+pub read_reason : (l : List ℕ) (x : Refusal) → (line_reading l).answer ≡ Err x → WhyNotReadAsLine l x
 read_reason l x e = by (is_line l) refl
   where
     by : (t : Bool) → is_line l ≡ t → WhyNotReadAsLine l x
@@ -86,15 +85,15 @@ read_reason l x e = by (is_line l) refl
 
 -- ---- writing: 1, 2, 16
 
-print_answered : (s : List ℕ) (room : ℕ) → Answers (line_answer s room) (print_questions s room) Fine
+print_answered : (s : List ℕ) (room : ℕ) → Answers (line_answer s room) (print_questions s room) (Ok tt)
 unfolding line_answer
 print_answered s room =
     question (eqb (length s) 32) (length s ≡ 32) Length (eqb-true (length s) 32) (eq-eqb (length s) 32)
     (question (eqb (field_of s 250 6) 0) (field_of s 250 6 ≡ 0) Padding (eqb-true (field_of s 250 6) 0) (eq-eqb (field_of s 250 6) 0)
     (last_question (leb 63 room) _ Short (leb-true 63 room) (le-leb 63 room)))
 
-pub print_exactly : (s : List ℕ) (room : ℕ) → line_answer s room ≡ Fine ↔ Met (print_questions s room)
+pub print_exactly : (s : List ℕ) (room : ℕ) → line_answer s room ≡ (Ok tt) ↔ Met (print_questions s room)
 print_exactly s room = met_exactly (print_answered s room)
 
-pub print_reason : (s : List ℕ) (room : ℕ) (x : Refusal) → line_answer s room ≡ Refused x → WhyNotPrinted s room x
+pub print_reason : (s : List ℕ) (room : ℕ) (x : Refusal) → line_answer s room ≡ Err x → WhyNotPrinted s room x
 print_reason s room = first_not_met (print_answered s room)

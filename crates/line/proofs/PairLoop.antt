@@ -1,14 +1,17 @@
 -- The loop that writes a line: two digits of it at a time, from two places on.
-use mathlib.Core.Path.{◌≡◌, refl, sym, ◌∙◌}
+use Rattle.std.specs.Prelude.{Ok}
+use mathlib.Core.Path.{◌≡◌, refl, sym, ap, ap₂, ◌∙◌}
 use mathlib.Core.Bool.{Bool, true, false}
-use mathlib.Core.List.{List}
+use mathlib.Core.List.{List, ◌++◌}
 use Prim.Native.Nat.{ℕ, ◌+◌, ◌*◌, ◌/◌, ◌%◌, ◌≤◌, ◌<◌}
 use native.Mathlib.Omega.{arith}
-use borrow.Author.Tests.{eqb-true, eqb-false, eq-eqb, ne_eqb, ltb-true, ltb-false}
+use borrow.Author.Tests.{eqb-true, eqb-false, eq-eqb, ne_eqb, ltb-true, ltb-false, le-leb}
 use lib.Dec.{eqb, ltb}
-use lib.ListN.{length, get_or, set, take, drop, length-set}
-use lib.Seq.{get_or-set_same, get_or-set_other, get_or-take, length-take-le, ext_get_or, drop-set-lt}
-use Rattle.line.specs.Lines.{capital, line_of}
+use lib.ListN.{length, get_or, set, take, drop, length-set, take-append-drop}
+use lib.Seq.{get_or-set_same, get_or-set_other, get_or-take, length-take-le, ext_get_or, drop-set-lt, take_all}
+use Rattle.bits.specs.Frame.{field_of}
+use Rattle.bits.proofs.ByteLoops.{copy_more, drop_more}
+use Rattle.line.specs.Lines.{capital, line_of, line_answer, line_into}
 use Rattle.line.proofs.Pairs.{line_length, digit_at}
 
 -- a place that is given its own element of l
@@ -92,3 +95,17 @@ module _ (s : List ℕ) (n : length s ≡ 32) (b o : List ℕ) (room : 63 ≤ le
       by : (k : ℕ) → k < 62 → (t : Bool) → ltb k 32 ≡ t → get_or o k 0 ≡ get_or (line_of s) k 0
       by k h true e = v.first k (ltb-true k 32 e)
       by k h false e = v.later k (omega (arith, ltb-false k 32 e)) h
+
+  -- the last digit stands alone; what stood behind it stays
+  pub line_done : Begun s b o 16 → set o 62 (capital (get_or s 31 0 / 16)) ≡ line_of s ++ drop 63 b
+  line_done v =
+      let l = line_of s in
+      let long : length l ≡ 63 = line_length s n in
+      let front : take 63 (set o 62 (get_or l 62 0)) ≡ take 63 l = copy_more l o 62 (omega arith) (omega (arith, v.long)) (pairs_done v) in
+      ap (λ (d : ℕ). set o 62 d) (high_digit s n 31 (omega arith))
+      ∙ sym (take-append-drop 63 (set o 62 (get_or l 62 0)))
+      ∙ ap₂ (λ (x y : List ℕ). x ++ y) (front ∙ take_all 63 l (omega arith)) (drop_more b o 62 (get_or l 62 0) v.behind)
+
+  pub written : (o : List ℕ) → field_of s 250 6 ≡ 0 → o ≡ line_of s ++ drop 63 b → (Ok tt ≡ line_answer s (length b)) × (o ≡ line_into s b)
+  unfolding line_answer
+  written r p e = simp (eq-eqb (length s) 32 n, eq-eqb (field_of s 250 6) 0 p, le-leb 63 (length b) room) (refl, e)

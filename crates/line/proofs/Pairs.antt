@@ -1,11 +1,11 @@
 -- Two digits a byte.
-use mathlib.Core.Path.{◌≡◌, refl, ap, ◌∙◌}
+use mathlib.Core.Path.{◌≡◌, refl, sym, ap, ◌∙◌}
 use mathlib.Core.Bool.{Bool, true, false, cond}
 use Prim.Native.Nat.{ℕ, zero, suc, ◌+◌, ◌*◌, ◌/◌, ◌%◌, ◌<◌}
 use native.Mathlib.Omega.{arith}
 use mathlib.Core.List.{List, [], ◌∷◌, ◌++◌, map}
 use lib.ListN.{length, get_or, take, length-map}
-use lib.Seq.{get_or-take, length-take-le}
+use lib.Seq.{ext_get_or, get_or-take, length-take-le}
 use lib.Dec.{eqb}
 use Rattle.line.specs.Lines.{capital, paired, frame_of_line, halves, line_of}
 
@@ -28,6 +28,10 @@ unfolding paired
 length-paired [] = refl
 length-paired (a ∷ []) = refl
 length-paired (a ∷ b ∷ ds) = omega (arith, length-paired ds)
+
+-- bytes that are pairs, each at its place
+pub paired_each : (f v : List ℕ) → length f ≡ 32 → length v ≡ 64 → ((k : ℕ) → k < 32 → get_or f k 0 ≡ get_or v (2 * k) 0 * 16 + get_or v (2 * k + 1) 0) → f ≡ paired v
+paired_each f v m n each = ext_get_or 0 f (paired v) (m ∙ sym (length-paired v ∙ ap (λ (k : ℕ). (k + 1) / 2) n)) (λ k h. each k (omega arith) ∙ sym (paired_at v k))
 
 -- a zero behind an odd number of digits changes nothing
 pub paired_more : (ds : List ℕ) (n : ℕ) → length ds ≡ 2 * n + 1 → paired (ds ++ (0 ∷ [])) ≡ paired ds

@@ -1,19 +1,15 @@
 -- A frame as text (document 01, "The frame on the wire"): "As text it is 63 hexadecimal digits, one frame a line; the last two
 -- bits of the last digit are padding." 63 digits are 252 bits: the last four bits of the 32 bytes have no digit.
-use Rattle.std.specs.Prelude.{ℕ, ◌+◌, ◌-◌, ◌*◌, ◌/◌, ◌%◌, Bool, true, ◌&&◌, cond, List, [], ◌∷◌, ◌++◌, map, length, take, drop, replicate, eqb, ltb, leb}
+use Rattle.std.specs.Prelude.{ℕ, ◌+◌, ◌-◌, ◌*◌, ◌/◌, ◌%◌, Bool, true, ◌&&◌, cond, List, [], ◌∷◌, ◌++◌, map, length, take, drop, replicate, eqb, ltb, leb, Ok, Err, Option, None, Some}
 use Rattle.bits.specs.Frame.{field_of}
-use Rattle.rows.specs.declared.refusal.Verdict.{Verdict}
-use Rattle.rows.specs.declared.refusal.Verdict.TheVariants.{Fine, Refused}
 use Rattle.rows.specs.declared.refusal.Refusal.TheVariants.{Length, Padding, Short, Line}
 use Rattle.rows.specs.declared.refusal.Said.{Said}
-use Rattle.rows.specs.Refusals.{answers}
-use Rattle.report.specs.declared.read.Reading.{Reading}
+use Rattle.rows.specs.Refusals.{answers, Verdict}
 use Rattle.rows.specs.Runs.Questions.{◌then◌, unless}
 use Rattle.rows.specs.Layout.{Span, ◌to◌}
 use Rattle.rows.specs.Runs.Verdict.{allowed}
 use Rattle.report.specs.Records.{zeros}
-use Rattle.report.specs.Runs.Reading.{read_answer, reading, read_of}
-use Rattle.line.specs.declared.from_line.Framing.{Framing}
+use Rattle.report.specs.Runs.Reading.{read_answer, reading, read_of, Reading}
 
 -- ---- one digit
 
@@ -25,9 +21,9 @@ digits = 0x30 to 0x39 ∷ 0x41 to 0x46 ∷ 0x61 to 0x66 ∷ []
 abbrev pub worth : ℕ → ℕ
 worth b = cond (ltb b 0x3A) (b - 0x30) (cond (ltb b 0x47) (b - 0x37) (b - 0x57))
 
--- the same of any byte, 16 where it is no digit
-abbrev pub mark : ℕ → ℕ
-mark b = cond (allowed digits b) (worth b) 16
+-- the same of any byte, where it is a digit
+abbrev pub digit_of : ℕ → Option ℕ
+digit_of b = cond (allowed digits b) (Some (worth b)) None
 
 -- the digit of a number below 16, a capital letter from ten on
 abbrev pub capital : ℕ → ℕ
@@ -59,12 +55,21 @@ paired (a ∷ b ∷ r) = (a * 16 + b) ∷ paired r
 unfoldable pub frame_of_line : List ℕ → List ℕ
 frame_of_line l = paired (map worth l)
 
+-- the frame of a line, where it is one
+abbrev pub frame_in : List ℕ → Option (List ℕ)
+frame_in l = cond (is_line l) (Some (frame_of_line l)) None
+
+-- what a line comes to: what is found, and the frame
+pub record Framing : Type 0 where
+  pub answer : Verdict
+  pub frame : List ℕ
+
 abbrev pub no_line : Framing
-no_line = record { answer = Refused Line; frame = replicate 32 0 }
+no_line = record { answer = Err Line; frame = replicate 32 0 }
 
 -- the frame of a line, or 17 and zeros
 unfoldable pub framing : List ℕ → Framing
-framing l = cond (is_line l) (record { answer = Fine; frame = frame_of_line l }) no_line
+framing l = cond (is_line l) (record { answer = Ok tt; frame = frame_of_line l }) no_line
 
 -- what that says, in the paper's numbers
 abbrev pub framing_says : List ℕ → Said
@@ -72,7 +77,7 @@ framing_says l = answers (unless (is_line l) Line)
 
 -- "A line: 17, then as its frame."
 unfoldable pub line_reading : List ℕ → Reading
-line_reading l = cond (is_line l) (read_of (frame_of_line l)) (reading (Refused Line) zeros)
+line_reading l = cond (is_line l) (read_of (frame_of_line l)) (reading (Err Line) zeros)
 
 abbrev pub line_says : List ℕ → Said
 line_says l = answers (unless (is_line l) Line then read_answer (frame_of_line l))
@@ -99,8 +104,8 @@ line_write_says s room = answers (line_answer s room)
 
 -- a refused writing leaves the buffer as it was, any other leaves the bytes behind the line
 abbrev pub line_written : Verdict → List ℕ → List ℕ → List ℕ
-line_written Fine s buffer = line_of s ++ drop 63 buffer
-line_written (Refused x) s buffer = buffer
+line_written (Ok tt) s buffer = line_of s ++ drop 63 buffer
+line_written (Err x) s buffer = buffer
 
 abbrev pub line_into : List ℕ → List ℕ → List ℕ
 line_into s buffer = line_written (line_answer s (length buffer)) s buffer

@@ -1,125 +1,106 @@
 // From a line to a frame, and to what the frame says.
-ghost use Rattle.std.specs.Prelude.{◌≡◌, ◌&&◌, ℕ, ◌<◌, leb, get_or};
-ghost use Rattle.line.specs.Lines.{mark, paired, no_line, framing, framing_says, line_reading, line_says};
-ghost use Rattle.report.specs.Runs.Reading.{seen};
-ghost use Rattle.rows.specs.Refusals.{answers};
+ghost use Rattle.std.specs.Prelude.{◌≡◌, ℕ, [], ◌∷◌, ◌++◌, ◌<◌, get_or, length};
+ghost use Rattle.line.specs.Lines.{digit_of, paired, frame_in, framing, framing_says, line_reading, line_says};
+ghost use Rattle.report.specs.Runs.Reading.{look_told, seen};
+ghost use Rattle.rows.specs.Refusals.{answers, outcome};
 
 use report::look::Looked;
-use report::read::Reading;
 use report::record::Record;
-use rows::refusal::{Refusal, Verdict};
+use rows::refusal::Refusal;
 
-// The frame of a line, or 17: then the frame is that of zeros.
-#[derive(Clone, Copy)]
-pub struct Framing {
-    pub answer: Verdict,
-    pub frame: [u8; 32],
-}
-
-fn no_line() -> Framing
-    ensures { result ≡ no_line }
+// The number that a byte stands for as a digit. A letter with 32 set is the small letter: a third range takes the loop below a third
+// of its instructions more.
+#[tactic(auto, using(crate::proofs::DigitValues::figure_digit, crate::proofs::DigitValues::letter_digit, crate::proofs::DigitValues::no_digit))]
+pub fn digit(byte: u8) -> Option<u8>
+    ensures { result ≡ digit_of byte }
 {
-    Framing {
-        answer: Verdict::Refused(Refusal::Line),
-        frame: [0u8; 32],
+    match (byte, byte | 32) {
+        (b'0'..=b'9', _) => Some(byte - b'0'),
+        (_, small @ b'a'..=b'f') => Some(small - b'a' + 10),
+        _ => None,
     }
 }
 
-fn between(value: u8, low: u8, high: u8) -> bool
-    ensures { result ≡ leb low value && leb value high }
+// A line with a digit of zero behind it, so that each byte of its frame has two. This loop takes fewer instructions than a copy by the
+// library, whose call stays one.
+#[tactic(auto, using(crate::proofs::DigitLoop::padded_each))]
+fn padded(line: &[u8]) -> [u8; 64]
+    requires { length line.now ≡ 63 }
+    ensures { result ≡ line.now ++ 48 ∷ [] }
 {
-    (low <= value) & (value <= high)
+    let mut text = [b'0'; 64];
+    for i in 0..63 {
+        text[i] = line[i];
+    }
+    text
 }
 
-// The number that a byte stands for as a digit; 16 where it is no digit. A letter with 32 set is the
-// small letter.
-pub fn digit(byte: u8) -> u8
-    ensures { result ≡ mark byte }
-{
-    if between(byte, b'0', b'9') {
-        return byte - b'0';
-    }
-    let small = byte | 32;
-    if between(small, b'a', b'f') {
-        return small - 87;
-    }
-    16
-}
-
+#[tactic(auto, using(crate::proofs::Pairs::paired_each))]
 fn pairs(values: [u8; 64]) -> [u8; 32]
     requires { (k : ℕ) → get_or values k 0 < 16 }
     ensures { result ≡ paired values }
 {
     let mut frame = [0u8; 32];
-    let mut i = 0;
-    while i < 32 {
+    for i in 0..32 {
         frame[i] = values[2 * i] * 16 + values[2 * i + 1];
-        i += 1;
     }
     frame
 }
 
-// The frame of a line, whatever it holds. Its loops make a fixed number of turns and have no way out,
-// so that the compiler takes sixteen bytes at a time.
-pub fn frame_of_line(line: &[u8]) -> Framing
-    ensures value { result ≡ framing line.now }
-    ensures answer_value { answers result.answer ≡ framing_says line.now }
+// The frame of a line, where it is one. The loops make a fixed number of turns and have no way out, so that the compiler
+// takes sixteen bytes at a time.
+#[tactic(auto, using(crate::proofs::DigitLoop::frame_asks, crate::proofs::DigitLoop::digits_told, crate::proofs::DigitLoop::framed))]
+fn frame_in(line: &[u8]) -> Option<[u8; 32]>
+    ensures { result ≡ frame_in line.now }
 {
     if line.len() != 63 {
-        return no_line();
+        return None;
     }
-    // The line with a digit of zero behind it, so that each byte has two.
-    let mut text = [b'0'; 64];
-    let mut k = 0;
-    while k < 63 {
-        text[k] = line[k];
-        k += 1;
-    }
+    let text = padded(line);
     let mut values = [0u8; 64];
     let mut all = true;
-    let mut i = 0;
-    while i < 64 {
+    for i in 0..64 {
         let value = digit(text[i]);
-        values[i] = value;
-        all = all & (value < 16);
-        i += 1;
+        values[i] = value.unwrap_or(0);
+        all = all & value.is_some();
     }
     if !all {
-        return no_line();
+        return None;
     }
-    Framing {
-        answer: Verdict::Fine,
-        frame: pairs(values),
+    Some(pairs(values))
+}
+
+// The frame of a line, whatever it holds.
+#[tactic(auto, using(crate::proofs::LineEnds::framing_told, crate::proofs::LineEnds::framing_said))]
+pub fn frame_of_line(line: &[u8]) -> Result<[u8; 32], Refusal>
+    ensures value { result ≡ outcome (framing line.now).answer (framing line.now).frame }
+    ensures answer_value { answers result ≡ framing_says line.now }
+{
+    frame_in(line).ok_or(Refusal::Line)
+}
+
+// What a line says, whatever it holds. Here and below the frame is handed on by an Option: in a Result it would share its bytes with
+// the value of a refusal, and the compiler would move them one by one.
+#[tactic(auto, using(crate::proofs::LineEnds::reads_on, crate::proofs::LineEnds::reads_no_more, crate::proofs::LineEnds::line_said))]
+pub fn read_line(line: &[u8]) -> Result<Record, Refusal>
+    ensures value { result ≡ outcome (line_reading line.now).answer (line_reading line.now).record }
+    ensures answer_value { answers result ≡ line_says line.now }
+{
+    match frame_in(line) {
+        Some(frame) => report::read::read(&frame),
+        None => Err(Refusal::Line),
     }
 }
 
-// What a line says, whatever it holds.
-pub fn read_line(line: &[u8]) -> Reading
-    ensures value { result ≡ line_reading line.now }
-    ensures answer_value { answers result.answer ≡ line_says line.now }
+// What is seen of a line, whatever it holds. One function for both would take what it calls as a closure, with a clause for each
+// of the two results, and be longer than either.
+#[tactic(auto, using(crate::proofs::LineEnds::reads_on, crate::proofs::LineEnds::reads_no_more, crate::proofs::LineEnds::look_said))]
+pub fn look_line(line: &[u8]) -> Result<Looked, Refusal>
+    ensures value { result ≡ look_told (seen (line_reading line.now)) }
+    ensures answer_value { answers result ≡ line_says line.now }
 {
-    let framing = frame_of_line(line);
-    let answer = framing.answer;
-    let frame = framing.frame;
-    match answer {
-        Verdict::Fine => report::read::read(&frame),
-        Verdict::Refused(_) => Reading {
-            answer,
-            record: Record::of_zeros(),
-        },
-    }
-}
-
-// What is seen of a line, whatever it holds.
-pub fn look_line(line: &[u8]) -> Looked
-    ensures value { result ≡ seen (line_reading line.now) }
-    ensures answer_value { answers result.answer ≡ line_says line.now }
-{
-    let framing = frame_of_line(line);
-    let answer = framing.answer;
-    let frame = framing.frame;
-    match answer {
-        Verdict::Fine => report::look::look(&frame),
-        Verdict::Refused(_) => Looked::refused(answer),
-    }
+    let Some(frame) = frame_in(line) else {
+        return Err(Refusal::Line);
+    };
+    report::look::look(&frame)
 }

@@ -3,7 +3,8 @@ ghost use Rattle.std.specs.Prelude.{◌≡◌, [], ◌∷◌, ◌+◌, ◌*◌, 
 ghost use Rattle.line.specs.Lines.{capital, line_answer, line_into, line_write_says};
 ghost use Rattle.rows.specs.Refusals.{answers};
 
-use rows::refusal::{Refusal, Verdict};
+use rows::question::unless;
+use rows::refusal::Refusal;
 
 fn capital(n: u8) -> u8
     requires { n < 16 }
@@ -33,27 +34,20 @@ fn put_pair(buffer: &mut [u8], i: usize, byte: u8)
 
 // Writes a lent frame to the first 63 bytes of a lent buffer, and touches no other. A frame with
 // something in its padding is 2: a line has no digit for all of it.
-pub fn write_line(frame: &[u8], buffer: &mut [u8]) -> Verdict
+#[tactic(auto, unfolding(crate::specs::Lines::line_answer))]
+pub fn write_line(frame: &[u8], buffer: &mut [u8]) -> Result<(), Refusal>
     ensures value { (result ≡ line_answer frame.now (length buffer.old)) × (buffer.new ≡ line_into frame.now buffer.old) }
     ensures result_value { answers result ≡ line_write_says frame.now (length buffer.old) }
 {
-    if frame.len() != 32 {
-        return Verdict::Refused(Refusal::Length);
-    }
-    if bits::field8(frame, 250, 6) != 0 {
-        return Verdict::Refused(Refusal::Padding);
-    }
-    if buffer.len() < 63 {
-        return Verdict::Refused(Refusal::Short);
-    }
+    unless(frame.len() == 32, Refusal::Length)?;
+    unless(bits::field::<u8>(frame, 250, 6) == 0, Refusal::Padding)?;
+    unless(buffer.len() >= 63, Refusal::Short)?;
     // Bytes 0 to 15, and 15 to 30: a loop of sixteen turns is one that the compiler takes at once, and
     // byte 15 may be put twice.
-    let mut i = 0;
-    while i < 16 {
+    for i in 0..16 {
         put_pair(buffer, i, frame[i]);
         put_pair(buffer, i + 15, frame[i + 15]);
-        i += 1;
     }
     buffer[62] = capital(frame[31] / 16);
-    Verdict::Fine
+    Ok(())
 }

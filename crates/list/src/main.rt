@@ -51,20 +51,6 @@ impl Debug for Fault {
     }
 }
 
-// What comes behind a chunk: another, the end of the input, or nothing, since the listing was cut.
-#[derive(Clone, Copy)]
-enum Next {
-    Chunk,
-    End,
-    Cut,
-}
-
-#[derive(Clone, Copy)]
-struct Turn {
-    progress: Progress,
-    next: Next,
-}
-
 fn write(output: &mut impl Write, text: &[u8]) -> Result<(), Fault> {
     match output.write_all(text) {
         Ok(()) => Ok(()),
@@ -77,47 +63,30 @@ fn write(output: &mut impl Write, text: &[u8]) -> Result<(), Fault> {
 fn read(input: &mut impl Read, chunk: &mut [u8]) -> Result<usize, Fault>
     ensures { IfOk result (λ n. n ≤ length chunk.new) }
 {
-    match input.read(chunk) {
-        Ok(n) => Ok(n),
-        Err(e) => Err(Fault::Input(e)),
-    }
+    input.read(chunk).map_err(Fault::Input)
 }
 
-// Reads once and writes the rows of the lines that ended.
+// Reads once and writes the rows of the lines that ended; at the end of the input, that of a last line which lacks its line
+// feed. None where nothing is left to list.
 fn pass(
     from: Progress,
     input: &mut impl Read,
     output: &mut impl Write,
     chunk: &mut [u8],
     text: &mut [u8],
-) -> Result<Turn, Fault> {
+) -> Result<Option<Progress>, Fault> {
     let n = read(input, chunk)?;
     if n == 0 {
-        return Ok(Turn {
-            progress: from,
-            next: Next::End,
-        });
+        let written = listing::scan::finish(from, text);
+        write(output, &text[..written])?;
+        return Ok(None);
     }
     let step = listing::scan::scan(from, &chunk[..n], text);
-    let written = step.written;
-    let progress = step.progress;
-    write(output, &text[..written])?;
-    if progress.lines <= LIMIT {
-        return Ok(Turn {
-            progress: progress,
-            next: Next::Chunk,
-        });
+    write(output, &text[..step.written])?;
+    if step.progress.lines > LIMIT {
+        return Ok(None);
     }
-    Ok(Turn {
-        progress: progress,
-        next: Next::Cut,
-    })
-}
-
-// A last line that lacks its line feed.
-fn end(from: Progress, output: &mut impl Write, text: &mut [u8]) -> Result<(), Fault> {
-    let written = listing::scan::finish(from, text);
-    write(output, &text[..written])
+    Ok(Some(step.progress))
 }
 
 // All of the input. A proved loop has to end, and nothing says that the input does: so it counts.
@@ -129,19 +98,10 @@ fn all(
 ) -> Result<(), Fault> {
     let mut progress = Progress::behind(0);
     for _ in 0..u64::MAX {
-        let turn = pass(progress, input, output, chunk, text)?;
-        let reached = turn.progress;
-        progress = reached;
-        let next = turn.next;
-        match next {
-            Next::Chunk => {}
-            Next::End => {
-                return end(progress, output, text);
-            }
-            Next::Cut => {
-                return Ok(());
-            }
-        }
+        let Some(next) = pass(progress, input, output, chunk, text)? else {
+            return Ok(());
+        };
+        progress = next;
     }
     Ok(())
 }

@@ -1,4 +1,6 @@
 -- What is claimed of the listing (document 01, "The listing").
+use Rattle.report.specs.Runs.Reading.{Reading}
+use Rattle.std.specs.Prelude.{Ok, Err, None, Some}
 use Rattle.report.specs.declared.record.Record.{Record}
 use Rattle.report.specs.declared.body.Body.{Body}
 use Rattle.report.specs.declared.body.Body.TheVariants.{AshFall, Flood, Hypocenter, Intensity, Nankai, Tsunami, Volcano}
@@ -10,7 +12,6 @@ use Rattle.hypocenter.specs.declared.Quake.{Quake}
 use Rattle.nankai.specs.declared.PageNumbers.{PageNumbers}
 use Rattle.report.specs.Meaning.{used_of}
 use Rattle.report.specs.Categories.{layout}
-use Rattle.rows.specs.declared.refusal.Verdict.TheVariants.{Fine, Refused}
 use Rattle.rows.specs.declared.refusal.Refusal.{Refusal}
 use Rattle.rows.specs.declared.refusal.Refusal.TheVariants.{Range}
 use mathlib.Core.Path.{◌≡◌, refl, sym, ap, ◌∙◌}
@@ -23,12 +24,9 @@ use borrow.Author.Tests.{lt-ltb, le-ltb, ne_eqb}
 use lib.Dec.{eqb}
 use lib.ListN.{length, take}
 use lib.Seq.{take_all, take-append_seam}
-use Rattle.report.specs.declared.read.Reading.{Reading}
 use Rattle.rows.specs.Runs.Verdict.{allowed}
 use Rattle.line.specs.Lines.{digits, line_reading}
 use Rattle.rows.specs.Refusals.{plain, says}
-use Rattle.listing.specs.declared.row.Entry.TheVariants.{Dash, Number}
-use Rattle.listing.specs.declared.row.Value.TheVariants.{Dash as NoValue, Number as Found}
 use Rattle.listing.specs.declared.progress.Progress.{Progress}
 use Rattle.listing.specs.Rows.{Filled, row_for, row_of, slots_entry, refused_row, row_text, heading_text, cut_text, longest, filled_by}
 use Rattle.listing.specs.Listing.{onto, lines_of, line_row, limit, rows_from, listing}
@@ -152,33 +150,33 @@ empty_line_makes_17 n = other_length_makes_17 n [] (λ e. omega arith)
 
 -- "slots used in categories 3 and 9", of category 5 "the listing counts them as slots", and of 8 and 11 "the listing counts places and areas as
 -- slots": the number of used slots there, and nothing in the others
-pub slots_are_shown_in_category_3 : (r : Record) (t : Shaking) → r.body ≡ Intensity t → (row_for Fine r).slots ≡ Number (used_of r)
+pub slots_are_shown_in_category_3 : (r : Record) (t : Shaking) → r.body ≡ Intensity t → (row_for (Ok tt) r).slots ≡ Some (used_of r)
 slots_are_shown_in_category_3 r t e = ap (λ (b : Body). slots_entry (layout b).slots.count (used_of r)) e
 
-pub slots_are_shown_in_category_5 : (r : Record) (w : Warning) → r.body ≡ Tsunami w → (row_for Fine r).slots ≡ Number (used_of r)
+pub slots_are_shown_in_category_5 : (r : Record) (w : Warning) → r.body ≡ Tsunami w → (row_for (Ok tt) r).slots ≡ Some (used_of r)
 slots_are_shown_in_category_5 r w e = ap (λ (b : Body). slots_entry (layout b).slots.count (used_of r)) e
 
-pub slots_are_shown_in_category_8 : (r : Record) (a : Activity) → r.body ≡ Volcano a → (row_for Fine r).slots ≡ Number (used_of r)
+pub slots_are_shown_in_category_8 : (r : Record) (a : Activity) → r.body ≡ Volcano a → (row_for (Ok tt) r).slots ≡ Some (used_of r)
 slots_are_shown_in_category_8 r a e = ap (λ (b : Body). slots_entry (layout b).slots.count (used_of r)) e
 
-pub slots_are_shown_in_category_9 : (r : Record) (u : Eruption) → r.body ≡ AshFall u → (row_for Fine r).slots ≡ Number (used_of r)
+pub slots_are_shown_in_category_9 : (r : Record) (u : Eruption) → r.body ≡ AshFall u → (row_for (Ok tt) r).slots ≡ Some (used_of r)
 slots_are_shown_in_category_9 r u e = ap (λ (b : Body). slots_entry (layout b).slots.count (used_of r)) e
 
-pub slots_are_shown_in_category_11 : (r : Record) → r.body ≡ Flood → (row_for Fine r).slots ≡ Number (used_of r)
+pub slots_are_shown_in_category_11 : (r : Record) → r.body ≡ Flood → (row_for (Ok tt) r).slots ≡ Some (used_of r)
 slots_are_shown_in_category_11 r e = ap (λ (b : Body). slots_entry (layout b).slots.count (used_of r)) e
 
-pub no_slots_are_shown_in_category_2 : (r : Record) (q : Quake) → r.body ≡ Hypocenter q → (row_for Fine r).slots ≡ Dash
+pub no_slots_are_shown_in_category_2 : (r : Record) (q : Quake) → r.body ≡ Hypocenter q → (row_for (Ok tt) r).slots ≡ None
 no_slots_are_shown_in_category_2 r q e = ap (λ (b : Body). slots_entry (layout b).slots.count (used_of r)) e
 
-pub no_slots_are_shown_in_category_4 : (r : Record) (p : PageNumbers) → r.body ≡ Nankai p → (row_for Fine r).slots ≡ Dash
+pub no_slots_are_shown_in_category_4 : (r : Record) (p : PageNumbers) → r.body ≡ Nankai p → (row_for (Ok tt) r).slots ≡ None
 no_slots_are_shown_in_category_4 r p e = ap (λ (b : Body). slots_entry (layout b).slots.count (used_of r)) e
 
 -- "a sixth column `value`, a dash unless the answer is 8": with 8 the value, be it 0, with any other number and of a frame that was read a dash
-pub a_refused_value_is_shown : (r : Record) (p v : ℕ) → (row_for (Refused (Range p v)) r).value ≡ Found v
+pub a_refused_value_is_shown : (r : Record) (p v : ℕ) → (row_for (Err (Range p v)) r).value ≡ Some v
 a_refused_value_is_shown r p v = refl
 
-pub no_value_is_shown_with_another_number : (r : Record) (x : Refusal) → ((says x).number ≡ 8 → ⊥) → (row_for (Refused x) r).value ≡ NoValue
+pub no_value_is_shown_with_another_number : (r : Record) (x : Refusal) → ((says x).number ≡ 8 → ⊥) → (row_for (Err x) r).value ≡ None
 no_value_is_shown_with_another_number r x h = simp (ne_eqb (says x).number 8 h)
 
-pub no_value_is_shown_of_a_frame_that_was_read : (r : Record) → (row_for Fine r).value ≡ NoValue
+pub no_value_is_shown_of_a_frame_that_was_read : (r : Record) → (row_for (Ok tt) r).value ≡ None
 no_value_is_shown_of_a_frame_that_was_read r = refl

@@ -25,5 +25,5 @@ dashes = 32 ∷ 45 ∷ 32 ∷ 45 ∷ 32 ∷ 45 ∷ 32 ∷ 45 ∷ 10 ∷ []
 
 -- "1 3", "2 4", "3 17", "4 2", each with four dashes
 pub four_lines_are_listed_so : listing four_lines ≡ heading_text ++ (49 ∷ 32 ∷ 51 ∷ dashes ++ (50 ∷ 32 ∷ 52 ∷ dashes ++ (51 ∷ 32 ∷ 49 ∷ 55 ∷ dashes ++ (52 ∷ 32 ∷ 50 ∷ dashes))))
-unfolding listing lines_of onto rows_from limit line_row row_text decimal figures line_reading is_line all_digits allowed frame_of_line paired outer_of ◌then◌ unless parity_of step
+unfolding listing lines_of onto rows_from limit line_row row_text decimal figures line_reading is_line all_digits allowed frame_of_line paired outer_of parity_of step
 four_lines_are_listed_so = refl

@@ -1,4 +1,5 @@
 -- What is listed of frames that are refused with 8: the value found, be it 0, and of fields that go together that of the one at the place.
+use Rattle.std.specs.Prelude.{None, Some}
 use mathlib.Core.Path.{◌≡◌, ◌∙◌, ap, refl}
 use native.Mathlib.Omega.{arith}
 use mathlib.Core.List.{List, [], ◌∷◌, ◌++◌}
@@ -12,8 +13,6 @@ use Rattle.report.specs.Runs.Reading.{outer_of}
 use Rattle.line.specs.Lines.{all_digits, is_line, paired, frame_of_line, line_reading}
 use Rattle.lent.specs.Numbers.{decimal, figures}
 use Rattle.lent.proofs.Decimals.{decimal_by, decimal_one}
-use Rattle.listing.specs.declared.row.Entry.TheVariants.{Dash, Number}
-use Rattle.listing.specs.declared.row.Value.TheVariants.{Number as Found}
 use Rattle.listing.specs.Rows.{row_of, row_text, heading_text}
 use Rattle.listing.specs.Listing.{onto, lines_of, line_row, limit, rows_from, listing}
 
@@ -51,7 +50,7 @@ rows_with_values =
     ∷ 10 ∷ []
 
 pub refused_values_are_listed_so : listing refused_lines ≡ heading_text ++ rows_with_values
-unfolding listing lines_of onto rows_from limit line_row row_text decimal figures line_reading is_line all_digits allowed frame_of_line paired outer_of ◌then◌ unless parity_of step body_from verdict values_of walk judge slots_verdict later empty
+unfolding listing lines_of onto rows_from limit line_row row_text decimal figures line_reading is_line all_digits allowed frame_of_line paired outer_of parity_of step body_from verdict values_of walk judge slots_verdict later empty
 refused_values_are_listed_so = refl
 
 -- the first flood report of document 004 with a region of forty ones
@@ -59,8 +58,8 @@ abbrev pub widest_line : List ℕ
 widest_line = 53 ∷ 51 ∷ 65 ∷ 70 ∷ 68 ∷ 57 ∷ 65 ∷ 67 ∷ 66 ∷ 49 ∷ 56 ∷ 48 ∷ 48 ∷ 49 ∷ 55 ∷ 70 ∷ 70 ∷ 70 ∷ 70 ∷ 70 ∷ 70 ∷ 70 ∷ 70 ∷ 70 ∷ 56 ∷ 48 ∷ 48 ∷ 48 ∷ 48 ∷ 48 ∷ 48 ∷ 48 ∷ 48 ∷ 48 ∷ 48 ∷ 48 ∷ 48 ∷ 48 ∷ 48 ∷ 48 ∷ 48 ∷ 48 ∷ 48 ∷ 48 ∷ 48 ∷ 48 ∷ 48 ∷ 48 ∷ 48 ∷ 48 ∷ 48 ∷ 48 ∷ 48 ∷ 48 ∷ 49 ∷ 48 ∷ 49 ∷ 51 ∷ 70 ∷ 68 ∷ 50 ∷ 56 ∷ 67 ∷ []
 
 -- "Flood region codes .. need more than 32 bits", and so does the value of an 8 ..
-pub forty_ones_are_told : row_of (line_reading widest_line) ≡ record { answer = 8; place = Number 57; category = Dash; slots = Dash; value = Found 1099511627775 }
-unfolding line_reading is_line all_digits allowed frame_of_line paired outer_of ◌then◌ unless parity_of step body_from verdict values_of walk judge slots_verdict later empty
+pub forty_ones_are_told : row_of (line_reading widest_line) ≡ record { answer = 8; place = Some 57; category = None; slots = None; value = Some 1099511627775 }
+unfolding line_reading is_line all_digits allowed frame_of_line paired outer_of parity_of step body_from verdict values_of walk judge slots_verdict later empty
 forty_ones_are_told = refl
 
 -- .. which is listed with all of its digits: "1 8 57 - - 1099511627775"

@@ -1,70 +1,69 @@
 -- The lines of text of a listing (document 01, "The listing"): "line number from 1, answer (0 when read), first bit for 8, 9, 10, category, slots used in
 -- categories 3 and 9", and in categories 5, 8 and 11; and document 02: "a sixth column `value`".
-use Rattle.std.specs.Prelude.{ℕ, ◌||◌, cond, List, [], ◌∷◌, ◌++◌, length, drop, ltb, eqb}
+use Rattle.report.specs.Runs.Reading.{Reading, Seen, not_seen, unread}
+use Rattle.std.specs.Prelude.{ℕ, ◌||◌, cond, List, [], ◌∷◌, ◌++◌, length, drop, ltb, eqb, Result, Ok, Err, Option, None, Some}
+use Rattle.rows.specs.declared.refusal.Refusal.{Refusal}
 use Rattle.rows.specs.declared.refusal.Said.{Said}
-use Rattle.rows.specs.declared.refusal.Verdict.{Verdict}
-use Rattle.rows.specs.declared.refusal.Verdict.TheVariants.{Fine, Refused}
-use Rattle.report.specs.declared.record.Record.{Record}
-use Rattle.report.specs.declared.read.Reading.{Reading}
-use Rattle.rows.specs.Refusals.{says}
 use Rattle.report.specs.declared.look.Looked.{Looked}
+use Rattle.report.specs.declared.record.Record.{Record}
+use Rattle.rows.specs.Refusals.{says, Verdict}
 use Rattle.report.specs.Meaning.{used_of}
-use Rattle.listing.specs.declared.row.Entry.{Entry}
-use Rattle.listing.specs.declared.row.Entry.TheVariants.{Dash, Number}
 use Rattle.listing.specs.declared.row.Row.{Row}
-use Rattle.listing.specs.declared.row.Value.{Value}
-use Rattle.listing.specs.declared.row.Value.TheVariants.{Dash as NoValue, Number as Found}
 use Rattle.lent.specs.Numbers.{decimal}
 use Rattle.report.specs.Categories.{layout}
 
 -- ---- what is said of a line
 
 -- "first bit for 8, 9, 10", of which 9 is given no more
-abbrev pub place_entry : Said → Entry
-place_entry a = cond (eqb a.number 8 || eqb a.number 10) (Number a.place) Dash
+abbrev pub place_entry : Said → Option ℕ
+place_entry a = cond (eqb a.number 8 || eqb a.number 10) (Some a.place) None
 
 -- "slots used in categories 3 and 9", and in 5, 8 and 11: in those that have slots
-abbrev pub slots_entry : ℕ → ℕ → Entry
-slots_entry count n = cond (eqb count 0) Dash (Number n)
+abbrev pub slots_entry : ℕ → ℕ → Option ℕ
+slots_entry count n = cond (eqb count 0) None (Some n)
 
 -- "a dash unless the answer is 8"
-abbrev pub value_entry : Said → Value
-value_entry a = cond (eqb a.number 8) (Found a.value) NoValue
+abbrev pub value_entry : Said → Option ℕ
+value_entry a = cond (eqb a.number 8) (Some a.value) None
 
 abbrev pub refused_row : Said → Row
-refused_row a = record { answer = a.number; place = place_entry a; category = Dash; slots = Dash; value = value_entry a }
+refused_row a = record { answer = a.number; place = place_entry a; category = None; slots = None; value = value_entry a }
 
 -- "Category and slots are given only for a frame that was read"
 abbrev pub row_for : Verdict → Record → Row
-row_for Fine r = record { answer = 0; place = Dash; category = Number (layout r.body).code; slots = slots_entry (layout r.body).slots.count (used_of r); value = NoValue }
-row_for (Refused x) r = refused_row (says x)
+row_for (Ok tt) r = record { answer = 0; place = None; category = Some (layout r.body).code; slots = slots_entry (layout r.body).slots.count (used_of r); value = None }
+row_for (Err x) r = refused_row (says x)
 
 abbrev pub row_of : Reading → Row
 row_of r = row_for r.answer r.«record»
 
 -- the same from what a look tells, as code makes it
-abbrev pub row_seen : Verdict → Looked → Row
-row_seen Fine l = record { answer = 0; place = Dash; category = Number l.category; slots = slots_entry l.count l.used; value = NoValue }
-row_seen (Refused x) l = refused_row (says x)
+abbrev pub row_seen : Verdict → Seen → Row
+row_seen (Ok tt) l = record { answer = 0; place = None; category = Some l.category; slots = slots_entry l.count l.used; value = None }
+row_seen (Err x) l = refused_row (says x)
+
+-- what reading and looking hand back, with zeros where they hand back nothing
+abbrev pub reading_of : Result Record Refusal → Reading
+reading_of (Ok r) = record { answer = Ok tt; «record» = r }
+reading_of (Err x) = unread (Err x)
+
+abbrev pub seen_of : Result Looked Refusal → Seen
+seen_of (Ok l) = record { answer = Ok tt; category = l.category; count = l.count; used = l.used }
+seen_of (Err x) = not_seen (Err x)
 
 -- ---- as text
 
--- an entry of one byte, with room for 64 bits
-abbrev pub widened : Entry → Value
-widened Dash = NoValue
-widened (Number n) = Found n
-
 -- an entry behind a space: "A dash stands where there is nothing to say"
-abbrev pub entry_text : Value → List ℕ
-entry_text NoValue = 32 ∷ 45 ∷ []
-entry_text (Found n) = 32 ∷ decimal n
+abbrev pub entry_text : Option ℕ → List ℕ
+entry_text None = 32 ∷ 45 ∷ []
+entry_text (Some n) = 32 ∷ decimal n
 
 -- the row of the line with this number
 unfoldable pub row_text : ℕ → Row → List ℕ
 row_text n r =
     decimal n
-    ++ (entry_text (Found r.answer)
-    ++ (entry_text (widened r.place) ++ (entry_text (widened r.category) ++ (entry_text (widened r.slots) ++ (entry_text r.value ++ (10 ∷ []))))))
+    ++ (entry_text (Some r.answer)
+    ++ (entry_text r.place ++ (entry_text r.category ++ (entry_text r.slots ++ (entry_text r.value ++ (10 ∷ []))))))
 
 -- "line answer place dc slots", and `value`
 unfoldable pub heading_text : List ℕ

@@ -5,7 +5,6 @@ ghost use Rattle.listing.specs.Listing.{limit};
 ghost use Rattle.listing.specs.Scanning.{begun_in, after_scan, scanned, finished};
 ghost use Rattle.listing.specs.Pieces.{NoFeed, Found, Scanned};
 
-use crate::number::least;
 use crate::progress::Progress;
 use crate::row::{LONGEST, Row, put_cut, put_row, write_one};
 use line::look_line;
@@ -29,10 +28,8 @@ fn no_feed(s: &[u8], from: usize) -> bool
     ensures { result ≡ true → NoFeed s.now from (from + 63) }
 {
     let mut none = true;
-    let mut i = 0;
-    while i < 64 {
+    for i in 0..64 {
         none = none & ((s[from + i] != b'\n') | (i == 63));
-        i += 1;
     }
     none
 }
@@ -43,21 +40,15 @@ fn find(s: &[u8], from: usize) -> usize
     requires { from ≤ length s.now }
     ensures { Found s.now from result }
 {
-    if s.len() - from >= 64 {
-        if s[from + 63] == b'\n' {
-            if no_feed(s, from) {
-                return from + 63;
-            }
-        }
+    if s.len() - from >= 64 && s[from + 63] == b'\n' && no_feed(s, from) {
+        return from + 63;
     }
-    let mut i = from;
-    while i < s.len() {
+    for i in from..s.len() {
         if s[i] == b'\n' {
             return i;
         }
-        i += 1;
     }
-    i
+    s.len()
 }
 
 // The chunk from index `from` on, where a line begins. Lines are read where they stand; what is left
@@ -67,37 +58,31 @@ fn scan_lines(lines: u32, chunk: &[u8], from: usize, out: &mut [u8], to: usize) 
     ensures { Scanned lines [] (drop from chunk.now) out.old out.new to result }
 {
     let used = chunk.len() - from;
-    let mut n = lines;
     let mut at = from;
     let mut put = to;
-    while n < LIMIT {
+    for n in lines..LIMIT {
         let end = find(chunk, at);
         if end == chunk.len() {
-            let rest = Progress::behind(n).with(&chunk[at..]);
             return Step {
-                progress: rest,
+                progress: Progress::behind(n).with(&chunk[at..]),
                 written: put,
-                used: used,
+                used,
             };
         }
-        let said = Row::seen(look_line(&chunk[at..end]));
-        n += 1;
-        let next = put_row(out, put, n, said);
-        put = next;
+        put = put_row(out, put, n + 1, Row::seen(look_line(&chunk[at..end])));
         at = end + 1;
     }
     if at < chunk.len() {
-        let next = put_cut(out, put);
         return Step {
-            progress: Progress::behind(n + 1),
-            written: next,
-            used: used,
+            progress: Progress::behind(LIMIT + 1),
+            written: put_cut(out, put),
+            used,
         };
     }
     Step {
-        progress: Progress::behind(n),
+        progress: Progress::behind(LIMIT),
         written: put,
-        used: used,
+        used,
     }
 }
 
@@ -107,27 +92,20 @@ fn scan_first(from: Progress, chunk: &[u8], out: &mut [u8]) -> Step
     ensures { Scanned from.lines (begun_in from) chunk.now out.old out.new 0 result }
 {
     let used = chunk.len();
-    let lines = from.lines;
     let end = find(chunk, 0);
     let first = from.with(&chunk[..end]);
     if end == used {
         return Step {
             progress: first,
             written: 0,
-            used: used,
+            used,
         };
     }
-    let begun = first.begun;
-    let length = first.length;
-    let said = Row::seen(look_line(&begun[..length]));
-    let put = put_row(out, 0, lines + 1, said);
-    let rest = scan_lines(lines + 1, chunk, end + 1, out, put);
-    let progress = rest.progress;
-    Step {
-        progress: progress,
-        written: rest.written,
-        used: used,
-    }
+    let number = from.lines + 1;
+    let said = Row::seen(look_line(&first.begun[..first.length]));
+    let put = put_row(out, 0, number, said);
+    let rest = scan_lines(number, chunk, end + 1, out, put);
+    Step { used, ..rest }
 }
 
 // A whole chunk, with that room. Behind the last line that is read, its first byte is answered once.
@@ -136,25 +114,20 @@ fn scan_all(from: Progress, chunk: &[u8], out: &mut [u8]) -> Step
     ensures { Scanned from.lines (begun_in from) chunk.now out.old out.new 0 result }
 {
     let used = chunk.len();
-    let lines = from.lines;
-    if lines < LIMIT {
+    if from.lines < LIMIT {
         return scan_first(from, chunk, out);
     }
-    if lines == LIMIT {
-        if 0 < used {
-            let next = put_cut(out, 0);
-            return Step {
-                progress: Progress::behind(lines + 1),
-                written: next,
-                used: used,
-            };
-        }
+    if from.lines == LIMIT && 0 < used {
+        return Step {
+            progress: Progress::behind(LIMIT + 1),
+            written: put_cut(out, 0),
+            used,
+        };
     }
-    let none = &chunk[..0];
     Step {
-        progress: from.with(none),
+        progress: from.with(&chunk[..0]),
         written: 0,
-        used: used,
+        used,
     }
 }
 
@@ -165,7 +138,7 @@ pub fn scan(from: Progress, chunk: &[u8], out: &mut [u8]) -> Step
     ensures is { after_scan result out.new ≡ scanned from chunk.now out.old }
     ensures fits { result.written ≤ length out.old }
 {
-    let most = least(chunk.len(), out.len() / LONGEST);
+    let most = chunk.len().min(out.len() / LONGEST);
     scan_all(from, &chunk[..most], out)
 }
 
@@ -175,13 +148,10 @@ pub fn finish(from: Progress, out: &mut [u8]) -> usize
     ensures is { filled result out.new ≡ finished from out.old }
     ensures fits { result ≤ length out.old }
 {
-    let lines = from.lines;
-    let length = least(from.length, 64);
-    if lines < LIMIT {
-        if 0 < length {
-            let begun = from.begun;
-            return write_one(lines + 1, Row::seen(look_line(&begun[..length])), out);
-        }
+    let length = from.length.min(64);
+    if from.lines < LIMIT && 0 < length {
+        let said = Row::seen(look_line(&from.begun[..length]));
+        return write_one(from.lines + 1, said, out);
     }
     0
 }

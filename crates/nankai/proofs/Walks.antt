@@ -1,9 +1,9 @@
 -- Any text passes.
+use Rattle.std.specs.Prelude.{Ok}
+use Rattle.rows.specs.Refusals.{Verdict}
 use Rattle.bits.specs.Frame.{Bytes}
-use Rattle.rows.specs.declared.refusal.Verdict.TheVariants.{Fine}
 use mathlib.Core.List.{List, [], ◌∷◌}
 use Rattle.rows.specs.declared.refusal.Refusal.TheVariants.{Range}
-use Rattle.rows.specs.declared.refusal.Verdict.{Verdict}
 use Prim.Native.Nat.{◌+◌, ◌^◌, ◌<◌, ◌≤◌, suc, zero, zero-le, ℕ}
 use Rattle.rows.specs.Runs.Questions.{◌then◌}
 use Rattle.rows.specs.Layout.{◌to◌, bytes}
@@ -22,7 +22,7 @@ use Rattle.rows.specs.declared.fields.Spares.{Spares}
 byte : (x : ℕ) → x < 256 → x ≤ 255
 byte x k = omega arith
 
-bytes_pass : (n a : ℕ) (past : List ℕ) (text : List ℕ) → Bytes text → walk past (bytes n a) text ≡ Fine
+bytes_pass : (n a : ℕ) (past : List ℕ) (text : List ℕ) → Bytes text → walk past (bytes n a) text ≡ Ok tt
 unfolding walk judge
 bytes_pass zero a past text h = refl
 bytes_pass (suc n) a past [] h = refl
@@ -32,7 +32,7 @@ bytes_pass (suc n) a past (t ∷ text) h =
     ∙ bytes_pass n (a + 8) (t ∷ past) text (λ i. h (suc i))
 
 -- "Text at 57: 18 bytes, any"
-pub any-text-passes : (text : List ℕ) → Bytes text → walk [] nankai.text text ≡ Fine
+pub any-text-passes : (text : List ℕ) → Bytes text → walk [] nankai.text text ≡ Ok tt
 any-text-passes text h = bytes_pass 18 57 [] text h
 
 -- what is asked of a page's numbers, as the code asks it

@@ -1,8 +1,8 @@
 -- Category 4, Nankai Trough: table 4.1.2-18 of document 001, and what its record holds.
-use Rattle.std.specs.Prelude.{ℕ, List, [], ◌∷◌, map, get_or}
+use Rattle.std.specs.Prelude.{[], ◌∷◌, get_or}
 use Rattle.rows.specs.Layout.{row, within, rising, spare_row, bytes, two_or_seven, uncorrected, spare1, no_slots, Layout}
 use Rattle.rows.specs.declared.fields.Spares.{Spares}
-use Rattle.rows.specs.Values.{cut, Sides}
+use Rattle.rows.specs.Values.{Sides}
 use Rattle.nankai.specs.declared.PageNumbers.{PageNumbers}
 
 abbrev pub nankai : Layout
@@ -29,7 +29,3 @@ numbers_from v = record { serial = get_or v.front 1 0; number = get_or v.behind 
 -- and the values of what they say, with those of the spares, which stand beside it in a record
 abbrev pub number_values : PageNumbers → Spares → Sides
 number_values p z = record { front = z.first ∷ p.serial ∷ []; behind = p.number ∷ p.total ∷ z.second ∷ [] }
-
--- the text of a page
-abbrev pub page_text : List ℕ → List ℕ
-page_text s = map (cut s) nankai.text

@@ -5,9 +5,9 @@
 ghost use Rattle.std.specs.Prelude.{◌≡◌};
 ghost use Rattle.bits.specs.Frame.{field_in, frame_in};
 
-// The field of `width` bits at the bit `first` of a lent frame, as `bits::field64` reads it.
+// The field of `width` bits at the bit `first` of a lent frame, as `bits::field` reads it into 64 bits.
 pub fn one_field(frame: &[u8], first: usize, width: usize) -> u64
     ensures { result ≡ field_in 57 (frame_in frame.now) first width }
 {
-    bits::field64(frame, first, width)
+    bits::field(frame, first, width)
 }

@@ -1,5 +1,5 @@
 pub mod States
-pub mod Sound
+pub mod EqualNames
 pub mod Shapes
 pub mod Numbered
 pub mod Ranges

@@ -31,5 +31,6 @@ Name-verdict_is_settled κs a x y = beside answer
 pub Name-is_in_range_is_settled : Settled promised.name.Name.is_in_range.ended pages.name.Name.is_in_range.Reads.Post
 Name-is_in_range_is_settled κs a x y = answer
 
-pub Name-is_is_settled : Settled promised.name.Name.is.ended pages.name.Name.is.Reads.Post
-Name-is_is_settled κs a x y = answer
+-- `==`
+pub Name-eq_is_settled : Settled promised.name.NamePartialEq.eq.ended pages.name.NamePartialEq.eq.Reads.Post
+Name-eq_is_settled κs a x y = answer

@@ -104,31 +104,13 @@ join_marks_assoc disputed y z = simp dis_left
 -- a page stands for one mark
 pub to_page_inj : (x y : Mark) → to_page x ≡ to_page y → x ≡ y
 to_page_inj absent absent e = refl
-to_page_inj absent (held u) e = absurd (apart (ap (λ (p : Page). p.mark) e))
-  where
-    apart : ◌≡◌ {A = ℕ} 0 1 → ⊥
-    apart z = omega arith
-to_page_inj absent disputed e = absurd (apart (ap (λ (p : Page). p.mark) e))
-  where
-    apart : ◌≡◌ {A = ℕ} 0 2 → ⊥
-    apart z = omega arith
-to_page_inj (held t) absent e = absurd (apart (ap (λ (p : Page). p.mark) e))
-  where
-    apart : ◌≡◌ {A = ℕ} 1 0 → ⊥
-    apart z = omega arith
+to_page_inj absent (held u) e = absurd (omega (arith, ap (λ (p : Page). p.mark) e))
+to_page_inj absent disputed e = absurd (omega (arith, ap (λ (p : Page). p.mark) e))
+to_page_inj (held t) absent e = absurd (omega (arith, ap (λ (p : Page). p.mark) e))
 to_page_inj (held t) (held u) e = ap (λ (p : Page). held p.text) e
-to_page_inj (held t) disputed e = absurd (apart (ap (λ (p : Page). p.mark) e))
-  where
-    apart : ◌≡◌ {A = ℕ} 1 2 → ⊥
-    apart z = omega arith
-to_page_inj disputed absent e = absurd (apart (ap (λ (p : Page). p.mark) e))
-  where
-    apart : ◌≡◌ {A = ℕ} 2 0 → ⊥
-    apart z = omega arith
-to_page_inj disputed (held u) e = absurd (apart (ap (λ (p : Page). p.mark) e))
-  where
-    apart : ◌≡◌ {A = ℕ} 2 1 → ⊥
-    apart z = omega arith
+to_page_inj (held t) disputed e = absurd (omega (arith, ap (λ (p : Page). p.mark) e))
+to_page_inj disputed absent e = absurd (omega (arith, ap (λ (p : Page). p.mark) e))
+to_page_inj disputed (held u) e = absurd (omega (arith, ap (λ (p : Page). p.mark) e))
 to_page_inj disputed disputed e = refl
 
 -- the mark of a page for which these texts came

@@ -1,9 +1,7 @@
 -- The name of a bulletin: "Rc, issue time, It, Is and page total".
-use Rattle.std.specs.Prelude.{Bool, true, false, ◌&&◌, eqb, replicate, []}
-use Rattle.rows.specs.declared.refusal.Verdict.{Verdict}
-use Rattle.rows.specs.declared.refusal.Verdict.TheVariants.{Fine, Refused}
+use Rattle.std.specs.Prelude.{Bool, true, false, ◌&&◌, eqb, replicate, [], Ok, Err}
 use Rattle.rows.specs.declared.refusal.Said.{Said}
-use Rattle.rows.specs.Refusals.{answers}
+use Rattle.rows.specs.Refusals.{answers, Verdict}
 use Rattle.nankai.specs.Nankai.{nankai, number_values}
 use Rattle.rows.specs.Runs.Verdict.{verdict}
 use Rattle.pages.specs.declared.name.Name.{Name}
@@ -39,8 +37,8 @@ abbrev pub name_says : Name → Said
 name_says n = answers (name_verdict n)
 
 abbrev pub is_fine : Verdict → Bool
-is_fine Fine = true
-is_fine (Refused x) = false
+is_fine (Ok tt) = true
+is_fine (Err x) = false
 
 abbrev pub name_in_range : Name → Bool
 name_in_range n = is_fine (name_verdict n)

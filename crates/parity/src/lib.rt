@@ -58,14 +58,12 @@ pub fn parity(frame: &[u8]) -> u32
     if frame.len() != 32 {
         return 0;
     }
-    let first = entries(bits::field8(frame, 0, 2));
-    let second = entries(bits::field8(frame, 2, 4));
-    let third = entries(bits::field8(frame, 6, 4));
+    let first = entries(bits::field(frame, 0, 2));
+    let second = entries(bits::field(frame, 2, 4));
+    let third = entries(bits::field(frame, 6, 4));
     let mut register = first[2] ^ second[1] ^ third[0];
-    let mut byte: usize = 1;
-    while byte < 28 {
-        register = after_group(register ^ bits::field32(frame, 8 * byte + 2, 24));
-        byte += 3;
+    for byte in (1..28).step_by(3) {
+        register = after_group(register ^ bits::field::<u32>(frame, 8 * byte + 2, 24));
     }
     register
 }
@@ -74,5 +72,5 @@ pub fn parity(frame: &[u8]) -> u32
 pub fn parity_right(frame: &[u8]) -> bool
     ensures { result ≡ parity_right (frame_in frame.now) }
 {
-    parity(frame) == bits::field32(frame, 226, 24)
+    parity(frame) == bits::field::<u32>(frame, 226, 24)
 }

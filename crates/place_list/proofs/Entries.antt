@@ -7,6 +7,7 @@ use native.Mathlib.Omega.{arith}
 use lib.Dec.{eqb}
 use lib.ListN.{length, get_or}
 use borrow.Author.Tests.{eqb-true, eq-eqb}
+use Rattle.std.proofs.lemmas.Bool.{or_right}
 use Rattle.place_list.specs.Codes.{codes, code_at}
 use Rattle.place_list.specs.Standing.{among, listed}
 use Rattle.place_list.proofs.Halves.{Each}
@@ -18,10 +19,6 @@ record At (place : ℕ) (l : List ℕ) : Type 0 where
   index : ℕ
   within : index < length l
   here : get_or l index 0 ≡ place
-
-or_right : (a b : Bool) → b ≡ true → a || b ≡ true
-or_right true b t = refl
-or_right false b t = t
 
 among-at : (l : List ℕ) (k place : ℕ) → k < length l → get_or l k 0 ≡ place → among place l ≡ true
 among-at [] k place h e = absurd (omega (arith, h))

@@ -9,7 +9,7 @@ use native.Mathlib.Omega.{arith}
 use lib.Dec.{leb, ltb, eqb}
 use borrow.Author.Tests.{leb-true, ltb-true, ltb-false, eqb-true, eqb-false}
 use Rattle.place_list.specs.Search.{past, search, looks}
-use Rattle.place_list.proofs.Tests.{left, right}
+use Rattle.std.proofs.lemmas.Bool.{and_parts}
 
 -- steps that leave one of so many: none is more than half of what is left
 abbrev pub narrows : ℕ → List ℕ → Bool
@@ -91,10 +91,10 @@ module _ (number : ℕ → ℕ) (n place : ℕ) (rising : Rising number n) (Seen
   halves : (steps : List ℕ) (from size : ℕ) → narrows size steps ≡ true → Within from size → Each Seen (looks number place steps from) → First number n place Seen (search number place steps from)
   halves [] from size one w s = ended from (subst (Within from) (eqb-true size 1 one) w)
   halves (step ∷ steps) from size fits w s =
-      let some : 1 ≤ step = leb-true 1 step (left (leb 1 step) _ fits) in
-      let rest : leb (step + step) size && narrows (size - step) steps ≡ true = right (leb 1 step) _ fits in
-      let half : step + step ≤ size = leb-true (step + step) size (left (leb (step + step) size) _ rest) in
-      halves steps (past number place from step) (size - step) (right (leb (step + step) size) _ rest) (stepped from size step some half w s.0) s.1
+      let some : 1 ≤ step = leb-true 1 step (and_parts (leb 1 step) _ fits).0 in
+      let rest : leb (step + step) size && narrows (size - step) steps ≡ true = (and_parts (leb 1 step) _ fits).1 in
+      let half : step + step ≤ size = leb-true (step + step) size (and_parts (leb (step + step) size) _ rest).0 in
+      halves steps (past number place from step) (size - step) (and_parts (leb (step + step) size) _ rest).1 (stepped from size step some half w s.0) s.1
 
 -- steps that leave one of n numbers and what is behind them end at the first number that is not below the place
 pub by_halves : (number : ℕ → ℕ) (n place : ℕ) (steps : List ℕ) (Seen : ℕ → Type 0) → Rising number n → narrows (suc n) steps ≡ true → Each Seen (looks number place steps 0) → First number n place Seen (search number place steps 0)

@@ -11,7 +11,7 @@ use Rattle.place_list.specs.declared.Standing.{Standing}
 use Rattle.place_list.specs.declared.Standing.TheVariants.{Listed, Unlisted, Outside}
 use Rattle.place_list.proofs.Entries.{Entry, entry_listed, listed_entry}
 use Rattle.place_list.proofs.Rules.{in_prefecture_lem}
-use Rattle.place_list.proofs.Tests.{left, right}
+use Rattle.std.proofs.lemmas.Bool.{and_parts, false_from_ne_true}
 
 -- ---- a prefecture's first digits
 
@@ -27,7 +27,7 @@ unfolding in_prefecture
 within-digits place e =
     let a = leb 1 (place / 100000) in
     let b = leb (place / 100000) 47 in
-    (leb-true 1 (place / 100000) (left a b e), leb-true (place / 100000) 47 (right a b e))
+    (leb-true 1 (place / 100000) (and_parts a b e).0, leb-true (place / 100000) 47 (and_parts a b e).1)
 
 pub within : (place : ℕ) → 100000 ≤ place → place ≤ 4799999 → in_prefecture place ≡ true
 within place low high = digits-within place (omega arith, omega arith)
@@ -70,11 +70,6 @@ is_outside place p = by (listed place) refl
 pub entry_is_listed : (place : ℕ) → Entry place → listed place ≡ true
 entry_is_listed place k = ap listed (sym k.here) ∙ entry_listed k.index k.within
 
--- a test that passes only where something is so fails where it is not
-fails : {P : Type 0} (test : Bool) → (test ≡ true → P) → (P → ⊥) → test ≡ false
-fails true law n = absurd (n (law refl))
-fails false law n = refl
-
 abbrev pub Meant : ℕ → Standing → Type 0
 Meant place Listed = Entry place
 Meant place Unlisted = (Entry place → ⊥) × Digits place
@@ -90,8 +85,8 @@ meant place s e = subst (Meant place) e (by (listed place) refl (in_prefecture p
 
 pub given : (place : ℕ) (s : Standing) → Meant place s → standing_of place ≡ s
 given place Listed k = is_listed place (entry_is_listed place k)
-given place Unlisted n = is_unlisted place (fails (listed place) (listed_entry place) n.0) (digits-within place n.1)
-given place Outside n = is_outside place (fails (in_prefecture place) (within-digits place) n)
+given place Unlisted n = is_unlisted place (false_from_ne_true (listed place) (λ e. n.0 (listed_entry place e))) (digits-within place n.1)
+given place Outside n = is_outside place (false_from_ne_true (in_prefecture place) (λ e. n (within-digits place e)))
 
 -- ---- the codes for other places
 
@@ -101,10 +96,10 @@ others (suc p) = listed (suc p * 100000 + 99999) && others p
 
 others-at : (n p : ℕ) → others n ≡ true → 1 ≤ p → p ≤ n → listed (p * 100000 + 99999) ≡ true
 others-at zero p e low high = absurd (omega (arith, low, high))
-others-at (suc n) p e low high = by (eqb p (suc n)) refl (others-at n p (right (listed (suc n * 100000 + 99999)) (others n) e) low)
+others-at (suc n) p e low high = by (eqb p (suc n)) refl (others-at n p (and_parts (listed (suc n * 100000 + 99999)) (others n) e).1 low)
   where
     by : (b : Bool) → eqb p (suc n) ≡ b → (p ≤ n → listed (p * 100000 + 99999) ≡ true) → listed (p * 100000 + 99999) ≡ true
-    by true q later = ap (λ (p : ℕ). listed (p * 100000 + 99999)) (eqb-true p (suc n) q) ∙ left (listed (suc n * 100000 + 99999)) (others n) e
+    by true q later = ap (λ (p : ℕ). listed (p * 100000 + 99999)) (eqb-true p (suc n) q) ∙ (and_parts (listed (suc n * 100000 + 99999)) (others n) e).0
     by false q later = later (omega (arith, high, eqb-false p (suc n) q))
 
 all_others : others 47 ≡ true

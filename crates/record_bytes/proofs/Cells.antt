@@ -12,8 +12,7 @@ use lib.ListN.{length, get_or, set, take, drop, replicate, length-append, length
 use lib.Seq.{append_snoc, drop_at, drop-cons, drop-drop, get_or-drop, length-take-le, set_at, take-add, take_at, take-suc, take-take}
 use Rattle.bits.specs.Frame.{Bytes, eights, number}
 use Rattle.bits.specs.Layout.{Fit, decode, encode, total}
-use Rattle.bits.proofs.Bytes.{number_inj, number_lt, number_more, number_shr}
-use Rattle.bits.proofs.Windows.{narrower}
+use Rattle.bits.proofs.Bytes.{number_inj, number_lt, number_shr}
 use Rattle.bits.proofs.Claims.{decoded_then_encoded}
 use Rattle.lent.specs.Numbers.{wide}
 use Rattle.lent.proofs.Wide.{length-wide}
@@ -279,16 +278,6 @@ cells_again l k (w ∷ ws) b h =
   where
     both : (a b c d : ℕ) → a + (b + c) ≤ d → (b ≤ d - a) × (a + b + c ≤ d)
     both a b c d h = (omega arith, omega arith)
-
--- ---- one byte more
-
-pub number_next : (l : List ℕ) (at k : ℕ) → at + k < length l → number_at l at k * 256 + get_or l (at + k) 0 ≡ number_at l at (k + 1)
-number_next l at k h =
-    ap (λ (x : ℕ). number_at l at k * 256 + x) (sym (get_or-drop at l k 0)) ∙ sym (number_more (drop at l) k (rw (length-drop at l) (omega arith)))
-
--- seven bytes at most are read where there is one to come
-pub seven_bytes : (l : List ℕ) (at k : ℕ) → Bytes l → at + k ≤ length l → k ≤ 7 → number_at l at k < 2 ^ 56
-seven_bytes l at k b h s = narrower (number_at l at k) (8 * k) 56 (number_fits l at k b h) (omega arith)
 
 -- ---- a field has room in its bytes
 

@@ -1,10 +1,10 @@
 -- What this crate claims of its definitions. Each is proved in the file that its last line names.
+use Rattle.std.specs.Prelude.{Err}
 use mathlib.Core.Path.{◌≡◌}
 use mathlib.Core.Bool.{true}
 use Prim.Native.Nat.{ℕ, ◌*◌, ◌≤◌}
 use mathlib.Core.List.{List}
 use lib.ListN.{length, get_or}
-use Rattle.rows.specs.declared.refusal.Verdict.TheVariants.{Refused}
 use Rattle.rows.specs.declared.refusal.Refusal.TheVariants.{Unused}
 use Rattle.report.specs.declared.record.Record.{Record}
 use Rattle.rows.specs.Runs.Verdict.{allowed}
@@ -44,7 +44,7 @@ accepted_bytes_are_given_back = Accepted.accepted_bytes
 
 -- Something behind the category's last field in bytes 9 to 40 is 11, and in its turn: "1, 3, 7, 11, then 8 and 10 by lowest bit".
 pub stray_bytes_are_refused : (l : List ℕ) → stray (body_in_bytes l) l ≡ true → allowed preambles (get_or l 1 0) ≡ true → known (body_in_bytes l) ≡ true
-    → write_answer (unpacked l) 32 ≡ Refused Unused
+    → write_answer (unpacked l) 32 ≡ Err Unused
 stray_bytes_are_refused = Refusing.stray_refused
 
 -- What a field's bits can hold, its bytes can hold, whatever category has it.

@@ -6,40 +6,29 @@ ghost use Rattle.rows.specs.Runs.Fields.{bytes_for};
 ghost use Rattle.record_bytes.specs.Packed.{body_bytes, zero_filled};
 ghost use Rattle.record_bytes.specs.Unpacked.{number_at, misplaced, slot_at, common_in_bytes, size, cells_at, both_in_bytes, slots_from, slots_or_misplaced, record_from};
 
-use crate::sizes::{FIELDS_AT, RECORD_SIZE, SLOT_COUNT, SLOT_SIZE, SLOTS_AT, TEXT_AT, bytes_for};
+use crate::sizes::{
+    FIELDS_AT, FIELDS_SIZE, RECORD_SIZE, SLOT_COUNT, SLOT_SIZE, SLOTS_AT, TEXT_AT, bytes_for,
+};
 use crate::text::text_at;
 use report::body::{Body, BodyAndSpares};
 use report::record::Record;
 use rows::common::Common;
-use rows::fields::Spares;
+use rows::fields::{Fields, Spares};
 use slots::slot::Slot;
 
 // ---- numbers
 
-fn wide(x: u8) -> u64
-    ensures { result ≡ x }
+// The number in eight bytes from the byte `at` on.
+fn number_at(bytes: &[u8], at: usize) -> u64
+    requires { at + 8 ≤ length bytes.now }
+    ensures { result ≡ number_at bytes.now at 8 }
 {
-    x as u64
-}
-
-// The number in so many bytes from the byte `at` on.
-fn number_at(bytes: &[u8], at: usize, count: usize) -> u64
-    requires { (count ≤ 8) × (at + count ≤ length bytes.now) }
-    ensures { result ≡ number_at bytes.now at count }
-{
-    let mut sum: u64 = 0;
-    let mut k = 0;
-    while k < count {
-        sum = sum * 256 + wide(bytes[at + k]);
-        k += 1;
-    }
-    sum
+    u64::from_be_bytes(<[u8; 8]>::try_from(&bytes[at..at + 8]).unwrap())
 }
 
 // ---- 3 to 8
 
-fn common_of(bytes: &[u8]) -> Common
-    requires { length bytes.now ≡ 251 }
+fn common_of(bytes: &[u8; RECORD_SIZE]) -> Common
     ensures { result ≡ common_in_bytes bytes.now }
 {
     Common {
@@ -62,15 +51,13 @@ fn read_cells(bytes: &[u8], at: usize, widths: &[u8], values: &mut [u64]) -> usi
     ensures { (result ≡ at + size widths.now) × (values.new ≡ cells_at bytes.now at widths.now) }
 {
     let mut next = at;
-    let mut k = 0;
-    while k < widths.len() {
+    for k in 0..widths.len() {
         let count = bytes_for(widths[k]);
         if count == 0 {
             return next;
         }
-        values[k] = number_at(bytes, next, 8) >> (64 - 8 * count);
+        values[k] = number_at(bytes, next) >> (64 - 8 * count);
         next += count;
-        k += 1;
     }
     next
 }
@@ -83,53 +70,41 @@ struct BodyAndEnd {
 }
 
 // The body of the category's code, whose table says the widths, and its spares. Without a category nothing keeps what stands
-// behind the first spare, so the bytes end there.
-fn body_of(bytes: &[u8]) -> BodyAndEnd
-    requires { length bytes.now ≡ 251 }
+// behind the first spare, so the bytes end there. What the table says is taken apart: were its parts lent out of the whole, the
+// compiler would copy the whole.
+fn body_of(bytes: &[u8; RECORD_SIZE]) -> BodyAndEnd
     ensures { (result.both ≡ both_in_bytes bytes.now) × ((9 ≤ result.end) × ((result.end ≤ 41) × (body_bytes result.both.body result.both.spares ≡ zero_filled 32 (slice 9 result.end bytes.now)))) }
 {
     let mut front = [0u64; 18];
     let mut behind = [0u64; 3];
-    let blank = Body::of_values(bytes[0], front, behind);
-    let none = blank.body;
-    let fields = none.fields(Spares::none());
-    let table = fields.table;
-    let ahead = fields.ahead;
-    let after = fields.after;
+    let blank = Body::of_values(bytes[0], &front, &behind);
+    let Fields {
+        table,
+        ahead,
+        after,
+        ..
+    } = blank.body.fields(Spares::none());
     let middle = read_cells(bytes, FIELDS_AT, &ahead, &mut front);
     let last = read_cells(bytes, middle, &after, &mut behind);
     let end = if table.code == 0 { middle } else { last };
-    let both = Body::of_values(bytes[0], front, behind);
+    let both = Body::of_values(bytes[0], &front, &behind);
     BodyAndEnd { both, end }
 }
 
-// Whether something stands behind the fields, from the place where they end up to byte 40: eight bytes at a time, and what
-// is left of them one by one.
-fn has_stray(bytes: &[u8], end: usize) -> bool
-    requires { (length bytes.now ≡ 251) × ((9 ≤ end) × (end ≤ 41)) }
+// Whether something stands behind the fields, from the place where they end up to byte 40.
+#[tactic(auto, using(crate::proofs::FromBytes::Stray::zeros_behind))]
+fn has_stray(bytes: &[u8; RECORD_SIZE], end: usize) -> bool
+    requires { (9 ≤ end) × (end ≤ 41) }
     ensures { result ≡ not (same_bytes (take 32 (drop 9 bytes.now)) (zero_filled 32 (slice 9 end bytes.now))) }
 {
-    let mut at = end;
-    while at + 8 <= SLOTS_AT {
-        if number_at(bytes, at, 8) != 0 {
-            return true;
-        }
-        at += 8;
-    }
-    while at < SLOTS_AT {
-        if bytes[at] != 0 {
-            return true;
-        }
-        at += 1;
-    }
-    false
+    bytes[end..SLOTS_AT] != [0u8; FIELDS_SIZE][end - FIELDS_AT..]
 }
 
 // ---- 41 to 232
 
 // Slot k, from 0.
-fn slot_at(bytes: &[u8], k: usize) -> Slot
-    requires { (length bytes.now ≡ 251) × (k < 16) }
+fn slot_at(bytes: &[u8; RECORD_SIZE], k: usize) -> Slot
+    requires { k < 16 }
     ensures { result ≡ slot_at bytes.now (41 + 12 * k) }
 {
     let at = SLOTS_AT + SLOT_SIZE * k;
@@ -138,13 +113,12 @@ fn slot_at(bytes: &[u8], k: usize) -> Slot
         hour: bytes[at + 1],
         minute: bytes[at + 2],
         strength: bytes[at + 3],
-        place: number_at(bytes, at + 4, 8),
+        place: number_at(bytes, at + 4),
     }
 }
 
 // The last slot, and where something is stray one that no category allows.
-fn last_slot(bytes: &[u8], stray: bool) -> Slot
-    requires { length bytes.now ≡ 251 }
+fn last_slot(bytes: &[u8; RECORD_SIZE], stray: bool) -> Slot
     ensures { result ≡ cond stray misplaced (slot_at bytes.now 221) }
 {
     if stray {
@@ -159,54 +133,34 @@ fn last_slot(bytes: &[u8], stray: bool) -> Slot
     slot_at(bytes, 15)
 }
 
-// The slots, the last of which tells of what is stray. Each is read at a place that the compiler knows, so that it goes from
-// the bytes into the record, where a loop would fill an array first. The last one goes first: behind its test the compiler
-// makes one load of a place's eight bytes, and before it one of each byte.
-fn slots_of(bytes: &[u8], stray: bool) -> [Slot; SLOT_COUNT]
-    requires { length bytes.now ≡ 251 }
+// The slots, the last of which tells of what is stray.
+fn slots_of(bytes: &[u8; RECORD_SIZE], stray: bool) -> [Slot; SLOT_COUNT]
     ensures { result ≡ slots_or_misplaced stray (slots_from bytes.now) }
 {
-    let last = last_slot(bytes, stray);
-    [
-        slot_at(bytes, 0),
-        slot_at(bytes, 1),
-        slot_at(bytes, 2),
-        slot_at(bytes, 3),
-        slot_at(bytes, 4),
-        slot_at(bytes, 5),
-        slot_at(bytes, 6),
-        slot_at(bytes, 7),
-        slot_at(bytes, 8),
-        slot_at(bytes, 9),
-        slot_at(bytes, 10),
-        slot_at(bytes, 11),
-        slot_at(bytes, 12),
-        slot_at(bytes, 13),
-        slot_at(bytes, 14),
-        last,
-    ]
+    let mut slots = [Slot::none(); SLOT_COUNT];
+    for k in 0..SLOT_COUNT {
+        slots[k] = slot_at(bytes, k);
+    }
+    slots[15] = last_slot(bytes, stray);
+    slots
 }
 
 // The record that 251 lent bytes are, whatever they are. Bytes of another length are a record of zeros.
+#[tactic(auto, unfolding(crate::specs::Unpacked::record_from))]
 pub fn unpack(bytes: &[u8]) -> Record
     ensures { result ≡ record_from bytes.now }
 {
-    if bytes.len() != RECORD_SIZE {
+    let Ok(bytes) = <&[u8; RECORD_SIZE]>::try_from(bytes) else {
         return Record::of_zeros();
-    }
+    };
     let own = body_of(bytes);
-    let both = own.both;
-    let body = both.body;
-    let spares = both.spares;
-    let slots = slots_of(bytes, has_stray(bytes, own.end));
-    let text = text_at(bytes, TEXT_AT);
     Record {
         preamble: bytes[1],
         reserved: bytes[2],
         common: common_of(bytes),
-        body: body,
-        slots: slots,
-        text: text,
-        spares: spares,
+        body: own.both.body,
+        slots: slots_of(bytes, has_stray(bytes, own.end)),
+        text: text_at(bytes, TEXT_AT),
+        spares: own.both.spares,
     }
 }

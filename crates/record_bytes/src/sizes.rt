@@ -22,17 +22,11 @@ pub(crate) const TEXT_AT: usize = 233;
 pub(crate) fn bytes_for(width: u8) -> usize
     ensures { (result ≡ bytes_for width) × (result ≤ 8) }
 {
-    if width == 0 {
-        return 0;
+    match width {
+        0 => 0,
+        1..=8 => 1,
+        9..=16 => 2,
+        17..=32 => 4,
+        _ => 8,
     }
-    if width <= 8 {
-        return 1;
-    }
-    if width <= 16 {
-        return 2;
-    }
-    if width <= 32 {
-        return 4;
-    }
-    8
 }

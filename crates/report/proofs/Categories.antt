@@ -1,12 +1,12 @@
 -- What is known of each category: its table is listed, and a body and its values tell each other. A category that is added has its
 -- lines here; the other laws go by these.
+use Rattle.std.specs.Prelude.{Ok, Err, None, Some}
 use Rattle.report.specs.declared.body.Body.TheVariants.{AshFall, Flood, Hypocenter, Intensity, Nankai, NoCategory, Tsunami, Volcano}
 use Rattle.report.specs.declared.body.Body.{Body}
 use mathlib.Core.Bool.{Bool, ◌&&◌, ◌||◌, cond, false, true, not}
 use lib.Dec.{eqb}
 use borrow.Author.Tests.{ne_eqb}
 use Rattle.rows.specs.Runs.Verdict.{allowed, walk}
-use Rattle.rows.specs.declared.refusal.Verdict.TheVariants.{Fine, Refused}
 use Rattle.rows.specs.declared.refusal.Refusal.TheVariants.{Range}
 use Rattle.rows.proofs.Rules.Spares.{behind-two, not_ranged, spare_bit, spare_width, too_wide}
 use Rattle.nankai.proofs.Walks.{behind-walk}
@@ -37,7 +37,6 @@ use Rattle.tsunami.specs.Tsunami.{tsunami, warning_from}
 use Rattle.volcano.specs.Volcano.{volcano, activity_from}
 use Rattle.flood.specs.Flood.{flood}
 use Rattle.report.specs.Categories.{body_from, categories, layout, sides_of, paged_of}
-use Rattle.report.specs.declared.body.Paged.TheVariants.{NoPages, Numbers}
 use Rattle.nankai.specs.declared.PageNumbers.{PageNumbers}
 
 -- ---- tables
@@ -120,7 +119,7 @@ spares_again (Volcano a) z h = refl
 spares_again (AshFall e) z h = refl
 spares_again Flood z h = refl
 
-not_paged : (p : PageNumbers) → NoPages ≡ Numbers p → ⊥
+not_paged : (p : PageNumbers) → None ≡ Some p → ⊥
 not_paged p e = let z : ◌≡◌ {A = ℕ} 0 1 = cc in apart z
   where
     apart : ◌≡◌ {A = ℕ} 0 1 → ⊥
@@ -139,7 +138,7 @@ told_apart (AshFall e) = inr (allowed_in categories 9 refl)
 told_apart Flood = inr (allowed_in categories 11 refl)
 
 -- category 4 alone brings a page
-pub page_or_none : (b : Body) → ((p : PageNumbers) × (b ≡ Nankai p)) ⊎ (paged_of b ≡ NoPages)
+pub page_or_none : (b : Body) → ((p : PageNumbers) × (b ≡ Nankai p)) ⊎ (paged_of b ≡ None)
 page_or_none NoCategory = inr refl
 page_or_none (Hypocenter q) = inr refl
 page_or_none (Intensity t) = inr refl
@@ -149,10 +148,10 @@ page_or_none (Volcano a) = inr refl
 page_or_none (AshFall e) = inr refl
 page_or_none Flood = inr refl
 
-pub paged_back : (b : Body) (p : PageNumbers) → paged_of b ≡ Numbers p → b ≡ Nankai p
+pub paged_back : (b : Body) (p : PageNumbers) → paged_of b ≡ Some p → b ≡ Nankai p
 paged_back b p e = ⊎_elim (λ k. k.1 ∙ ap Nankai (same k.0 (sym (ap paged_of k.1) ∙ e))) (λ n. absurd (not_paged p (sym n ∙ e))) (page_or_none b)
   where
-    same : (q : PageNumbers) → Numbers q ≡ Numbers p → q ≡ p
+    same : (q : PageNumbers) → Some q ≡ Some p → q ≡ p
     same q h = cc
 
 -- a category has no text, or one where category 4 has it
@@ -263,7 +262,7 @@ spares_told s = by_category (λ (dc : ℕ). spares_at s (layout (body_by s dc)) 
 
 -- ---- a spare that is too wide
 
-pub first_refused : (b : Body) (z : Spares) → 2 ^ spare_width (layout b).front ≤ z.first → walk [] (layout b).front (sides_of b z).front ≡ Refused (Range (spare_bit (layout b).front) z.first)
+pub first_refused : (b : Body) (z : Spares) → 2 ^ spare_width (layout b).front ≤ z.first → walk [] (layout b).front (sides_of b z).front ≡ Err (Range (spare_bit (layout b).front) z.first)
 first_refused NoCategory z h = too_wide _ _ 43 10 z.first h
 first_refused (Hypocenter q) z h = too_wide _ _ 43 10 z.first h
 first_refused (Intensity t) z h = too_wide _ _ 43 10 z.first h
@@ -273,8 +272,8 @@ first_refused (Volcano a) z h = too_wide _ _ 43 7 z.first h
 first_refused (AshFall e) z h = too_wide _ _ 43 10 z.first h
 first_refused Flood z h = too_wide _ _ 43 10 z.first h
 
-pub second_refused : (b : Body) (z y : Spares) → has_spare (layout b).behind ≡ true → walk [] (layout b).behind (sides_of b z).behind ≡ Fine → 2 ^ spare_width (layout b).behind ≤ y.second
-    → walk [] (layout b).behind (sides_of b y).behind ≡ Refused (Range (spare_bit (layout b).behind) y.second)
+pub second_refused : (b : Body) (z y : Spares) → has_spare (layout b).behind ≡ true → walk [] (layout b).behind (sides_of b z).behind ≡ Ok tt → 2 ^ spare_width (layout b).behind ≤ y.second
+    → walk [] (layout b).behind (sides_of b y).behind ≡ Err (Range (spare_bit (layout b).behind) y.second)
 unfolding walk
 second_refused NoCategory z y s f h = absurd (false_not_true s)
 second_refused (Hypocenter q) z y s f h = too_wide [] [] 163 51 y.second h

@@ -1,4 +1,5 @@
 -- What is proved of the definitions of this crate, each claim with the sentence of document 01 that it settles.
+use Rattle.std.specs.Prelude.{Ok, Err}
 use mathlib.Core.Path.{◌≡◌, ap, refl}
 use mathlib.Core.Bool.{true, false}
 use mathlib.Core.Logic.{◌⊎◌, ◌↔◌}
@@ -7,12 +8,10 @@ use Prim.Native.Nat.{ℕ, ◌-◌, ◌^◌, ◌≤◌, ◌<◌}
 use lib.ListN.{length, get_or, drop}
 use types.Run.{OneOf}
 use Rattle.bits.specs.Frame.{Bytes, bytes_of, field_of}
-use Rattle.rows.specs.declared.refusal.Verdict.{Verdict}
-use Rattle.rows.specs.declared.refusal.Verdict.TheVariants.{Fine, Refused}
 use Rattle.rows.specs.declared.refusal.Refusal.{Refusal}
 use Rattle.rows.specs.declared.refusal.Refusal.TheVariants.{Range, Gap, Unused, Sentence, Checksum, Satellite}
 use Rattle.report.specs.declared.record.Record.{Record}
-use Rattle.rows.specs.Refusals.{says, answers}
+use Rattle.rows.specs.Refusals.{says, answers, Verdict}
 use Rattle.rows.specs.Layout.{all_rows, tiles, all_fit, lowest, Row, Rule, spare_row, Member, codes_of, group, ungrouped}
 use Rattle.report.specs.Records.{body_of, record_as, record_of, zeros, values}
 use Rattle.rows.specs.Values.{cut, flat, has_spare, spares_at, values_of}
@@ -158,35 +157,35 @@ passes_in_its_normal_range_or_with_its_codes r past v next = normal_or_coded r p
 -- ---- reading
 
 -- "a conforming frame is read" ..
-pub conforming_is_read : (s : List ℕ) → Conforms s → read_answer s ≡ Fine
+pub conforming_is_read : (s : List ℕ) → Conforms s → read_answer s ≡ Ok tt
 conforming_is_read s c = conforming_fine s c
 
 -- .. and gives the record of its own fields: "one that gives a fixed record fails it too".
-pub conforming_gives_its_record : (s : List ℕ) → Conforms s → read_of s ≡ record { answer = Fine; «record» = record_of s }
+pub conforming_gives_its_record : (s : List ℕ) → Conforms s → read_of s ≡ record { answer = Ok tt; «record» = record_of s }
 conforming_gives_its_record s c = ap (λ (v : Verdict). reading v (record_of s)) (conforming_fine s c)
 
 -- "given when", of the numbers 1 to 8 and 10: a frame that breaks a rule is refused, so what is read keeps every one.
-pub read_conforms : (s : List ℕ) → read_answer s ≡ Fine → Conforms s
+pub read_conforms : (s : List ℕ) → read_answer s ≡ Ok tt → Conforms s
 read_conforms s e = fine_conforming s e
 
 -- "A refusal is given only when its row's reason is there." "Reading a frame: 1 to 7 in that order", then 8 and 10 by lowest
 -- bit: the condition of the number fails, every earlier one holds, and no fault has a lower bit than that of an 8 or 10.
-pub refused_for_a_reason : (s : List ℕ) (x : Refusal) → read_answer s ≡ Refused x → WhyNotRead s x
+pub refused_for_a_reason : (s : List ℕ) (x : Refusal) → read_answer s ≡ Err x → WhyNotRead s x
 refused_for_a_reason s x e = reason s x e
 
 -- By lowest bit, from the fault: a frame that passes 1 to 7 and has a fault is refused, for one with the lowest bit.
 pub faulty_is_refused : (s : List ℕ) (y : Refusal) → Met (read_questions s) → Fault (layout_of s) (frame_values s) y
-    → (x : Refusal) × (read_answer s ≡ Refused x) × Lowest (layout_of s) (frame_values s) x
+    → (x : Refusal) × (read_answer s ≡ Err x) × Lowest (layout_of s) (frame_values s) x
 faulty_is_refused s y m f = faulty s y m f
 
 -- "where no row tested by a call applies, the call succeeds"
 pub faultless_is_read : (s : List ℕ) → Met (read_questions s)
-    → ((x : Refusal) → Fault (layout_of s) (frame_values s) x → ⊥) → read_answer s ≡ Fine
+    → ((x : Refusal) → Fault (layout_of s) (frame_values s) x → ⊥) → read_answer s ≡ Ok tt
 faultless_is_read s m h = faultless s m h
 
 -- "Every field check hands back the value found beside the place": a row of the frame's table starts at the place of an 8, and the value
 -- is the field of that row's width there ..
-pub a_refused_value_is_the_field_at_its_place : (s : List ℕ) (p x : ℕ) → read_answer s ≡ Refused (Range p x)
+pub a_refused_value_is_the_field_at_its_place : (s : List ℕ) (p x : ℕ) → read_answer s ≡ Err (Range p x)
     → (w : ℕ) × (Starts (all_rows (layout_of s)) p w × (x ≡ field_of s p w))
 a_refused_value_is_the_field_at_its_place s p x e = frame_field s p x e
 
@@ -195,17 +194,17 @@ pub one_row_starts_at_a_place : (b : Body) (p w u : ℕ) → Starts (all_rows (l
 one_row_starts_at_a_place b p w u f g = one_width 8 226 (all_rows (layout b)) p w u (all_rows_rise b) f g
 
 -- .. which is not in the row's normal range ..
-pub a_refused_value_is_out_of_range : (s : List ℕ) (p x : ℕ) → read_answer s ≡ Refused (Range p x)
+pub a_refused_value_is_out_of_range : (s : List ℕ) (p x : ℕ) → read_answer s ≡ Err (Range p x)
     → FoundAt 0 (all_rows (layout_of s)) (map (cut s) (all_rows (layout_of s))) p x
 a_refused_value_is_out_of_range s p x e = frame_found s p x e
 
 -- .. and "A refused category 4 total gives the total": below the page number, or above 63.
-pub a_refused_total_is_told : (s : List ℕ) (x : ℕ) → field_of s 17 4 ≡ 4 → read_answer s ≡ Refused (Range 207 x)
+pub a_refused_total_is_told : (s : List ℕ) (x : ℕ) → field_of s 17 4 ≡ 4 → read_answer s ≡ Err (Range 207 x)
     → (x ≡ field_of s 207 6) × ((field_of s 207 6 < field_of s 201 6) ⊎ (63 < field_of s 207 6))
 a_refused_total_is_told s x c e = frame-total s x c e
 
 -- "For a slot the gap is tested before its fields."
-pub gap_before_fields : (s : List ℕ) (p v : ℕ) → read_answer s ≡ Refused (Range p v) → Fault (layout_of s) (frame_values s) (Gap p) → ⊥
+pub gap_before_fields : (s : List ℕ) (p v : ℕ) → read_answer s ≡ Err (Range p v) → Fault (layout_of s) (frame_values s) (Gap p) → ⊥
 gap_before_fields s p v e f = no_gap s p v e f
 
 -- ---- slots
@@ -276,7 +275,7 @@ pub refusals_are_1_to_17 : (x : Refusal) → (x ≡ Sentence → ⊥) → (x ≡
 refusals_are_1_to_17 = numbered_without_sentences
 
 -- .. and where a promise says 0 nothing is refused: "answer (0 when read)".
-pub zero_says_that_nothing_is_refused : (v : Verdict) → (answers v).number ≡ 0 → v ≡ Fine
+pub zero_says_that_nothing_is_refused : (v : Verdict) → (answers v).number ≡ 0 → v ≡ Ok tt
 zero_says_that_nothing_is_refused v e = zero_fine v e
 
 -- .. and no number but 8 has a value.
@@ -295,7 +294,7 @@ pub no_answer_is_9 : (v : Verdict) → (answers v).number ≡ 9 → ⊥
 no_answer_is_9 v e = answers_not_nine v e
 
 -- "A refused reading gives a record of zeros."
-pub a_refused_reading_gives_zeros : (s : List ℕ) (x : Refusal) → (read_of s).answer ≡ Refused x → (read_of s).«record» ≡ zeros
+pub a_refused_reading_gives_zeros : (s : List ℕ) (x : Refusal) → (read_of s).answer ≡ Err x → (read_of s).«record» ≡ zeros
 a_refused_reading_gives_zeros s x e = refused_zeros (read_answer s) (record_of s) x e
 
 -- A look, of which a listing is made, says what reading says: whatever the bytes are, the answer is that of reading ..
@@ -303,12 +302,12 @@ pub a_look_answers_as_reading_does : (s : List ℕ) → (seen (read_of s)).answe
 a_look_answers_as_reading_does s = answer_found (read_answer s) (record_of s)
 
 -- .. where that is a refusal there is nothing else to see ..
-pub nothing_else_is_seen_of_a_refused_frame : (s : List ℕ) (x : Refusal) → read_answer s ≡ Refused x → seen (read_of s) ≡ record { answer = Refused x; category = 0; count = 0; used = 0 }
+pub nothing_else_is_seen_of_a_refused_frame : (s : List ℕ) (x : Refusal) → read_answer s ≡ Err x → seen (read_of s) ≡ record { answer = Err x; category = 0; count = 0; used = 0 }
 nothing_else_is_seen_of_a_refused_frame = refused_look
 
 -- .. and of a frame that is read, the category that stands in it, how many slots that has, and "slots used".
-pub a_look_sees_category_and_slots : (s : List ℕ) → read_answer s ≡ Fine
-    → seen (read_of s) ≡ record { answer = Fine; category = field_of s 17 4; count = (layout (body_of s)).slots.count; used = used_of (record_of s) }
+pub a_look_sees_category_and_slots : (s : List ℕ) → read_answer s ≡ Ok tt
+    → seen (read_of s) ≡ record { answer = Ok tt; category = field_of s 17 4; count = (layout (body_of s)).slots.count; used = used_of (record_of s) }
 a_look_sees_category_and_slots = read_look
 
 -- "All of these stand in one table over the definitions, with a single proved claim": P1 to P12.
@@ -348,17 +347,17 @@ the_frame_has_the_spares_of_its_record r s v = on_the_wire r s v
 
 -- "in writing, a spare too wide for its field is 8 at its first bit": any valid record, with such a first spare instead of its own ..
 pub a_first_spare_too_wide_is_8 : (r : Record) → Valid r → (n : ℕ) → 2 ^ spare_width (layout r.body).front ≤ n
-    → write_answer (sparing r (record { first = n; second = r.spares.second })) 32 ≡ Refused (Range (spare_bit (layout r.body).front) n)
+    → write_answer (sparing r (record { first = n; second = r.spares.second })) 32 ≡ Err (Range (spare_bit (layout r.body).front) n)
 a_first_spare_too_wide_is_8 r v n h = first_too_wide r v n h
 
 -- .. and any one of a category that has a second spare, with such a one.
 pub a_second_spare_too_wide_is_8 : (r : Record) → Valid r → (n : ℕ) → has_spare (layout r.body).behind ≡ true → 2 ^ spare_width (layout r.body).behind ≤ n
-    → write_answer (sparing r (record { first = r.spares.first; second = n })) 32 ≡ Refused (Range (spare_bit (layout r.body).behind) n)
+    → write_answer (sparing r (record { first = r.spares.first; second = n })) 32 ≡ Err (Range (spare_bit (layout r.body).behind) n)
 a_second_spare_too_wide_is_8 r v n s h = second_too_wide r v n s h
 
 -- "record has something where its category has nothing": a second spare where the category has none is 11.
 pub a_second_spare_of_a_category_without_one_is_11 : (r : Record) → In preambles r.preamble → known r.body ≡ true → has_spare (layout r.body).behind ≡ false
-    → (r.spares.second ≡ 0 → ⊥) → write_answer r 32 ≡ Refused Unused
+    → (r.spares.second ≡ 0 → ⊥) → write_answer r 32 ≡ Err Unused
 a_second_spare_of_a_category_without_one_is_11 r p k s h = no_second r p k s h
 
 -- ---- writing
@@ -373,42 +372,42 @@ keeping_rules_is_valid r s k = keeps_valid r s k
 
 -- "Writing: 1, 3, 7, 11, then 8 and 10 by lowest bit": the condition of the number fails, every earlier one holds, and no
 -- fault has a lower bit than that of an 8 or 10.
-pub writing_refused_for_a_reason : (r : Record) (size : ℕ) (x : Refusal) → Shaped r → write_answer r size ≡ Refused x → WhyNotWritten r size x
+pub writing_refused_for_a_reason : (r : Record) (size : ℕ) (x : Refusal) → Shaped r → write_answer r size ≡ Err x → WhyNotWritten r size x
 writing_refused_for_a_reason r size x s e = write-reason r size s x e
 
 -- "8 and 10 by lowest bit", from the fault: a record that passes 1, 3, 7 and 11 and has a fault is refused, for one with the
 -- lowest bit.
 pub faulty_is_refused_in_writing : (r : Record) (size : ℕ) (y : Refusal) → Shaped r → Met (write_questions r size) → Fault (record_layout r) (record_values r) y
-    → (x : Refusal) × (write_answer r size ≡ Refused x) × Lowest (record_layout r) (record_values r) x
+    → (x : Refusal) × (write_answer r size ≡ Err x) × Lowest (record_layout r) (record_values r) x
 faulty_is_refused_in_writing r size y s m f = write-faulty r size s y m f
 
 -- "where no row tested by a call applies, the call succeeds" ..
 pub faultless_is_written : (r : Record) (size : ℕ) → Shaped r → Met (write_questions r size)
-    → ((x : Refusal) → Fault (record_layout r) (record_values r) x → ⊥) → write_answer r size ≡ Fine
+    → ((x : Refusal) → Fault (record_layout r) (record_values r) x → ⊥) → write_answer r size ≡ Ok tt
 faultless_is_written r size s m h = write-faultless r size s m h
 
 -- .. and there alone
-pub written_is_faultless : (r : Record) (size : ℕ) → Shaped r → write_answer r size ≡ Fine
+pub written_is_faultless : (r : Record) (size : ℕ) → Shaped r → write_answer r size ≡ Ok tt
     → Met (write_questions r size) × ((x : Refusal) → Fault (record_layout r) (record_values r) x → ⊥)
 written_is_faultless r size s e = fault_free r size s e
 
 -- "the gap again before a slot's fields"
-pub gap_before_fields_in_writing : (r : Record) (size p v : ℕ) → Shaped r → write_answer r size ≡ Refused (Range p v)
+pub gap_before_fields_in_writing : (r : Record) (size p v : ℕ) → Shaped r → write_answer r size ≡ Err (Range p v)
     → Fault (record_layout r) (record_values r) (Gap p) → ⊥
 gap_before_fields_in_writing r size p v s e f = write-no-gap r size p v s e f
 
 -- The value of an 8 stands in the record, for the row that starts at its place, and is not in that row's normal range ..
-pub a_value_refused_in_writing_stands_in_the_record : (r : Record) (size p x : ℕ) → Shaped r → write_answer r size ≡ Refused (Range p x)
+pub a_value_refused_in_writing_stands_in_the_record : (r : Record) (size p x : ℕ) → Shaped r → write_answer r size ≡ Err (Range p x)
     → FoundAt 0 (all_rows (layout r.body)) (flat (values r)) p x
 a_value_refused_in_writing_stands_in_the_record r size p x s e = record_found r size p x s e
 
 -- .. and that of a total is the total, below the page number or above 63.
 pub a_total_refused_in_writing_is_told : (r : Record) (p : PageNumbers) (size x : ℕ) → Shaped r → r.body ≡ Nankai p
-    → write_answer r size ≡ Refused (Range 207 x) → (x ≡ p.total) × ((p.total < p.number) ⊎ (63 < p.total))
+    → write_answer r size ≡ Err (Range 207 x) → (x ≡ p.total) × ((p.total < p.number) ⊎ (63 < p.total))
 a_total_refused_in_writing_is_told r p size x s b e = record_total r p size x s b e
 
 -- "a Reserved above 63 is 8 at bit 220": any valid record, with such a Reserved instead of its own.
-pub reserved_above_63 : (r : Record) (n : ℕ) → Valid r → 63 < n → write_answer (reserving r n) 32 ≡ Refused (Range 220 n)
+pub reserved_above_63 : (r : Record) (n : ℕ) → Valid r → 63 < n → write_answer (reserving r n) 32 ≡ Err (Range 220 n)
 reserved_above_63 r n v h = above_63 r n v h
 
 -- "Writing: 1, 3, 7, 11, then 8 and 10": no other number is answered.
@@ -420,7 +419,7 @@ write_answers r size = write_numbered r size
 pub valid_is_written : (r : Record) (buffer : List ℕ) → Valid r → length buffer ≡ 32 → write_of r buffer ≡ bytes_of (frame r)
 valid_is_written r buffer v l = valid_written r buffer v l
 
-pub refused_leaves_the_buffer : (r : Record) (buffer : List ℕ) (x : Refusal) → write_answer r (length buffer) ≡ Refused x → write_of r buffer ≡ buffer
+pub refused_leaves_the_buffer : (r : Record) (buffer : List ℕ) (x : Refusal) → write_answer r (length buffer) ≡ Err x → write_of r buffer ≡ buffer
 refused_leaves_the_buffer r buffer x e = ap (λ (v : Verdict). written v r buffer) e
 
 -- ---- there and back
@@ -431,17 +430,17 @@ read_records_are_shaped s = frame-shaped s (body_of s)
 
 -- "The base reads and writes DC Report frames": what was read is written without refusal, and gives every bit back. Message type,
 -- version and parity are not in a record, nor need they be.
-pub written_again_is_the_frame : (s buffer : List ℕ) → Bytes s → (read_of s).answer ≡ Fine → length buffer ≡ 32
-    → (write_answer (read_of s).«record» (length buffer) ≡ Fine) × (write_of (read_of s).«record» buffer ≡ s)
+pub written_again_is_the_frame : (s buffer : List ℕ) → Bytes s → (read_of s).answer ≡ Ok tt → length buffer ≡ 32
+    → (write_answer (read_of s).«record» (length buffer) ≡ Ok tt) × (write_of (read_of s).«record» buffer ≡ s)
 written_again_is_the_frame s buffer b e l = written_again s buffer b e l
 
 -- What a valid record writes is read without refusal, and gives every field back. "What its category does not use is zero."
 pub read_again_is_the_record : (r : Record) (buffer : List ℕ) → Shaped r → Valid r → length buffer ≡ 32
-    → read_of (write_of r buffer) ≡ record { answer = Fine; «record» = r }
+    → read_of (write_of r buffer) ≡ record { answer = Ok tt; «record» = r }
 read_again_is_the_record r buffer s v l = read_again r buffer s v l
 
 -- No record has two frames: a frame that reads as r is the one that r writes.
-pub one_record_one_frame : (s : List ℕ) (r : Record) → Bytes s → read_of s ≡ record { answer = Fine; «record» = r } → s ≡ bytes_of (frame r)
+pub one_record_one_frame : (s : List ℕ) (r : Record) → Bytes s → read_of s ≡ record { answer = Ok tt; «record» = r } → s ≡ bytes_of (frame r)
 one_record_one_frame s r b e = frame_of_record s r b e
 
 -- So nothing that a frame says is lost in its record ..

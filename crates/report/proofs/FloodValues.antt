@@ -3,7 +3,6 @@ use mathlib.Core.Path.{◌≡◌, refl}
 use mathlib.Core.List.{List, [], ◌∷◌, map}
 use Prim.Native.Nat.{ℕ}
 use Rattle.rows.specs.Refusals.{at}
-use Rattle.rows.specs.Runs.Questions.{◌then◌, unless}
 use Rattle.rows.specs.Runs.Verdict.{allowed, judge, walk, empty, later, slots_verdict, verdict}
 use Rattle.slots.specs.declared.slot.Slot.{Slot}
 use Rattle.slots.specs.Slots.{no_slot}
@@ -66,5 +65,5 @@ flood_values =
     ∷ classified 7 3 gives eight_at 41 3 ∷ []
 
 pub every-row : map found flood_values ≡ map expected flood_values
-unfolding ◌then◌ unless allowed judge walk empty later slots_verdict verdict values
+unfolding allowed judge walk empty later slots_verdict verdict values
 every-row = refl

@@ -1,4 +1,5 @@
 -- The value of an 8: what stands at its place, in the frame that was read or the record that was written.
+use Rattle.std.specs.Prelude.{Err}
 use mathlib.Core.Path.{◌≡◌, refl, sym, subst}
 use mathlib.Core.Logic.{◌⊎◌, inl, inr, ⊎_elim}
 use mathlib.Core.Bool.{Bool, true, false}
@@ -9,7 +10,6 @@ use lib.ListN.{length, take}
 use lib.Dec.{ltb}
 use borrow.Author.Tests.{ltb-true, ltb-false}
 use Rattle.bits.specs.Frame.{field_of}
-use Rattle.rows.specs.declared.refusal.Verdict.TheVariants.{Refused}
 use Rattle.rows.specs.declared.refusal.Refusal.TheVariants.{Range}
 use Rattle.rows.specs.Layout.{Layout, all_rows, common, ending, no_slots}
 use Rattle.rows.specs.Values.{Values, cut, flat, head_values, last_values, values_of}
@@ -32,14 +32,14 @@ use Rattle.report.proofs.Reading.Frames.{layout_of, frame_values, fault_of_8}
 use Rattle.report.proofs.Shaped.{Shaped, record_filled}
 use Rattle.report.proofs.Writing.WriteReasons.{fault_of_8 as write-fault-of-8}
 
-pub frame_found : (s : List ℕ) (p x : ℕ) → read_answer s ≡ Refused (Range p x) → FoundAt 0 (all_rows (layout_of s)) (map (cut s) (all_rows (layout_of s))) p x
+pub frame_found : (s : List ℕ) (p x : ℕ) → read_answer s ≡ Err (Range p x) → FoundAt 0 (all_rows (layout_of s)) (map (cut s) (all_rows (layout_of s))) p x
 frame_found s p x e =
     rw (values-flat s (layout_of s)) at (table_found p x (layout_of s) (frame_values s) (frame-filled s (layout_of s)) (fault_of_8 s p x e))
 
-pub frame_field : (s : List ℕ) (p x : ℕ) → read_answer s ≡ Refused (Range p x) → (w : ℕ) × (Starts (all_rows (layout_of s)) p w × (x ≡ field_of s p w))
+pub frame_field : (s : List ℕ) (p x : ℕ) → read_answer s ≡ Err (Range p x) → (w : ℕ) × (Starts (all_rows (layout_of s)) p w × (x ≡ field_of s p w))
 frame_field s p x e = field_found s (all_rows (layout_of s)) 0 p x (frame_found s p x e)
 
-pub record_found : (r : Record) (size p x : ℕ) → Shaped r → write_answer r size ≡ Refused (Range p x)
+pub record_found : (r : Record) (size p x : ℕ) → Shaped r → write_answer r size ≡ Err (Range p x)
     → FoundAt 0 (all_rows (layout r.body)) (flat (values r)) p x
 record_found r size p x h e = table_found p x (layout r.body) (values r) (record_filled r h) (write-fault-of-8 r size p x h e)
 
@@ -78,7 +78,7 @@ of_category_4 : (s : List ℕ) → field_of s 17 4 ≡ 4 → layout_of s ≡ nan
 unfolding body_from
 of_category_4 s c = rw c refl
 
-pub frame-total : (s : List ℕ) (x : ℕ) → field_of s 17 4 ≡ 4 → read_answer s ≡ Refused (Range 207 x)
+pub frame-total : (s : List ℕ) (x : ℕ) → field_of s 17 4 ≡ 4 → read_answer s ≡ Err (Range 207 x)
     → (x ≡ field_of s 207 6) × ((field_of s 207 6 < field_of s 201 6) ⊎ (63 < field_of s 207 6))
 unfolding values_of
 frame-total s x c e =
@@ -96,7 +96,7 @@ with_body r d = record {
   last = last_values r.reserved;
 }
 
-pub record_total : (r : Record) (p : PageNumbers) (size x : ℕ) → Shaped r → r.body ≡ Nankai p → write_answer r size ≡ Refused (Range 207 x)
+pub record_total : (r : Record) (p : PageNumbers) (size x : ℕ) → Shaped r → r.body ≡ Nankai p → write_answer r size ≡ Err (Range 207 x)
     → (x ≡ p.total) × ((p.total < p.number) ⊎ (63 < p.total))
 unfolding values
 record_total r p size x h b e =

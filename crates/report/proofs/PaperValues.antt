@@ -1,4 +1,5 @@
 -- "Values to prove" of document 01 in one table: sample records with one field changed, and what the paper says of each.
+use Rattle.std.specs.Prelude.{Option, ℕ, Some, None}
 use Rattle.intensity.specs.Intensity.{prefectures}
 use mathlib.Core.Path.{◌≡◌, refl}
 use mathlib.Core.List.{List, [], ◌∷◌, ◌++◌, map}
@@ -8,12 +9,9 @@ use Rattle.bits.specs.Layout.{encode}
 use Rattle.rows.specs.declared.time.Time.{Time}
 use Rattle.hypocenter.specs.declared.angle.Angle.{Angle}
 use Rattle.slots.specs.declared.slot.Slot.{Slot}
-use Rattle.ash_fall.specs.declared.meaning.Prefecture.{Prefecture}
-use Rattle.ash_fall.specs.declared.meaning.Prefecture.TheVariants.{Number, Nowhere}
 use Rattle.ash_fall.specs.Meaning.{prefecture_of}
 use Rattle.rows.specs.declared.refusal.Said.{Said}
 use Rattle.rows.specs.Refusals.{at, plain, answers}
-use Rattle.rows.specs.Runs.Questions.{◌then◌, unless}
 use Rattle.rows.specs.Layout.{Row}
 use Rattle.rows.specs.Values.{no_spares}
 use Rattle.rows.specs.Runs.Verdict.{allowed, judge, walk, empty, later, slots_verdict, verdict}
@@ -93,9 +91,9 @@ abbrev pub slot_value : Slot → Outcome
 slot_value s = number (encode (map (λ (r : Row). r.width) prefectures.rows) (slot_values prefectures s))
 
 -- "A place divided by 100000, remainder dropped, is its prefecture"
-abbrev pub numbered : Prefecture → Outcome
-numbered (Number n) = number n
-numbered Nowhere = said (plain 0)
+abbrev pub numbered : Option ℕ → Outcome
+numbered (Some n) = number n
+numbered None = said (plain 0)
 
 abbrev pub prefecture : ℕ → Outcome
 prefecture place = numbered (prefecture_of place)
@@ -148,5 +146,5 @@ abbrev pub expected : Value → Outcome
 expected (a gives b) = b
 
 pub every-row : map found paper_values ≡ map expected paper_values
-unfolding ◌then◌ unless allowed judge walk empty later slots_verdict verdict values prefecture_of
+unfolding allowed judge walk empty later slots_verdict verdict values prefecture_of
 every-row = refl

@@ -16,9 +16,6 @@ read_is_settled κs a x y = beside answer
 pub look_is_settled : Settled promised.look.look.ended report.look.look.Reads.Post
 look_is_settled κs a x y = beside answer
 
-pub Looked-refused_is_settled : Settled promised.look.Looked.refused.ended report.look.Looked.refused.Reads.Post
-Looked-refused_is_settled κs a x y = answer
-
 pub Looked-of_is_settled : Settled promised.look.Looked.of.ended report.look.Looked.of.Reads.Post
 Looked-of_is_settled κs a x y = answer
 

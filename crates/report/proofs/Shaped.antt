@@ -1,4 +1,5 @@
 -- Records as lists have a shape: sixteen slots, 18 text bytes; and each row of a table has its value.
+use Rattle.category.specs.Text.{text_of}
 use Rattle.report.specs.declared.body.Body.{Body}
 use Rattle.rows.proofs.Layouts.Lengths.{Filled}
 use Rattle.rows.specs.Layout.{Layout, Row}
@@ -12,7 +13,7 @@ use Rattle.report.specs.Categories.{layout}
 use lib.ListN.{length, take}
 use lib.Seq.{length-take-le}
 use Rattle.nankai.specs.Nankai.{nankai}
-use Rattle.report.specs.Records.{record_as, text_of, values}
+use Rattle.report.specs.Records.{record_as, values}
 use Rattle.report.proofs.Categories.{sides_filled, text_apart}
 use Rattle.slots.proofs.Tables.{slots_counted, slots_filled, slots_sixteen}
 use Rattle.report.proofs.Tables.{suited_slots}

@@ -5,7 +5,6 @@ use Prim.Native.Nat.{ℕ, ◌-◌, ◌^◌}
 use lib.ListN.{get_or}
 use Rattle.rows.specs.declared.common.Common.{Common}
 use Rattle.rows.specs.Refusals.{answers, plain}
-use Rattle.rows.specs.Runs.Questions.{◌then◌, unless}
 use Rattle.rows.specs.Runs.Verdict.{allowed, judge, walk, empty, later, slots_verdict, verdict}
 use Rattle.slots.specs.declared.slot.Slot.{Slot}
 use Rattle.slots.specs.Slots.{tidy_slots, vacant}
@@ -108,5 +107,5 @@ spare_values =
     ∷ written (with_reserved 64 (spared ash_fall 0 32767)) gives eight_at 220 64 ∷ []
 
 pub every-row : map found spare_values ≡ map expected spare_values
-unfolding write_answer ◌then◌ unless allowed judge walk empty later slots_verdict verdict values tidy_slots vacant zeros
+unfolding write_answer allowed judge walk empty later slots_verdict verdict values tidy_slots vacant zeros
 every-row = refl

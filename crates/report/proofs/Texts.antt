@@ -1,7 +1,8 @@
 -- The text of a record: where its category has one it is 18 bytes, and any pass; where it has none it is zeros.
+use Rattle.category.specs.Text.{text_of}
+use Rattle.std.specs.Prelude.{Ok}
 use Rattle.bits.specs.Frame.{Bytes}
 use Rattle.rows.specs.Kept.{Empty}
-use Rattle.rows.specs.declared.refusal.Verdict.TheVariants.{Fine}
 use Rattle.rows.specs.Layout.{Layout, Row}
 use mathlib.Core.List.{List, [], ◌∷◌, append-nil, map}
 use Rattle.report.specs.declared.record.Record.{Record}
@@ -25,11 +26,11 @@ use Prim.Native.Nat.{suc, zero, ℕ, ◌≤◌}
 use native.Mathlib.Nat.{suc_inj, suc-ne-zero}
 use lib.Seq.{take_all}
 use Rattle.report.proofs.Categories.{text_apart}
-use Rattle.report.specs.Records.{text_of, values}
+use Rattle.report.specs.Records.{values}
 
 -- ---- what is asked of it
 
-pub text-passes : (rs : List Row) (text : List ℕ) → (rs ≡ []) ⊎ (rs ≡ nankai.text) → Bytes text → length text ≡ 18 → walk [] rs (take (length rs) text) ≡ Fine
+pub text-passes : (rs : List Row) (text : List ℕ) → (rs ≡ []) ⊎ (rs ≡ nankai.text) → Bytes text → length text ≡ 18 → walk [] rs (take (length rs) text) ≡ Ok tt
 unfolding walk
 text-passes rs text (inl e) h n = ap (λ (qs : List Row). walk [] qs (take (length qs) text)) e
 text-passes rs text (inr e) h n =

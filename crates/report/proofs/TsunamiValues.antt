@@ -3,7 +3,6 @@ use mathlib.Core.Path.{◌≡◌, refl}
 use mathlib.Core.List.{List, [], ◌∷◌, map}
 use Prim.Native.Nat.{ℕ}
 use Rattle.rows.specs.Refusals.{at}
-use Rattle.rows.specs.Runs.Questions.{◌then◌, unless}
 use Rattle.rows.specs.Runs.Verdict.{allowed, judge, walk, empty, later, slots_verdict, verdict}
 use Rattle.slots.specs.declared.slot.Slot.{Slot}
 use Rattle.slots.specs.Slots.{no_slot}
@@ -91,5 +90,5 @@ tsunami_values =
     ∷ warning (warned 0 0 0 16) gives eight_at 80 16 ∷ []
 
 pub every-row : map found tsunami_values ≡ map expected tsunami_values
-unfolding ◌then◌ unless allowed judge walk empty later slots_verdict verdict values
+unfolding allowed judge walk empty later slots_verdict verdict values
 every-row = refl

@@ -3,7 +3,6 @@ use mathlib.Core.Path.{◌≡◌, refl}
 use mathlib.Core.List.{List, [], ◌∷◌, map}
 use Prim.Native.Nat.{ℕ}
 use Rattle.rows.specs.Refusals.{at}
-use Rattle.rows.specs.Runs.Questions.{◌then◌, unless}
 use Rattle.rows.specs.Runs.Verdict.{allowed, judge, walk, empty, later, slots_verdict, verdict}
 use Rattle.slots.specs.declared.slot.Slot.{Slot}
 use Rattle.slots.specs.Slots.{no_slot}
@@ -96,5 +95,5 @@ volcano_values =
     ∷ said (judged_as 3 0 (AshFall (record { time = sample_time; warning = 1; volcano = 503 })) (record { day = 0; hour = 1; minute = 0; strength = 1; place = 4321400 } ∷ [])) gives eight_at 14 3 ∷ []  -- another category's Rc
 
 pub every-row : map found volcano_values ≡ map expected volcano_values
-unfolding ◌then◌ unless allowed judge walk empty later slots_verdict verdict values
+unfolding allowed judge walk empty later slots_verdict verdict values
 every-row = refl

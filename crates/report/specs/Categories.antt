@@ -3,7 +3,7 @@
 use Rattle.report.specs.declared.body.Body.TheVariants.{AshFall, Flood, Hypocenter, Intensity, Nankai, NoCategory, Tsunami, Volcano}
 use Rattle.report.specs.declared.body.Body.{Body}
 use Rattle.rows.specs.Layout.{Layout, Span, ◌to◌, no_category}
-use Rattle.std.specs.Prelude.{List, [], ◌∷◌, cond, eqb, ℕ}
+use Rattle.std.specs.Prelude.{List, [], ◌∷◌, cond, eqb, ℕ, Option, None, Some}
 use Rattle.rows.specs.declared.fields.Spares.{Spares}
 use Rattle.rows.specs.Values.{Sides}
 use Rattle.ash_fall.specs.AshFall.{ash_fall, eruption_from, eruption_values}
@@ -13,8 +13,7 @@ use Rattle.nankai.specs.Nankai.{nankai, number_values, numbers_from}
 use Rattle.tsunami.specs.Tsunami.{tsunami, warning_from, warning_values}
 use Rattle.volcano.specs.Volcano.{volcano, activity_from, activity_values}
 use Rattle.flood.specs.Flood.{flood, flood_sides}
-use Rattle.report.specs.declared.body.Paged.TheVariants.{NoPages, Numbers}
-use Rattle.report.specs.declared.body.Paged.{Paged}
+use Rattle.nankai.specs.declared.PageNumbers.{PageNumbers}
 
 -- "53, 9A or C6 hexadecimal"
 abbrev pub preambles : List Span
@@ -56,12 +55,12 @@ sides_of (AshFall e) z = eruption_values e z
 sides_of Flood z = flood_sides z
 
 -- the page that a body brings: category 4 alone has pages
-abbrev pub paged_of : Body → Paged
-paged_of NoCategory = NoPages
-paged_of (Hypocenter q) = NoPages
-paged_of (Intensity t) = NoPages
-paged_of (Nankai p) = Numbers p
-paged_of (Tsunami w) = NoPages
-paged_of (Volcano a) = NoPages
-paged_of (AshFall e) = NoPages
-paged_of Flood = NoPages
+abbrev pub paged_of : Body → Option PageNumbers
+paged_of NoCategory = None
+paged_of (Hypocenter q) = None
+paged_of (Intensity t) = None
+paged_of (Nankai p) = Some p
+paged_of (Tsunami w) = None
+paged_of (Volcano a) = None
+paged_of (AshFall e) = None
+paged_of Flood = None

@@ -1,13 +1,13 @@
 -- The record of a frame (document 01, "The record", and document 02: "Keep every spare's bits in the record"), and the values of a
 -- record, in the order of the frame.
 use Rattle.report.specs.declared.body.Body.{Body}
-use Rattle.rows.specs.Layout.{Layout}
-use Rattle.std.specs.Prelude.{List, map, ℕ, length, replicate, take}
+use Rattle.std.specs.Prelude.{List, ℕ, length, replicate, take}
 use Rattle.report.specs.declared.body.Body.TheVariants.{NoCategory}
 use Rattle.report.specs.declared.record.Record.{Record}
-use Rattle.rows.specs.Values.{Values, common_of, cut, filled, head_values, last_values, no_common, no_spares, sides_at, spares_at}
+use Rattle.rows.specs.Values.{Values, common_of, head_values, last_values, no_common, no_spares, sides_at, spares_at}
 use Rattle.report.specs.Categories.{body_from, layout, sides_of}
 use Rattle.bits.specs.Frame.{field_of}
+use Rattle.category.specs.Text.{text_of}
 use Rattle.slots.specs.Slots.{no_slot, slots_of, slots_values}
 
 -- ---- from a frame
@@ -18,10 +18,6 @@ body_by s dc = body_from (sides_at s) dc
 
 abbrev pub body_of : List ℕ → Body
 body_of s = body_by s (field_of s 17 4)
-
--- the text where the category's table has one, and zeros up to 18 bytes
-abbrev pub text_of : List ℕ → Layout → List ℕ
-text_of s l = filled 18 (map (cut s) l.text)
 
 unfoldable pub record_as : List ℕ → Body → Record
 record_as s b = record {

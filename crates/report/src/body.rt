@@ -1,31 +1,27 @@
 // What a category has, each in its own crate: a category that is added is added here.
-ghost use Rattle.std.specs.Prelude.{◌≡◌, []};
+ghost use Rattle.std.specs.Prelude.{◌≡◌, refl};
 ghost use Rattle.bits.specs.Frame.{frame_in};
 ghost use Rattle.report.specs.declared.body.Body.{Body};
-ghost use Rattle.rows.specs.Runs.Questions.{◌then◌};
-ghost use Rattle.report.specs.Records.{body_of};
-ghost use Rattle.rows.specs.Runs.Verdict.{body_verdict};
-ghost use Rattle.report.specs.Runs.Reading.{content_as};
-ghost use Rattle.rows.specs.Values.{head_values, sides_at};
-ghost use Rattle.ash_fall.specs.AshFall.{ash_fall, eruption_from};
-ghost use Rattle.hypocenter.specs.Hypocenter.{hypocenter, quake_from};
-ghost use Rattle.intensity.specs.Intensity.{intensity, shaking_from};
-ghost use Rattle.nankai.specs.Nankai.{nankai, numbers_from};
-ghost use Rattle.tsunami.specs.Tsunami.{tsunami, warning_from};
-ghost use Rattle.volcano.specs.Volcano.{volcano, activity_from};
-ghost use Rattle.rows.specs.Runs.Fields.{fields_in, kept_in, table_in};
+ghost use Rattle.report.specs.declared.body.Body.TheVariants.{NoCategory, Hypocenter, Intensity, Nankai, Tsunami, Volcano, AshFall, Flood};
 ghost use Rattle.report.specs.Categories.{layout, body_from, sides_of, paged_of};
+ghost use Rattle.report.specs.Records.{body_of};
+ghost use Rattle.report.specs.Runs.Reading.{content_as, found_as, rules_find};
 ghost use Rattle.report.specs.Runs.Told.{told_of, with_spares};
-ghost use Rattle.rows.specs.Layout.{no_category};
+ghost use Rattle.rows.specs.declared.fields.Spares.{Spares};
+ghost use Rattle.rows.specs.Refusals.{outcome};
+ghost use Rattle.rows.specs.Runs.Fields.{fields_in, kept_in, table_in};
+ghost use Rattle.rows.specs.Values.{Sides, sides_at};
 
+use crate::nothing::Nothing;
 use ash_fall::Eruption;
+use category::Category;
+use flood::Flood;
 use hypocenter::Quake;
 use intensity::Shaking;
 use nankai::PageNumbers;
-use rows::codes::{is_two_or_seven, is_uncorrected};
 use rows::common::Common;
 use rows::fields::{Fields, Spares, Table};
-use rows::refusal::{Refusal, Verdict};
+use rows::refusal::Refusal;
 use slots::slot::Slot;
 use tsunami::Warning;
 use volcano::Activity;
@@ -45,11 +41,100 @@ pub enum Body {
     Flood,
 }
 
-// Which page of a bulletin a body brings, where its category has pages.
-#[derive(Clone, Copy)]
-pub enum Paged {
-    NoPages,
-    Numbers(PageNumbers),
+// A category that a record may have.
+trait Held: Category {
+    ghost body: { Self → Body };
+
+    fn body(self) -> Body
+        ensures { result ≡ body self };
+
+    ghost laid: { (x : Self) → layout (body x) ≡ Self.layout };
+
+    ghost sided: { (x : Self) (z : Spares) → sides_of (body x) z ≡ Self.values x z };
+}
+
+impl Held for Quake {
+    ghost body = { Hypocenter };
+
+    fn body(self) -> Body {
+        Body::Hypocenter(self)
+    }
+
+    ghost laid = { λ x. refl };
+
+    ghost sided = { λ x z. refl };
+}
+
+impl Held for Shaking {
+    ghost body = { Intensity };
+
+    fn body(self) -> Body {
+        Body::Intensity(self)
+    }
+
+    ghost laid = { λ x. refl };
+
+    ghost sided = { λ x z. refl };
+}
+
+impl Held for PageNumbers {
+    ghost body = { Nankai };
+
+    fn body(self) -> Body {
+        Body::Nankai(self)
+    }
+
+    ghost laid = { λ x. refl };
+
+    ghost sided = { λ x z. refl };
+}
+
+impl Held for Warning {
+    ghost body = { Tsunami };
+
+    fn body(self) -> Body {
+        Body::Tsunami(self)
+    }
+
+    ghost laid = { λ x. refl };
+
+    ghost sided = { λ x z. refl };
+}
+
+impl Held for Activity {
+    ghost body = { Volcano };
+
+    fn body(self) -> Body {
+        Body::Volcano(self)
+    }
+
+    ghost laid = { λ x. refl };
+
+    ghost sided = { λ x z. refl };
+}
+
+impl Held for Eruption {
+    ghost body = { AshFall };
+
+    fn body(self) -> Body {
+        Body::AshFall(self)
+    }
+
+    ghost laid = { λ x. refl };
+
+    ghost sided = { λ x z. refl };
+}
+
+impl Held for Flood {
+    ghost body = { λ x. Body.Flood };
+
+    fn body(self) -> Body {
+        Body::Flood
+    }
+
+    ghost laid = { λ x. refl };
+
+    ghost sided = { λ x z. refl };
 }
 
 // A body, and the spares that stand before and behind its fields.
@@ -59,202 +144,47 @@ pub struct BodyAndSpares {
     pub spares: Spares,
 }
 
-// What stands from bit 43 up to bit 213, and what is found by 7 and by all rules from bit 8 to bit 213.
+// What stands from bit 43 up to bit 213 of a frame that keeps all rules from bit 8 on.
 #[derive(Clone, Copy)]
 pub struct Content {
-    pub found: Verdict,
     pub body: Body,
     pub slots: [Slot; 16],
     pub text: [u8; 18],
     pub spares: Spares,
 }
 
-// Each category is decided on where its fields are taken out of the frame, before a record is made of them.
 impl Content {
-    fn of_hypocenter(f: &[u8]) -> Content
-        ensures { result ≡ content_as (frame_in f.now) (Body.Hypocenter (quake_from (sides_at (frame_in f.now) hypocenter))) }
+    // Of a frame in this category. It is decided on where its fields are taken out of the frame, before a record is made of them.
+    fn within<C: Held + Copy>(f: &[u8]) -> Result<Content, Refusal>
+        ensures { let own = C.body (C.said (sides_at (frame_in f.now) C.layout)) in
+            result ≡ outcome (rules_find (frame_in f.now) own) (content_as (frame_in f.now) own) }
     {
-        let quake = Quake::of(f);
-        let spares = hypocenter::spares(f);
-        Content {
-            found: quake.check(Verdict::Fine, Common::of(f), spares),
-            body: Body::Hypocenter(quake),
-            slots: [Slot::none(); 16],
-            text: [0u8; 18],
-            spares: spares,
-        }
+        let own = C::of(f);
+        let slots = C::slots(f);
+        let spares = C::spares(f);
+        own.check(Common::of(f), &slots, spares)?;
+        Ok(Content {
+            body: own.body(),
+            slots,
+            text: C::text(f),
+            spares,
+        })
     }
 
-    fn of_intensity(f: &[u8]) -> Content
-        ensures { result ≡ content_as (frame_in f.now) (Body.Intensity (shaking_from (sides_at (frame_in f.now) intensity))) }
+    // 7, then 8 and 10.
+    pub(crate) fn of(f: &[u8]) -> Result<Content, Refusal>
+        ensures { result ≡ outcome (found_as (frame_in f.now) (body_of (frame_in f.now))) (content_as (frame_in f.now) (body_of (frame_in f.now))) }
     {
-        let shaking = Shaking::of(f);
-        let slots = intensity::prefectures::prefectures_of(f);
-        let spares = intensity::spares(f);
-        Content {
-            found: shaking.check(Verdict::Fine, Common::of(f), slots, spares),
-            body: Body::Intensity(shaking),
-            slots: slots,
-            text: [0u8; 18],
-            spares: spares,
+        match bits::field::<u8>(f, 17, 4) {
+            2 => Content::within::<Quake>(f),
+            3 => Content::within::<Shaking>(f),
+            4 => Content::within::<PageNumbers>(f),
+            5 => Content::within::<Warning>(f),
+            8 => Content::within::<Activity>(f),
+            9 => Content::within::<Eruption>(f),
+            11 => Content::within::<Flood>(f),
+            _ => Err(Refusal::Category),
         }
-    }
-
-    fn of_nankai(f: &[u8]) -> Content
-        ensures { result ≡ content_as (frame_in f.now) (Body.Nankai (numbers_from (sides_at (frame_in f.now) nankai))) }
-    {
-        let page = PageNumbers::of(f);
-        let spares = nankai::spares(f);
-        Content {
-            found: page.check(Verdict::Fine, Common::of(f), spares),
-            body: Body::Nankai(page),
-            slots: [Slot::none(); 16],
-            text: nankai::page_text(f),
-            spares: spares,
-        }
-    }
-
-    fn of_tsunami(f: &[u8]) -> Content
-        ensures { result ≡ content_as (frame_in f.now) (Body.Tsunami (warning_from (sides_at (frame_in f.now) tsunami))) }
-    {
-        let warning = Warning::of(f);
-        let slots = tsunami::areas::areas_of(f);
-        let spares = tsunami::spares(f);
-        Content {
-            found: warning.check(Verdict::Fine, Common::of(f), slots, spares),
-            body: Body::Tsunami(warning),
-            slots: slots,
-            text: [0u8; 18],
-            spares: spares,
-        }
-    }
-
-    fn of_volcano(f: &[u8]) -> Content
-        ensures { result ≡ content_as (frame_in f.now) (Body.Volcano (activity_from (sides_at (frame_in f.now) volcano))) }
-    {
-        let activity = Activity::of(f);
-        let slots = volcano::places::places_of(f);
-        let spares = volcano::spares(f);
-        Content {
-            found: activity.check(Verdict::Fine, Common::of(f), slots, spares),
-            body: Body::Volcano(activity),
-            slots: slots,
-            text: [0u8; 18],
-            spares: spares,
-        }
-    }
-
-    fn of_ash_fall(f: &[u8]) -> Content
-        ensures { result ≡ content_as (frame_in f.now) (Body.AshFall (eruption_from (sides_at (frame_in f.now) ash_fall))) }
-    {
-        let eruption = Eruption::of(f);
-        let slots = ash_fall::places::places_of(f);
-        let spares = ash_fall::spares(f);
-        Content {
-            found: eruption.check(Verdict::Fine, Common::of(f), slots, spares),
-            body: Body::AshFall(eruption),
-            slots: slots,
-            text: [0u8; 18],
-            spares: spares,
-        }
-    }
-
-    fn of_flood(f: &[u8]) -> Content
-        ensures { result ≡ content_as (frame_in f.now) Body.Flood }
-    {
-        let slots = flood::areas::areas_of(f);
-        let spares = flood::spares(f);
-        Content {
-            found: flood::check(Verdict::Fine, Common::of(f), slots, spares),
-            body: Body::Flood,
-            slots: slots,
-            text: [0u8; 18],
-            spares: spares,
-        }
-    }
-
-    // 7.
-    fn of_none(f: &[u8]) -> Content
-        ensures { result ≡ content_as (frame_in f.now) Body.NoCategory }
-    {
-        Content {
-            found: Verdict::Refused(Refusal::Category),
-            body: Body::NoCategory,
-            slots: [Slot::none(); 16],
-            text: [0u8; 18],
-            spares: Spares {
-                first: bits::field64(f, 43, 10),
-                second: 0,
-            },
-        }
-    }
-
-    pub(crate) fn of(f: &[u8]) -> Content
-        ensures { result ≡ content_as (frame_in f.now) (body_of (frame_in f.now)) }
-    {
-        match bits::field8(f, 17, 4) {
-            2 => Content::of_hypocenter(f),
-            3 => Content::of_intensity(f),
-            4 => Content::of_nankai(f),
-            5 => Content::of_tsunami(f),
-            8 => Content::of_volcano(f),
-            9 => Content::of_ash_fall(f),
-            11 => Content::of_flood(f),
-            _ => Content::of_none(f),
-        }
-    }
-}
-
-// What is asked where there is no category.
-fn check_none(found: Verdict, c: Common, spares: Spares) -> Verdict
-    ensures { result ≡ found then body_verdict no_category (head_values c 0) (sides_of Body.NoCategory spares) [] }
-{
-    found
-        .common(c, is_two_or_seven(c.rc), is_uncorrected(c.it))
-        .spare(43, 10, spares.first)
-}
-
-// The table of no category, which knows nothing of bits 53 to 213.
-fn table_none() -> Table
-    ensures { result ≡ table_in no_category }
-{
-    Table {
-        code: 0,
-        count: 0,
-        widths: [0u8; 5],
-        text: false,
-        second: false,
-    }
-}
-
-fn fields_none(spares: Spares) -> Fields
-    ensures { result ≡ fields_in no_category (sides_of Body.NoCategory spares) }
-{
-    Fields {
-        table: table_none(),
-        ahead: [10, 0, 0, 0, 0, 0, 0, 0, 0, 0, 0, 0, 0, 0, 0, 0, 0, 0],
-        front: [
-            spares.first,
-            0,
-            0,
-            0,
-            0,
-            0,
-            0,
-            0,
-            0,
-            0,
-            0,
-            0,
-            0,
-            0,
-            0,
-            0,
-            0,
-            0,
-        ],
-        after: [161, 0, 0],
-        behind: [0, 0, 0],
     }
 }
 
@@ -265,28 +195,36 @@ impl Body {
     {
         BodyAndSpares {
             body: self,
-            spares: Spares {
-                first: first,
-                second: second,
-            },
+            spares: Spares { first, second },
         }
     }
 
     // The body of a category's code that numbers say, of each as much as its field holds, and the spares among them.
-    pub fn of_values(code: u8, front: [u64; 18], behind: [u64; 3]) -> BodyAndSpares
-        ensures { result ≡ with_spares front behind (body_from (kept_in front behind) code) }
+    pub fn of_values(code: u8, front: &[u64; 18], behind: &[u64; 3]) -> BodyAndSpares
+        ensures { result ≡ with_spares front.now behind.now (body_from (kept_in front.now behind.now) code) }
     {
+        let (first, second) = (front[0], behind[0]);
         match code {
-            2 => Body::Hypocenter(Quake::of_values(front)).with_spares(front[0], behind[0]),
-            3 => Body::Intensity(Shaking::of_values(front)).with_spares(front[0], behind[0]),
-            4 => Body::Nankai(PageNumbers::of_values(front, behind)).with_spares(
-                front[0], behind[2],
-            ),
-            5 => Body::Tsunami(Warning::of_values(front)).with_spares(front[0], 0),
-            8 => Body::Volcano(Activity::of_values(front)).with_spares(front[0], behind[0]),
-            9 => Body::AshFall(Eruption::of_values(front)).with_spares(front[0], behind[0]),
-            11 => Body::Flood.with_spares(front[0], behind[0]),
-            _ => Body::NoCategory.with_spares(front[0], 0),
+            2 => Quake::of_values(front, behind)
+                .body()
+                .with_spares(first, second),
+            3 => Shaking::of_values(front, behind)
+                .body()
+                .with_spares(first, second),
+            4 => PageNumbers::of_values(front, behind)
+                .body()
+                .with_spares(first, behind[2]),
+            5 => Warning::of_values(front, behind)
+                .body()
+                .with_spares(first, 0),
+            8 => Activity::of_values(front, behind)
+                .body()
+                .with_spares(first, second),
+            9 => Eruption::of_values(front, behind)
+                .body()
+                .with_spares(first, second),
+            11 => Body::Flood.with_spares(first, second),
+            _ => Body::NoCategory.with_spares(first, 0),
         }
     }
 
@@ -294,53 +232,34 @@ impl Body {
     pub fn code(self) -> u8
         ensures { result ≡ (layout self).code }
     {
-        match self {
-            Body::NoCategory => 0,
-            Body::Hypocenter(_) => 2,
-            Body::Intensity(_) => 3,
-            Body::Nankai(_) => 4,
-            Body::Tsunami(_) => 5,
-            Body::Volcano(_) => 8,
-            Body::AshFall(_) => 9,
-            Body::Flood => 11,
-        }
+        self.table().code
     }
 
     // How many slots it has.
     pub fn count(self) -> usize
         ensures { result ≡ (layout self).slots.count }
     {
-        match self {
-            Body::NoCategory => 0,
-            Body::Hypocenter(_) => 0,
-            Body::Intensity(_) => 16,
-            Body::Nankai(_) => 0,
-            Body::Tsunami(_) => 5,
-            Body::Volcano(_) => 5,
-            Body::AshFall(_) => 4,
-            Body::Flood => 3,
-        }
+        self.table().count
     }
 
-    // What is found by all rules from bit 8 to bit 213, behind what has been found.
+    // What is found by all rules from bit 8 to bit 213.
     pub(crate) fn check(
         self,
-        found: Verdict,
-        c: Common,
-        slots: [Slot; 16],
+        common: Common,
+        slots: &[Slot; 16],
         spares: Spares,
-    ) -> Verdict
-        ensures { result ≡ told_of self found c slots spares }
+    ) -> Result<(), Refusal>
+        ensures { result ≡ told_of self common slots.now spares }
     {
         match self {
-            Body::NoCategory => check_none(found, c, spares),
-            Body::Hypocenter(q) => q.check(found, c, spares),
-            Body::Intensity(s) => s.check(found, c, slots, spares),
-            Body::Nankai(p) => p.check(found, c, spares),
-            Body::Tsunami(w) => w.check(found, c, slots, spares),
-            Body::Volcano(a) => a.check(found, c, slots, spares),
-            Body::AshFall(e) => e.check(found, c, slots, spares),
-            Body::Flood => flood::check(found, c, slots, spares),
+            Body::NoCategory => Nothing.check(common, slots, spares),
+            Body::Hypocenter(own) => own.check(common, slots, spares),
+            Body::Intensity(own) => own.check(common, slots, spares),
+            Body::Nankai(own) => own.check(common, slots, spares),
+            Body::Tsunami(own) => own.check(common, slots, spares),
+            Body::Volcano(own) => own.check(common, slots, spares),
+            Body::AshFall(own) => own.check(common, slots, spares),
+            Body::Flood => Flood.check(common, slots, spares),
         }
     }
 
@@ -349,14 +268,14 @@ impl Body {
         ensures { result ≡ table_in (layout self) }
     {
         match self {
-            Body::NoCategory => table_none(),
-            Body::Hypocenter(_) => hypocenter::table(),
-            Body::Intensity(_) => intensity::table(),
-            Body::Nankai(_) => nankai::table(),
-            Body::Tsunami(_) => tsunami::table(),
-            Body::Volcano(_) => volcano::table(),
-            Body::AshFall(_) => ash_fall::table(),
-            Body::Flood => flood::table(),
+            Body::NoCategory => Nothing::table(),
+            Body::Hypocenter(_) => Quake::table(),
+            Body::Intensity(_) => Shaking::table(),
+            Body::Nankai(_) => PageNumbers::table(),
+            Body::Tsunami(_) => Warning::table(),
+            Body::Volcano(_) => Activity::table(),
+            Body::AshFall(_) => Eruption::table(),
+            Body::Flood => Flood::table(),
         }
     }
 
@@ -366,24 +285,24 @@ impl Body {
         ensures { result ≡ fields_in (layout self) (sides_of self spares) }
     {
         match self {
-            Body::NoCategory => fields_none(spares),
-            Body::Hypocenter(q) => q.fields(spares),
-            Body::Intensity(s) => s.fields(spares),
-            Body::Nankai(p) => p.fields(spares),
-            Body::Tsunami(w) => w.fields(spares),
-            Body::Volcano(a) => a.fields(spares),
-            Body::AshFall(e) => e.fields(spares),
-            Body::Flood => flood::fields(spares),
+            Body::NoCategory => Nothing.fields(spares),
+            Body::Hypocenter(own) => own.fields(spares),
+            Body::Intensity(own) => own.fields(spares),
+            Body::Nankai(own) => own.fields(spares),
+            Body::Tsunami(own) => own.fields(spares),
+            Body::Volcano(own) => own.fields(spares),
+            Body::AshFall(own) => own.fields(spares),
+            Body::Flood => Flood.fields(spares),
         }
     }
 
-    // The page that it brings.
-    pub fn page(self) -> Paged
+    // The page that it brings, where its category has pages.
+    pub fn page(self) -> Option<PageNumbers>
         ensures { result ≡ paged_of self }
     {
-        let Body::Nankai(p) = self else {
-            return Paged::NoPages;
-        };
-        Paged::Numbers(p)
+        match self {
+            Body::Nankai(page) => Some(page),
+            _ => None,
+        }
     }
 }

@@ -6,8 +6,5 @@ ghost use Rattle.report.specs.Categories.{preambles};
 pub(crate) fn is_preamble(v: u8) -> bool
     ensures { result ≡ allowed preambles v }
 {
-    match v {
-        0x53 | 0x9A | 0xC6 => true,
-        _ => false,
-    }
+    matches!(v, 0x53 | 0x9A | 0xC6)
 }

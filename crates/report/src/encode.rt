@@ -16,84 +16,59 @@ use nankai::push_text;
 use rows::common::Common;
 use rows::fields::Fields;
 use slots::encode::push_slots;
-use slots::slot::Slot;
 
 // Bits 8 to 42.
 fn push_common(n: Words, c: Common, code: u8) -> Words
     ensures { result ≡ pushed_all n (widths (common no_category)) (head_values c code) }
 {
     n.push(6, 43)
-        .push(3, c.rc as u64)
-        .push(4, code as u64)
-        .push(4, c.month as u64)
-        .push(5, c.day as u64)
-        .push(5, c.hour as u64)
-        .push(6, c.minute as u64)
-        .push(2, c.it as u64)
+        .push(3, u64::from(c.rc))
+        .push(4, u64::from(code))
+        .push(4, u64::from(c.month))
+        .push(5, u64::from(c.day))
+        .push(5, u64::from(c.hour))
+        .push(6, u64::from(c.minute))
+        .push(2, u64::from(c.it))
 }
 
 // A text, where the category has one.
-fn push_page(n: Words, has: bool, text: [u8; 18]) -> Words
-    ensures { result ≡ cond has (pushed_all n (widths nankai.text) text) n }
+fn push_page(n: Words, has: bool, text: &[u8; 18]) -> Words
+    ensures { result ≡ cond has (pushed_all n (widths nankai.text) text.now) n }
 {
-    if has {
-        return push_text(n, text);
-    }
-    n
-}
-
-// The rows in front of the slots, and those behind them.
-fn push_ahead(n: Words, widths: [u8; 18], values: [u64; 18]) -> Words
-    ensures { result ≡ pushed_until n widths values }
-{
-    push_all(n, &widths, &values)
-}
-
-fn push_after(n: Words, widths: [u8; 3], values: [u64; 3]) -> Words
-    ensures { result ≡ pushed_until n widths values }
-{
-    push_all(n, &widths, &values)
+    if has { push_text(n, text) } else { n }
 }
 
 // Bits 43 to 213: the rows in front, the slots, the text, and the rows behind.
-fn push_body(n: Words, fields: Fields, slots: [Slot; 16], text: [u8; 18]) -> Words
-    ensures { result ≡ body_pushed n fields slots text }
+#[tactic(auto, unfolding(crate::specs::Runs::Writing::body_pushed))]
+fn push_body(n: Words, fields: &Fields, r: &Record) -> Words
+    ensures { result ≡ body_pushed n fields.now r.now.slots r.now.text }
 {
-    let table = fields.table;
-    let ahead = fields.ahead;
-    let front = fields.front;
-    let after = fields.after;
-    let behind = fields.behind;
-    let start = push_ahead(n, ahead, front);
-    let widths = table.widths;
-    let places = push_slots(start, table.count, widths, slots);
-    let page = push_page(places, table.text, text);
-    push_after(page, after, behind)
+    let table = &fields.table;
+    let start = push_all(n, &fields.ahead, &fields.front);
+    let places = push_slots(start, table.count, &table.widths, &r.slots);
+    let page = push_page(places, table.text, &r.text);
+    push_all(page, &fields.after, &fields.behind)
 }
 
 // Bits 0 to 225 of a valid record, whose fields these are.
-fn front(r: Record, fields: Fields) -> Words
-    requires { Valid r × (fields ≡ fields_in (layout r.body) (sides_of r.body r.spares)) }
-    ensures { result ≡ pushed_all (words_of 0) (front_widths (layout r.body)) (front_values r) }
+fn front(r: &Record, fields: &Fields) -> Words
+    requires { Valid r.now × (fields.now ≡ fields_in (layout r.now.body) (sides_of r.now.body r.now.spares)) }
+    ensures { result ≡ pushed_all (words_of 0) (front_widths (layout r.now.body)) (front_values r.now) }
 {
-    let common = r.common;
-    let slots = r.slots;
-    let text = r.text;
-    let table = fields.table;
-    let preamble = Words::of(0).push(8, r.preamble as u64);
-    let head = push_common(preamble, common, table.code);
-    let inner = push_body(head, fields, slots, text);
-    inner.push(6, 1).push(6, r.reserved as u64)
+    let preamble = Words::of(0).push(8, u64::from(r.preamble));
+    let head = push_common(preamble, r.common, fields.table.code);
+    let inner = push_body(head, fields, r);
+    inner.push(6, 1).push(6, u64::from(r.reserved))
 }
 
 // The frame of a valid record, whose fields these are, into a lent one. The parity is that of all bits before it, which
 // have to stand in a frame first.
-pub(crate) fn encode(r: Record, fields: Fields, lent: &mut [u8])
-    requires { Valid r × ((fields ≡ fields_in (layout r.body) (sides_of r.body r.spares)) × (length lent.old ≡ 32)) }
-    ensures { lent.new ≡ bytes_of (frame r) }
+pub(crate) fn encode(r: &Record, fields: &Fields, lent: &mut [u8])
+    requires { Valid r.now × ((fields.now ≡ fields_in (layout r.now.body) (sides_of r.now.body r.now.spares)) × (length lent.old ≡ 32)) }
+    ensures { lent.new ≡ bytes_of (frame r.now) }
 {
     let words = front(r, fields);
     words.push(30, 0).put(lent);
     let parity = parity::parity(lent);
-    words.push(24, parity as u64).push(6, 0).put(lent);
+    words.push(24, u64::from(parity)).push(6, 0).put(lent);
 }

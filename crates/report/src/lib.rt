@@ -4,6 +4,7 @@
 #![tactic(auto)]
 
 pub mod body; // what each category has
+mod nothing; // what is known where there is no category
 pub mod record; // what a frame says
 mod codes; // which preambles there are
 mod tidy; // nothing stands where the category has nothing

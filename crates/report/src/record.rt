@@ -25,6 +25,7 @@ pub struct Record {
 
 impl Record {
     // The record of a refused reading.
+    #[tactic(auto, unfolding(crate::specs::Records::zeros))]
     pub fn of_zeros() -> Record
         ensures { result ≡ zeros }
     {
@@ -40,10 +41,10 @@ impl Record {
     }
 
     // How many slots are used, 0 in a category without slots: whoever names places names this many.
-    pub fn slots_used(self) -> usize
-        ensures { result ≡ used_of self }
+    #[tactic(auto, unfolding(crate::specs::Meaning::used_of))]
+    pub fn slots_used(&self) -> usize
+        ensures { result ≡ used_of self.now }
     {
-        let slots = self.slots;
-        used(slots)
+        used(&self.slots)
     }
 }

@@ -1,5 +1,6 @@
 // 11: whether something stands in a record where its category has nothing.
-ghost use Rattle.std.specs.Prelude.{◌≡◌, ◌||◌, eqb};
+ghost use Rattle.std.specs.Prelude.{◌≡◌};
+ghost use Rattle.bits.specs.Frame.{Bytes};
 ghost use Rattle.rows.specs.Runs.Verdict.{empty};
 ghost use Rattle.report.specs.Runs.Writing.{tidy_by};
 
@@ -7,42 +8,24 @@ use rows::fields::{Spares, Table};
 use slots::silence::are_tidy;
 use slots::slot::Slot;
 
-fn is_blank(text: [u8; 18]) -> bool
-    ensures { result ≡ empty text }
+fn is_blank(text: &[u8; 18]) -> bool
+    ensures { result ≡ empty text.now }
 {
-    let mut i = 0;
-    while i < 18 {
+    for i in 0..18 {
         if text[i] != 0 {
             return false;
         }
-        i += 1;
     }
     true
 }
 
-// There is a place for the value, or it is zero.
-fn is_held(has: bool, value: u64) -> bool
-    ensures { result ≡ has || eqb value 0 }
+// 11: nothing stands where a category with this table has nothing. The text is lent by itself, so that it is known here
+// to hold bytes, which whoever asks on wants to know.
+pub(crate) fn is_tidy(table: &Table, slots: &[Slot; 16], text: &[u8; 18], spares: Spares) -> bool
+    ensures value { result ≡ tidy_by table.now slots.now text.now spares }
+    ensures bytes { Bytes text.now }
 {
-    if has {
-        return true;
-    }
-    value == 0
-}
-
-// 11: nothing stands where a category with this table has nothing.
-pub(crate) fn is_tidy(table: Table, slots: [Slot; 16], text: [u8; 18], spares: Spares) -> bool
-    ensures { result ≡ tidy_by table slots text spares }
-{
-    let widths = table.widths;
-    if !are_tidy(table.count, widths, slots) {
-        return false;
-    }
-    if !is_held(table.second, spares.second) {
-        return false;
-    }
-    if table.text {
-        return true;
-    }
-    is_blank(text)
+    are_tidy(table.count, &table.widths, slots)
+        && (table.second || spares.second == 0)
+        && (table.text || is_blank(text))
 }

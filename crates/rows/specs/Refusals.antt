@@ -1,12 +1,10 @@
 -- The refusals and their numbers (document 01, "What each number says", and of a sentence document 02: "18 wrong length, head, comma, star
 -- or line end, or a checksum character that is no hexadecimal digit; 19 checksum; 20 satellite not listed"). 9 was given for a spare that
 -- is not zero: "9 no longer occurs".
-use Rattle.std.specs.Prelude.{ℕ}
+use Rattle.std.specs.Prelude.{ℕ, ⊤, Result, Ok, Err}
 use Rattle.rows.specs.declared.refusal.Refusal.{Refusal}
 use Rattle.rows.specs.declared.refusal.Refusal.TheVariants.{Length, Padding, Preamble, Parity, Message, Version, Category, Range, Gap, Unused, NoPage, OtherBulletin, Unsound, NotHeld, Short, Line, Sentence, Checksum, Satellite}
 use Rattle.rows.specs.declared.refusal.Said.{Said}
-use Rattle.rows.specs.declared.refusal.Verdict.{Verdict}
-use Rattle.rows.specs.declared.refusal.Verdict.TheVariants.{Fine, Refused}
 
 -- what the paper says of a refusal: "A place, page or mark that the refusal's row does not name is zero", and so is the value, which
 -- 8 alone has: "Every field check hands back the value found beside the place"
@@ -37,7 +35,16 @@ says Sentence = plain 18
 says Checksum = plain 19
 says Satellite = plain 20
 
+-- what is found: nothing to refuse, or the first thing
+abbrev pub Verdict : Type 0
+Verdict = Result ⊤ Refusal
+
 -- the number of an answer: 0 where nothing is refused
-abbrev pub answers : Verdict → Said
-answers Fine = plain 0
-answers (Refused r) = says r
+abbrev pub answers : {A : Type 0} → Result A Refusal → Said
+answers (Ok x) = plain 0
+answers (Err r) = says r
+
+-- what a call hands back: what it made, where nothing is refused
+abbrev pub outcome : {A : Type 0} → Verdict → A → Result A Refusal
+outcome (Ok tt) x = Ok x
+outcome (Err r) x = Err r

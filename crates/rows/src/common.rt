@@ -1,14 +1,14 @@
 // What every category has in front of its own fields: bits 8 to 42.
 ghost use Rattle.std.specs.Prelude.{◌≡◌};
 ghost use Rattle.bits.specs.Frame.{frame_in};
-ghost use Rattle.rows.specs.Runs.Questions.{◌then◌};
 ghost use Rattle.rows.specs.Runs.Verdict.{common_verdict};
 ghost use Rattle.rows.specs.Values.{common_of, no_common};
 
-use crate::refusal::Verdict;
+use crate::question::{ranged, within};
+use crate::refusal::Refusal;
 
 // Classification (Rc), the time of issue, and information type (It).
-#[derive(Clone, Copy)]
+#[derive(Clone, Copy, PartialEq, Eq)]
 pub struct Common {
     pub rc: u8,
     pub month: u8,
@@ -38,26 +38,24 @@ impl Common {
         ensures { result ≡ common_of (frame_in f.now) }
     {
         Common {
-            rc: bits::field8(f, 14, 3),
-            month: bits::field8(f, 21, 4),
-            day: bits::field8(f, 25, 5),
-            hour: bits::field8(f, 30, 5),
-            minute: bits::field8(f, 35, 6),
-            it: bits::field8(f, 41, 2),
+            rc: bits::field(f, 14, 3),
+            month: bits::field(f, 21, 4),
+            day: bits::field(f, 25, 5),
+            hour: bits::field(f, 30, 5),
+            minute: bits::field(f, 35, 6),
+            it: bits::field(f, 41, 2),
         }
     }
-}
 
-impl Verdict {
     // Their ranges. Which Rc and It there are is for the category to say.
-    pub fn common(self, c: Common, rc: bool, it: bool) -> Verdict
-        ensures { result ≡ self then common_verdict c rc it }
+    pub fn check(self, rc: bool, it: bool) -> Result<(), Refusal>
+        ensures { result ≡ common_verdict self rc it }
     {
-        self.ranged(14, c.rc as u64, rc)
-            .within(21, c.month as u64, 1, 12)
-            .within(25, c.day as u64, 1, 31)
-            .within(30, c.hour as u64, 0, 23)
-            .within(35, c.minute as u64, 0, 59)
-            .ranged(41, c.it as u64, it)
+        ranged(14, u64::from(self.rc), rc)?;
+        within(21, u64::from(self.month), 1, 12)?;
+        within(25, u64::from(self.day), 1, 31)?;
+        within(30, u64::from(self.hour), 0, 23)?;
+        within(35, u64::from(self.minute), 0, 59)?;
+        ranged(41, u64::from(self.it), it)
     }
 }

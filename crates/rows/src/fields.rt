@@ -1,5 +1,5 @@
 // What the table of a category says, and the fields of a record in its order, as numbers.
-ghost use Rattle.std.specs.Prelude.{◌≡◌, ◌%◌, ◌^◌};
+ghost use Rattle.std.specs.Prelude.{◌≡◌};
 ghost use Rattle.rows.specs.Values.{no_spares};
 
 // The category's code, 0 for none; how many slots it has, and how many bits the day, hour, minute, strength and
@@ -14,7 +14,8 @@ pub struct Table {
 }
 
 // The fields in front of the slots and behind them, spares among them, one behind the other, each list with
-// its widths before it. Behind the last field there are no bits and no numbers.
+// its widths before it. Behind the last field there are no bits and no numbers. Widths are no part of the values: a record's
+// bytes are read by the widths of a body that has no values yet.
 #[derive(Clone, Copy)]
 pub struct Fields {
     pub table: Table,
@@ -41,17 +42,4 @@ impl Spares {
             second: 0,
         }
     }
-}
-
-// What is left of a number in a field of one byte, and in one of two.
-pub fn one_byte(x: u64) -> u8
-    ensures { result ≡ x % 2 ^ 8 }
-{
-    (x % 256) as u8
-}
-
-pub fn two_bytes(x: u64) -> u16
-    ensures { result ≡ x % 2 ^ 16 }
-{
-    (x % 0x1_0000) as u16
 }

@@ -2,7 +2,6 @@
 // the first bit of the field or slot that is meant, a value what was found in that field.
 ghost use Rattle.std.specs.Prelude.{◌≡◌};
 ghost use Rattle.rows.specs.Refusals.{plain, at, says};
-ghost use Rattle.rows.specs.Runs.Questions.{◌then◌};
 
 #[derive(Clone, Copy)]
 pub enum Refusal {
@@ -19,7 +18,7 @@ pub enum Refusal {
     NoPage, // 12
     OtherBulletin, // 13
     Unsound, // 14
-    NotHeld { page: u8, mark: u8 }, // 15
+    NotHeld { page: u8, mark: u8 }, // 15: the mark is 1 or 2, as `WhyNotTold` states it and C is told it
     Short, // 16
     Line, // 17
     Sentence, // 18
@@ -28,7 +27,8 @@ pub enum Refusal {
 }
 
 // What is said of a refusal: its number, and its place, value, page and mark. What its row does not
-// name is zero.
+// name is zero. These are numbers, and zeros where an option would be plainer, since document 01 numbers the answers and
+// C is told them in one word.
 #[derive(Clone, Copy)]
 pub struct Said {
     pub number: u8,
@@ -95,61 +95,6 @@ impl Refusal {
             Refusal::Sentence => Said::plain(18),
             Refusal::Checksum => Said::plain(19),
             Refusal::Satellite => Said::plain(20),
-        }
-    }
-}
-
-impl Refusal {
-    // The same refusal, made of its fields. Where one is copied whole, so are the bytes that lie unused between place and
-    // value, and the compiler keeps every verdict on the way in memory: a kilobyte of stack for a reading.
-    pub(crate) fn anew(self) -> Refusal
-        ensures { result ≡ self }
-    {
-        match self {
-            Refusal::Length => Refusal::Length,
-            Refusal::Padding => Refusal::Padding,
-            Refusal::Preamble => Refusal::Preamble,
-            Refusal::Parity => Refusal::Parity,
-            Refusal::Message => Refusal::Message,
-            Refusal::Version => Refusal::Version,
-            Refusal::Category => Refusal::Category,
-            Refusal::Range { place, value } => Refusal::Range {
-                place: place,
-                value: value,
-            },
-            Refusal::Gap(place) => Refusal::Gap(place),
-            Refusal::Unused => Refusal::Unused,
-            Refusal::NoPage => Refusal::NoPage,
-            Refusal::OtherBulletin => Refusal::OtherBulletin,
-            Refusal::Unsound => Refusal::Unsound,
-            Refusal::NotHeld { page, mark } => Refusal::NotHeld {
-                page: page,
-                mark: mark,
-            },
-            Refusal::Short => Refusal::Short,
-            Refusal::Line => Refusal::Line,
-            Refusal::Sentence => Refusal::Sentence,
-            Refusal::Checksum => Refusal::Checksum,
-            Refusal::Satellite => Refusal::Satellite,
-        }
-    }
-}
-
-// What has been found so far: nothing to refuse, or the first thing.
-#[derive(Clone, Copy)]
-pub enum Verdict {
-    Fine,
-    Refused(Refusal),
-}
-
-impl Verdict {
-    // The next answer, where nothing is refused yet.
-    pub fn then(self, next: Verdict) -> Verdict
-        ensures { result ≡ self then next }
-    {
-        match self {
-            Verdict::Fine => next,
-            Verdict::Refused(first) => Verdict::Refused(first.anew()),
         }
     }
 }

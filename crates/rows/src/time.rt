@@ -2,11 +2,11 @@
 ghost use Rattle.std.specs.Prelude.{◌≡◌, [], ◌∷◌, ◌%◌, ◌^◌};
 ghost use Rattle.bits.specs.Frame.{frame_in};
 ghost use Rattle.rows.specs.Values.{time_from};
-ghost use Rattle.rows.specs.Runs.Questions.{◌then◌};
 ghost use Rattle.rows.specs.Runs.Times.{time_in, time_verdict};
 
-use crate::fields::one_byte;
-use crate::refusal::Verdict;
+use crate::question::within;
+use crate::refusal::Refusal;
+use bits::Number;
 
 // When an earthquake or an eruption was.
 #[derive(Clone, Copy)]
@@ -22,9 +22,9 @@ impl Time {
         ensures { result ≡ time_from (day % 2 ^ 8 ∷ hour % 2 ^ 8 ∷ minute % 2 ^ 8 ∷ []) 0 }
     {
         Time {
-            day: one_byte(day),
-            hour: one_byte(hour),
-            minute: one_byte(minute),
+            day: u8::lowest(day),
+            hour: u8::lowest(hour),
+            minute: u8::lowest(minute),
         }
     }
 
@@ -32,25 +32,23 @@ impl Time {
     pub fn at(f: &[u8], at: u8) -> Time
         ensures { result ≡ time_in (frame_in f.now) at }
     {
-        let first = at as usize;
+        let first = usize::from(at);
         Time {
-            day: bits::field8(f, first, 5),
-            hour: bits::field8(f, first + 5, 5),
-            minute: bits::field8(f, first + 10, 6),
+            day: bits::field(f, first, 5),
+            hour: bits::field(f, first + 5, 5),
+            minute: bits::field(f, first + 10, 6),
         }
     }
-}
 
-impl Verdict {
-    // The ranges of a time; none where it does not lie in the frame.
-    pub fn time(self, at: u8, t: Time) -> Verdict
-        ensures { result ≡ self then time_verdict at t }
+    // The ranges of the time whose first bit is `at`; none where it does not lie in the frame.
+    pub fn check(self, at: u8) -> Result<(), Refusal>
+        ensures { result ≡ time_verdict at self }
     {
         if at > 240 {
-            return self;
+            return Ok(());
         }
-        self.within(at, t.day as u64, 1, 31)
-            .within(at + 5, t.hour as u64, 0, 23)
-            .within(at + 10, t.minute as u64, 0, 59)
+        within(at, u64::from(self.day), 1, 31)?;
+        within(at + 5, u64::from(self.hour), 0, 23)?;
+        within(at + 10, u64::from(self.minute), 0, 59)
     }
 }

@@ -77,11 +77,12 @@ const TEXT: [u8; 486] = *b"\
     \xE3\x81\xA8\xE3\x81\xA3\xE3\x81\xA6\xE3\x81\x8F\xE3\x81\xA0\xE3\x81\x95\
     \xE3\x81\x84\xE3\x80\x82\x00\x00\x00\x00\x00\x00\x00\x00\x00\x00\x00\x00";
 
+// A record that cannot be written leaves the frame as it was, and is shown as zeros.
 fn show(rt: &impl Print, r: Record) -> io::Result<()> {
     let mut frame = [0u8; 32];
-    report::write::write(r, &mut frame);
+    let _ = report::write::write(&r, &mut frame);
     let mut line = [10u8; 64];
-    line::write_line(&frame, &mut line);
+    let _ = line::write_line(&frame, &mut line);
     rt.write_all(&line)
 }
 
@@ -238,30 +239,24 @@ fn page_text(number: u8) -> [u8; 18]
     requires { (1 ≤ number) × (number ≤ 27) }
 {
     let all = TEXT;
-    let first = 18 * (number as usize - 1);
+    let first = 18 * (usize::from(number) - 1);
     let mut text = [0u8; 18];
-    let mut k = 0;
-    while k < 18 {
-        text[k] = all[first + k];
-        k += 1;
-    }
+    text.copy_from_slice(&all[first..first + 18]);
     text
 }
 
 // Table 2-3-1: the pages of the bulletin.
 fn show_pages(rt: &impl Print, at: Time) -> io::Result<()> {
-    let mut number = 1;
-    while number <= 27 {
+    for number in 1..=27 {
         let page = PageNumbers {
             serial: 5,
-            number: number,
+            number,
             total: 27,
         };
         show(
             rt,
             issued(at, Body::Nankai(page), no_slots(), page_text(number)),
         )?;
-        number += 1;
     }
     Ok(())
 }

@@ -1,4 +1,6 @@
 -- Why a sentence is refused: the questions in their order.
+use Rattle.std.specs.Prelude.{Ok, Err}
+use Rattle.rows.specs.Refusals.{Verdict}
 use mathlib.Core.Path.{◌≡◌, sym, ap, subst, ◌∙◌}
 use mathlib.Core.Bool.{true}
 use mathlib.Core.List.{List, [], ◌∷◌}
@@ -6,8 +8,6 @@ use mathlib.Core.Logic.{◌↔◌, ◌⊎◌, inl, inr, ⊎_elim}
 use Prim.Native.Nat.{ℕ, ◌≤◌}
 use borrow.Author.Tests.{eqb-true, eq-eqb, leb-true, le-leb}
 use lib.Dec.{eqb, leb}
-use Rattle.rows.specs.declared.refusal.Verdict.{Verdict}
-use Rattle.rows.specs.declared.refusal.Verdict.TheVariants.{Fine, Refused}
 use Rattle.rows.specs.declared.refusal.Refusal.{Refusal}
 use Rattle.rows.specs.declared.refusal.Refusal.TheVariants.{Short, Line, Sentence, Checksum, Satellite}
 use Rattle.rows.specs.Kept.{In}
@@ -57,22 +57,22 @@ sentence_asked s =
     (question (eqb (checksum (between s)) (told_in s)) (checksum (between s) ≡ told_in s) Checksum (eqb-true (checksum (between s)) (told_in s)) (eq-eqb (checksum (between s)) (told_in s))
     (question (allowed satellites (satellite_in s)) (Listed s) Satellite (is_listed s) (listed_is s) (unquestioned (digits_answer s)))))
 
-pub read_why_not : (s : List ℕ) (x : Refusal) → sentence_answer s ≡ Refused x → WhyNotReadAsSentence s x
+pub read_why_not : (s : List ℕ) (x : Refusal) → sentence_answer s ≡ Err x → WhyNotReadAsSentence s x
 read_why_not s x e = (sentence_asked s).refused x _ e (λ d. read_reason (digits_in s) x (line_answer_lem (digits_in s) ∙ d))
 
-pub read_exactly : (s : List ℕ) → sentence_answer s ≡ Fine ↔ (Met (sentence_questions s) × (SixtyThreeDigits (digits_in s) × Conforms (frame_of_line (digits_in s))))
+pub read_exactly : (s : List ℕ) → sentence_answer s ≡ (Ok tt) ↔ (Met (sentence_questions s) × (SixtyThreeDigits (digits_in s) × Conforms (frame_of_line (digits_in s))))
 read_exactly s = (met, all)
   where
     d : List ℕ
     d = digits_in s
 
-    met : sentence_answer s ≡ Fine → Met (sentence_questions s) × (SixtyThreeDigits d × Conforms (frame_of_line d))
+    met : sentence_answer s ≡ Ok tt → Met (sentence_questions s) × (SixtyThreeDigits d × Conforms (frame_of_line d))
     met e =
         let a = (sentence_asked s).fine e in
         let p = fine_both (unless (is_line d) Line) (read_answer (frame_of_line d)) a.1 in
         (a.0, ((tested_exactly d).0 (unless_fine (is_line d) Line p.0), fine_conforming (frame_of_line d) p.1))
 
-    all : Met (sentence_questions s) × (SixtyThreeDigits d × Conforms (frame_of_line d)) → sentence_answer s ≡ Fine
+    all : Met (sentence_questions s) × (SixtyThreeDigits d × Conforms (frame_of_line d)) → sentence_answer s ≡ Ok tt
     all m = (sentence_asked s).met m.0 ∙ met_then (is_line d) Line (read_answer (frame_of_line d)) ((tested_exactly d).1 m.1.0) ∙ conforming_fine (frame_of_line d) m.1.1
 
 -- where 18, 19 and 20 are not there, the digits decide
@@ -82,27 +82,27 @@ digits_decide s m = (sentence_asked s).met m ∙ sym (line_answer_lem (digits_in
 -- ---- writing
 
 module _ (n : ℕ) (f : List ℕ) (room : ℕ) where
-  room_asked : Answers (unless (leb 78 room) Short) ((78 ≤ room) or Short ∷ []) Fine
+  room_asked : Answers (unless (leb 78 room) Short) ((78 ≤ room) or Short ∷ []) (Ok tt)
   room_asked = last_question (leb 78 room) (78 ≤ room) Short (leb-true 78 room) (le-leb 78 room)
 
   send_asked : Answers (send_answer n f room) (In satellites n or Satellite ∷ []) (read_answer f then unless (leb 78 room) Short)
   unfolding send_answer
   send_asked = question (allowed satellites n) (In satellites n) Satellite (allowed_in satellites n) (in_allowed satellites n) (unquestioned (read_answer f then unless (leb 78 room) Short))
 
-  behind_it : (x : Refusal) → read_answer f then unless (leb 78 room) Short ≡ Refused x → WhyNotRead f x ⊎ (Conforms f × First ((78 ≤ room) or Short ∷ []) x ⊥)
+  behind_it : (x : Refusal) → read_answer f then unless (leb 78 room) Short ≡ Err x → WhyNotRead f x ⊎ (Conforms f × First ((78 ≤ room) or Short ∷ []) x ⊥)
   behind_it x e = ⊎_elim (λ r. inl (refused_for_a_reason f x r)) (λ r. inr (fine_conforming f r.0, first_not_met room_asked x r.1)) (refused_one (read_answer f) (unless (leb 78 room) Short) x e)
 
-  pub send_why_not : (x : Refusal) → send_answer n f room ≡ Refused x → WhyNotSent n f room x
+  pub send_why_not : (x : Refusal) → send_answer n f room ≡ Err x → WhyNotSent n f room x
   send_why_not x e = send_asked.refused x _ e (behind_it x)
 
-  pub sent_exactly : send_answer n f room ≡ Fine ↔ (In satellites n × (Conforms f × (78 ≤ room)))
+  pub sent_exactly : send_answer n f room ≡ (Ok tt) ↔ (In satellites n × (Conforms f × (78 ≤ room)))
   sent_exactly = (met, all)
     where
-      met : send_answer n f room ≡ Fine → In satellites n × (Conforms f × (78 ≤ room))
+      met : send_answer n f room ≡ Ok tt → In satellites n × (Conforms f × (78 ≤ room))
       met e =
           let a = send_asked.fine e in
           let p = fine_both (read_answer f) (unless (leb 78 room) Short) a.1 in
           (a.0.0, (fine_conforming f p.0, ((met_exactly room_asked).0 p.1).0))
 
-      all : In satellites n × (Conforms f × (78 ≤ room)) → send_answer n f room ≡ Fine
+      all : In satellites n × (Conforms f × (78 ≤ room)) → send_answer n f room ≡ Ok tt
       all m = send_asked.met (m.0, tt) ∙ ap (λ (v : Verdict). v then unless (leb 78 room) Short) (conforming_fine f m.1.0) ∙ fine_then (unless (leb 78 room) Short) ∙ (met_exactly room_asked).1 (m.1.1, tt)

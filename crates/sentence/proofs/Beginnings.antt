@@ -1,30 +1,19 @@
--- What a line begins with, byte after byte.
-use mathlib.Core.Path.{◌≡◌, refl, sym, ap, ap₂, ◌∙◌}
-use mathlib.Core.Bool.{Bool, false, ◌&&◌, and_assoc, and-true, and-false}
+-- What a line begins with, as the library asks it.
+use mathlib.Core.Path.{◌≡◌, refl, ap₂}
+use mathlib.Core.Bool.{◌&&◌}
 use mathlib.Core.List.{List, [], ◌∷◌}
-use Prim.Native.Nat.{ℕ, suc, ◌+◌, ◌≤◌, ◌<◌}
-use native.Mathlib.Numerals.{add-one}
+use Prim.Native.Nat.{ℕ}
 use native.Mathlib.Omega.{arith}
 use lib.Dec.{eqb}
-use lib.ListN.{length, drop, get_or, drop_of_length-le}
-use lib.Seq.{drop-cons}
+use Rattle.std.proofs.lemmas.Bool.Decides.{nat_tests}
+use Rattle.std.specs.List.{starts_with}
 use Rattle.sentence.specs.Sentences.{begins}
 
--- what is left to compare from here is what was to be compared
-pub begun_more : (head s : List ℕ) (i : ℕ) (same : Bool) → i < length head → i < length s
-    → same && begins (drop i head) (drop i s) ≡ same && eqb (get_or s i 0) (get_or head i 0) && begins (drop (i + 1) head) (drop (i + 1) s)
-unfolding begins
-begun_more head s i same h k =
-    ap₂ (λ (x y : List ℕ). same && begins x y) (drop-cons head i 0 h) (drop-cons s i 0 k)
-    ∙ sym (and_assoc same (eqb (get_or s i 0) (get_or head i 0)) (begins (drop (suc i) head) (drop (suc i) s)))
-    ∙ ap (λ (n : ℕ). same && eqb (get_or s i 0) (get_or head i 0) && begins (drop n head) (drop n s)) (sym (add-one i))
+same_either_way : (a b : ℕ) → eqb a b ≡ eqb b a
+same_either_way a b = grind (arith, nat_tests)
 
-pub begun_all : (head s : List ℕ) (i : ℕ) (same : Bool) → length head ≤ i → same && begins (drop i head) s ≡ same
+pub starts_begins : (s head : List ℕ) → starts_with eqb s head ≡ begins head s
 unfolding begins
-begun_all head s i same h = ap (λ (x : List ℕ). same && begins x s) (drop_of_length-le head h) ∙ and-true same
-
-pub too_short : (head s : List ℕ) → length s < length head → false ≡ begins head s
-unfolding begins
-too_short [] s h = absurd (omega arith)
-too_short (x ∷ head) [] h = refl
-too_short (x ∷ head) (b ∷ s) h = sym (ap (λ (t : Bool). eqb b x && t) (sym (too_short head s (omega arith))) ∙ and-false (eqb b x))
+starts_begins s [] = refl
+starts_begins [] (h ∷ hs) = refl
+starts_begins (b ∷ s) (h ∷ hs) = ap₂ ◌&&◌ (same_either_way h b) (starts_begins s hs)

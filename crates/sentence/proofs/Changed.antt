@@ -1,4 +1,5 @@
 -- A sentence with one character between `$` and `*` changed to another.
+use Rattle.std.specs.Prelude.{Err}
 use mathlib.Core.Path.{◌≡◌, refl, sym, ap, ap₂, ◌∙◌}
 use mathlib.Core.Bool.{Bool, true, false}
 use mathlib.Core.List.{List, [], ◌∷◌}
@@ -7,7 +8,6 @@ use Prim.Native.Nat.{ℕ, zero, suc, ◌+◌, ◌*◌, ◌<◌}
 use native.Mathlib.Omega.{arith}
 use lib.ListN.{length, take, drop, get_or, set, length-take, length-drop}
 use lib.Seq.{get_or-set_other, get_or-take}
-use Rattle.rows.specs.declared.refusal.Verdict.TheVariants.{Refused}
 use Rattle.rows.specs.declared.refusal.Refusal.TheVariants.{Sentence, Checksum}
 use Rattle.line.specs.Lines.{worth}
 use Rattle.sentence.specs.Sentences.{checksum, between, told_in, has_form, sentence_answer}
@@ -39,12 +39,12 @@ module _ (s : List ℕ) (i b : ℕ) (h : i < 72) (other : b ≡ get_or s (suc i)
       let there : i < length (between s) = omega (arith, length-take 72 (drop 1 s), length-drop 1 s) in
       other (sum_changed (between s) i b there (sym (ap checksum (between-set s i b h)) ∙ e) ∙ between-at s i h)
 
-  pub changed_refused : checksum (between s) ≡ told_in s → (sentence_answer (set s (suc i) b) ≡ Refused Sentence) ⊎ (sentence_answer (set s (suc i) b) ≡ Refused Checksum)
+  pub changed_refused : checksum (between s) ≡ told_in s → (sentence_answer (set s (suc i) b) ≡ Err Sentence) ⊎ (sentence_answer (set s (suc i) b) ≡ Err Checksum)
   changed_refused told = by (has_form t) refl
     where
       t : List ℕ
       t = set s (suc i) b
 
-      by : (f : Bool) → has_form t ≡ f → (sentence_answer t ≡ Refused Sentence) ⊎ (sentence_answer t ≡ Refused Checksum)
+      by : (f : Bool) → has_form t ≡ f → (sentence_answer t ≡ Err Sentence) ⊎ (sentence_answer t ≡ Err Checksum)
       by false e = inl (around_refused_lem t Sentence (is_18 t e))
       by true e = inr (around_refused_lem t Checksum (is_19 t e (λ q. sum_differs (q ∙ told_set s i b h ∙ sym told))))

@@ -1,24 +1,23 @@
 -- The checksum, character after character.
 use mathlib.Core.Path.{◌≡◌, sym, ap, ◌∙◌}
 use mathlib.Core.List.{List, [], ◌∷◌}
-use Prim.Native.Nat.{ℕ, zero, suc, ◌+◌, ◌<◌}
-use native.Mathlib.Numerals.{add-one}
+use Prim.Native.Nat.{ℕ, zero, suc, ◌<◌}
 use native.Mathlib.Omega.{arith}
-use lib.Bits.{bit_xor, xor_zero_l, xor_self, xor_comm, xor_lt}
-use lib.ListN.{length, take, drop, get_or, set}
-use lib.Seq.{drop-cons}
-use Rattle.sentence.specs.Sentences.{checksum, part}
+use lib.Bits.{bit_xor, xor_zero_l, xor_zero_r, xor_self, xor_comm, xor_lt}
+use lib.ListN.{length, get_or, set}
+use Rattle.std.specs.List.{fold}
+use Rattle.sentence.specs.Sentences.{checksum}
 use Rattle.bits.specs.Frame.{Bytes}
 use Rattle.parity.proofs.Xor.{xor_assoc}
 
--- n + 1 characters are one and n more
-part_more : (s : List ℕ) (i n : ℕ) → i < length s → part i (suc n) s ≡ get_or s i 0 ∷ part (i + 1) n s
-part_more s i n h = ap (take (suc n)) (drop-cons s i 0 h) ∙ ap (λ (k : ℕ). get_or s i 0 ∷ take n (drop k s)) (sym (add-one i))
-
--- what is left to take in from here is what was to be taken in
-pub sum_more : (s : List ℕ) (i n sum : ℕ) → i < length s → bit_xor sum (checksum (part i (suc n) s)) ≡ bit_xor (bit_xor sum (get_or s i 0)) (checksum (part (i + 1) n s))
+-- one character after another, from whatever was taken in before
+folded_from : (l : List ℕ) (sum : ℕ) → fold (λ s b. bit_xor s b) sum l ≡ bit_xor sum (checksum l)
 unfolding checksum
-sum_more s i n sum h = ap (λ (l : List ℕ). bit_xor sum (checksum l)) (part_more s i n h) ∙ sym (xor_assoc sum (get_or s i 0) (checksum (part (i + 1) n s)))
+folded_from [] sum = sym (xor_zero_r sum)
+folded_from (x ∷ l) sum = folded_from l (bit_xor sum x) ∙ xor_assoc sum x (checksum l)
+
+pub sum_folded : (l : List ℕ) → fold (λ s b. bit_xor s b) 0 l ≡ checksum l
+sum_folded l = folded_from l 0 ∙ xor_zero_l (checksum l)
 
 -- the checksum of bytes is a byte
 pub sum_below : (l : List ℕ) → Bytes l → checksum l < 256

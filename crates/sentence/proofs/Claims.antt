@@ -1,4 +1,5 @@
 -- What this crate claims of its definitions (document 02, "Receiver sentences in and out").
+use Rattle.std.specs.Prelude.{Ok, Err}
 use mathlib.Core.Path.{◌≡◌, refl, ap, ◌∙◌}
 use mathlib.Core.Bool.{true, false}
 use mathlib.Core.List.{List, [], ◌∷◌, ◌++◌, map}
@@ -6,7 +7,6 @@ use mathlib.Core.Logic.{◌↔◌, ◌⊎◌}
 use Prim.Native.Nat.{ℕ, suc, ◌/◌, ◌%◌, ◌≤◌, ◌<◌}
 use lib.ListN.{length, take, drop, get_or, set}
 use Rattle.bits.specs.Frame.{Bytes}
-use Rattle.rows.specs.declared.refusal.Verdict.TheVariants.{Fine, Refused}
 use Rattle.rows.specs.declared.refusal.Refusal.{Refusal}
 use Rattle.rows.specs.declared.refusal.Refusal.TheVariants.{Line, Sentence, Checksum}
 use Rattle.rows.specs.Kept.{In}
@@ -42,50 +42,50 @@ a_written_sentence_has_its_frame n f c bytes =
 -- ---- a sentence that is read, beside the one that we would write
 
 -- It can be written, with its satellite and its frame ..
-pub what_is_read_can_be_written : (s : List ℕ) → sentence_answer s ≡ Fine → send_answer (sentence_reading s).satellite (frame_of_line (digits_in s)) 78 ≡ Fine
+pub what_is_read_can_be_written : (s : List ℕ) → sentence_answer s ≡ Ok tt → send_answer (sentence_reading s).satellite (frame_of_line (digits_in s)) 78 ≡ Ok tt
 what_is_read_can_be_written = Read.may_be_sent
 
 -- .. and has the characters of the satellite and, as capitals, the 63 digits of what would be written.
-pub what_is_read_has_the_satellite_and_digits_of_what_we_write : (s : List ℕ) → sentence_answer s ≡ Fine
+pub what_is_read_has_the_satellite_and_digits_of_what_we_write : (s : List ℕ) → sentence_answer s ≡ Ok tt
     → (part 7 2 (sentence_of (sentence_reading s).satellite (frame_of_line (digits_in s))) ≡ part 7 2 s)
     × (digits_in (sentence_of (sentence_reading s).satellite (frame_of_line (digits_in s))) ≡ capitals (digits_in s))
 what_is_read_has_the_satellite_and_digits_of_what_we_write s e = (Read.same_satellite s e, Read.same_digits s e)
 
 -- Its checksum digits, as capitals, are those of its own characters between `$` and `*` ..
-pub the_checksum_is_that_of_its_own_characters : (s : List ℕ) → sentence_answer s ≡ Fine
+pub the_checksum_is_that_of_its_own_characters : (s : List ℕ) → sentence_answer s ≡ Ok tt
     → (upper (get_or s 74 0) ≡ capital (checksum (between s) / 16)) × (upper (get_or s 75 0) ≡ capital (checksum (between s) % 16))
 the_checksum_is_that_of_its_own_characters = Read.own_checksum
 
 -- .. so where no digit of the frame is a small letter, it is what we would write but for the case of the checksum digits.
-pub without_small_letters_it_is_what_we_write : (s : List ℕ) → sentence_answer s ≡ Fine → capitals (digits_in s) ≡ digits_in s
+pub without_small_letters_it_is_what_we_write : (s : List ℕ) → sentence_answer s ≡ Ok tt → capitals (digits_in s) ≡ digits_in s
     → sentence_of (sentence_reading s).satellite (frame_of_line (digits_in s)) ≡ take 74 s ++ (upper (get_or s 74 0) ∷ upper (get_or s 75 0) ∷ drop 76 s)
 without_small_letters_it_is_what_we_write = Read.would_write
 
 -- ---- "18 .. ; 19 checksum; 20 satellite not listed; then 17, then the frame's own": the first question that is not met
 
-pub sentence_refused_for_a_reason : (s : List ℕ) (x : Refusal) → sentence_answer s ≡ Refused x → WhyNotReadAsSentence s x
+pub sentence_refused_for_a_reason : (s : List ℕ) (x : Refusal) → sentence_answer s ≡ Err x → WhyNotReadAsSentence s x
 sentence_refused_for_a_reason = Asked.read_why_not
 
 -- "where no row tested by a call applies, the call succeeds", and there alone
-pub sentence_read_exactly_when_nothing_is_wrong : (s : List ℕ) → sentence_answer s ≡ Fine ↔ (Met (sentence_questions s) × (SixtyThreeDigits (digits_in s) × Conforms (frame_of_line (digits_in s))))
+pub sentence_read_exactly_when_nothing_is_wrong : (s : List ℕ) → sentence_answer s ≡ (Ok tt) ↔ (Met (sentence_questions s) × (SixtyThreeDigits (digits_in s) × Conforms (frame_of_line (digits_in s))))
 sentence_read_exactly_when_nothing_is_wrong = Asked.read_exactly
 
 -- what reading gives is answered so; "A refused reading gives a record of zeros", and satellite 0
 pub reading_a_sentence_answers_so : (s : List ℕ) → (sentence_reading s).reading.answer ≡ sentence_answer s
 reading_a_sentence_answers_so = Read.answered
 
-pub a_refused_sentence_gives_nothing : (s : List ℕ) (x : Refusal) → sentence_answer s ≡ Refused x → ((sentence_reading s).satellite ≡ 0) × ((sentence_reading s).reading.«record» ≡ zeros)
+pub a_refused_sentence_gives_nothing : (s : List ℕ) (x : Refusal) → sentence_answer s ≡ Err x → ((sentence_reading s).satellite ≡ 0) × ((sentence_reading s).reading.«record» ≡ zeros)
 a_refused_sentence_gives_nothing = Read.refused_nothing
 
 -- A comma or a star among the digits is no matter for 18: what is no digit there is 17, once 18, 19 and 20 are passed.
-pub what_is_no_digit_is_17 : (s : List ℕ) → Met (sentence_questions s) → (SixtyThreeDigits (digits_in s) → ⊥) → sentence_answer s ≡ Refused Line
+pub what_is_no_digit_is_17 : (s : List ℕ) → Met (sentence_questions s) → (SixtyThreeDigits (digits_in s) → ⊥) → sentence_answer s ≡ Err Line
 what_is_no_digit_is_17 s m n = Asked.digits_decide s m ∙ (refused_17 (digits_in s)).1 n
 
 -- "Writing tests 20, then all that reading the frame refuses, then 16"
-pub sending_refused_for_a_reason : (n : ℕ) (f : List ℕ) (room : ℕ) (x : Refusal) → send_answer n f room ≡ Refused x → WhyNotSent n f room x
+pub sending_refused_for_a_reason : (n : ℕ) (f : List ℕ) (room : ℕ) (x : Refusal) → send_answer n f room ≡ Err x → WhyNotSent n f room x
 sending_refused_for_a_reason = Asked.send_why_not
 
-pub sent_exactly_when_nothing_is_wrong : (n : ℕ) (f : List ℕ) (room : ℕ) → send_answer n f room ≡ Fine ↔ (In satellites n × (Conforms f × (78 ≤ room)))
+pub sent_exactly_when_nothing_is_wrong : (n : ℕ) (f : List ℕ) (room : ℕ) → send_answer n f room ≡ (Ok tt) ↔ (In satellites n × (Conforms f × (78 ≤ room)))
 sent_exactly_when_nothing_is_wrong = Asked.sent_exactly
 
 -- ---- the checksum
@@ -95,8 +95,8 @@ pub one_changed_character_changes_the_checksum : (l : List ℕ) (i b : ℕ) → 
 one_changed_character_changes_the_checksum l i b h other e = other (Checksums.sum_changed l i b h e)
 
 -- .. so a sentence that is read is refused with 18 or 19 once a character between `$` and `*`, which stand at 0 and 73, is another.
-pub a_changed_sentence_is_18_or_19 : (s : List ℕ) (i b : ℕ) → sentence_answer s ≡ Fine → i < 72 → (b ≡ get_or s (suc i) 0 → ⊥)
-    → (sentence_answer (set s (suc i) b) ≡ Refused Sentence) ⊎ (sentence_answer (set s (suc i) b) ≡ Refused Checksum)
+pub a_changed_sentence_is_18_or_19 : (s : List ℕ) (i b : ℕ) → sentence_answer s ≡ Ok tt → i < 72 → (b ≡ get_or s (suc i) 0 → ⊥)
+    → (sentence_answer (set s (suc i) b) ≡ Err Sentence) ⊎ (sentence_answer (set s (suc i) b) ≡ Err Checksum)
 a_changed_sentence_is_18_or_19 s i b e h other = let m = ((Asked.read_exactly s).0 e).0 in Changed.changed_refused s i b h other m.0.long m.1.0
 
 -- ---- satellites

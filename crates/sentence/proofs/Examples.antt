@@ -5,7 +5,6 @@ use Prim.Native.Nat.{ℕ}
 use lib.ListN.{set}
 use Rattle.parity.specs.Parity.{step, parity_of}
 use Rattle.rows.specs.Refusals.{answers}
-use Rattle.rows.specs.Runs.Questions.{◌then◌, unless}
 use Rattle.rows.specs.Runs.Verdict.{allowed, empty, judge, later, slots_verdict, verdict, walk}
 use Rattle.rows.specs.Values.{values_of}
 use Rattle.report.specs.Categories.{body_from}
@@ -49,5 +48,5 @@ examples =
     ∷ []
 
 pub the_examples_are_answered_so : map said examples ≡ (55 ∷ 0 ∷ []) ∷ (61 ∷ 0 ∷ []) ∷ (0 ∷ 18 ∷ []) ∷ (0 ∷ 18 ∷ []) ∷ (0 ∷ 19 ∷ []) ∷ (0 ∷ 19 ∷ []) ∷ (0 ∷ 20 ∷ []) ∷ (0 ∷ 19 ∷ []) ∷ (0 ∷ 20 ∷ []) ∷ (0 ∷ 17 ∷ []) ∷ []
-unfolding sentence_reading around_answer has_form begins checksum told_in satellite_in line_reading is_line all_digits allowed frame_of_line paired outer_of ◌then◌ unless parity_of step body_from verdict values_of walk judge slots_verdict later empty
+unfolding sentence_reading around_answer has_form begins checksum told_in satellite_in line_reading is_line all_digits allowed frame_of_line paired outer_of parity_of step body_from verdict values_of walk judge slots_verdict later empty
 the_examples_are_answered_so = refl

@@ -1,4 +1,6 @@
 -- The form of a sentence, test by test, and what is answered of what stands around its digits.
+use Rattle.std.specs.Prelude.{Ok}
+use Rattle.rows.specs.Refusals.{Verdict}
 use mathlib.Core.Path.{◌≡◌, refl, sym, ap}
 use mathlib.Core.Bool.{true, false, ◌&&◌}
 use mathlib.Core.List.{List, [], ◌∷◌}
@@ -7,16 +9,12 @@ use native.Mathlib.Omega.{arith}
 use borrow.Author.Tests.{eq-eqb, ne_eqb, eqb-true}
 use lib.Dec.{eqb}
 use lib.ListN.{length, get_or}
-use Rattle.rows.specs.declared.refusal.Verdict.{Verdict}
-use Rattle.rows.specs.declared.refusal.Verdict.TheVariants.{Fine}
 use Rattle.rows.specs.declared.refusal.Refusal.TheVariants.{Sentence, Checksum, Satellite}
-use Rattle.rows.specs.Runs.Questions.{◌then◌, unless}
 use Rattle.rows.specs.Runs.Verdict.{allowed}
 use Rattle.rows.proofs.Rules.Outcomes.{and_both, both_and, false_not_true}
 use Rattle.rows.proofs.Rules.Spans.{allowed_in, in_allowed}
 use Rattle.line.specs.Lines.{digits}
-use Rattle.sentence.specs.declared.form.Around.{Around}
-use Rattle.sentence.specs.Sentences.{head, comma, star, satellites, checksum, between, begins, satellite_in, told_in, has_form, around_refused, around_as, around_answer, around_of}
+use Rattle.sentence.specs.Sentences.{head, comma, star, satellites, checksum, between, begins, satellite_in, told_in, has_form, around_refused, around_as, around_answer, around_of, Around}
 use Rattle.sentence.specs.Reasons.{Formed}
 
 -- ---- what a sentence begins with
@@ -69,21 +67,21 @@ form_of s f =
 
 module _ (s : List ℕ) where
   pub is_18 : has_form s ≡ false → around_refused Sentence ≡ around_of s
-  unfolding around_of around_answer ◌then◌ unless
+  unfolding around_of around_answer
   is_18 e = simp e
 
   pub is_19 : has_form s ≡ true → (checksum (between s) ≡ told_in s → ⊥) → around_refused Checksum ≡ around_of s
-  unfolding around_of around_answer ◌then◌ unless
+  unfolding around_of around_answer
   is_19 e n = simp (e, ne_eqb (checksum (between s)) (told_in s) n)
 
   pub is_20 : has_form s ≡ true → checksum (between s) ≡ told_in s → allowed satellites (satellite_in s) ≡ false → around_refused Satellite ≡ around_of s
-  unfolding around_of around_answer ◌then◌ unless
+  unfolding around_of around_answer
   is_20 e m n = simp (e, eq-eqb (checksum (between s)) (told_in s) m, n)
 
-  pub all_three : has_form s ≡ true → checksum (between s) ≡ told_in s → allowed satellites (satellite_in s) ≡ true → around_answer s ≡ Fine
-  unfolding around_answer ◌then◌ unless
+  pub all_three : has_form s ≡ true → checksum (between s) ≡ told_in s → allowed satellites (satellite_in s) ≡ true → around_answer s ≡ Ok tt
+  unfolding around_answer
   all_three e m n = simp (e, eq-eqb (checksum (between s)) (told_in s) m, n)
 
-  pub is_fine_lem : has_form s ≡ true → checksum (between s) ≡ told_in s → allowed satellites (satellite_in s) ≡ true → ◌≡◌ {A = Around} (record { answer = Fine; satellite = satellite_in s }) (around_of s)
+  pub is_fine_lem : has_form s ≡ true → checksum (between s) ≡ told_in s → allowed satellites (satellite_in s) ≡ true → ◌≡◌ {A = Around} (record { answer = Ok tt; satellite = satellite_in s }) (around_of s)
   unfolding around_of
   is_fine_lem e m n = sym (ap (λ (v : Verdict). around_as v s) (all_three e m n))

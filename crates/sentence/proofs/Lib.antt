@@ -3,6 +3,7 @@ pub mod Beginnings
 pub mod Checksums
 pub mod Forms
 pub mod Fed
+pub mod Inside
 pub mod Satellites
 pub mod Hearing
 pub mod Sending

@@ -1,4 +1,6 @@
 -- What a sentence that is read tells, and what one that is refused does not.
+use Rattle.std.specs.Prelude.{Ok, Err}
+use Rattle.rows.specs.Refusals.{Verdict}
 use mathlib.Core.Path.{◌≡◌, refl, sym, ap, ◌∙◌}
 use mathlib.Core.Bool.{true}
 use mathlib.Core.List.{List, [], ◌∷◌, ◌++◌}
@@ -6,8 +8,6 @@ use Prim.Native.Nat.{ℕ, ◌+◌, ◌/◌, ◌%◌, ◌≤◌}
 use native.Mathlib.Omega.{arith}
 use lib.Dec.{lit≤}
 use lib.ListN.{length, take, drop, get_or}
-use Rattle.rows.specs.declared.refusal.Verdict.{Verdict}
-use Rattle.rows.specs.declared.refusal.Verdict.TheVariants.{Fine, Refused}
 use Rattle.rows.specs.declared.refusal.Refusal.{Refusal}
 use Rattle.rows.specs.Kept.{In}
 use Rattle.report.specs.Conforms.{Conforms}
@@ -31,17 +31,17 @@ answered = sentence_answer_lem
 
 -- ---- refused
 
-nothing_behind : (v : Verdict) (s : List ℕ) (x : Refusal) → (behind v s).reading.answer ≡ Refused x → ((behind v s).satellite ≡ 0) × ((behind v s).reading.«record» ≡ zeros)
-nothing_behind Fine s x e = (ap (λ (v : Verdict). satellite_of v (satellite_in s)) e, refused_zeros (digits_in s) x e)
-nothing_behind (Refused y) s x e = (refl, refl)
+nothing_behind : (v : Verdict) (s : List ℕ) (x : Refusal) → (behind v s).reading.answer ≡ Err x → ((behind v s).satellite ≡ 0) × ((behind v s).reading.«record» ≡ zeros)
+nothing_behind (Ok tt) s x e = (ap (λ (v : Verdict). satellite_of v (satellite_in s)) e, refused_zeros (digits_in s) x e)
+nothing_behind (Err y) s x e = (refl, refl)
 
-pub refused_nothing : (s : List ℕ) (x : Refusal) → sentence_answer s ≡ Refused x → ((sentence_reading s).satellite ≡ 0) × ((sentence_reading s).reading.«record» ≡ zeros)
+pub refused_nothing : (s : List ℕ) (x : Refusal) → sentence_answer s ≡ Err x → ((sentence_reading s).satellite ≡ 0) × ((sentence_reading s).reading.«record» ≡ zeros)
 unfolding sentence_reading
 refused_nothing s x e = nothing_behind (around_answer s) s x (sentence_answer_lem s ∙ e)
 
 -- ---- read
 
-module _ (s : List ℕ) (e : sentence_answer s ≡ Fine) where
+module _ (s : List ℕ) (e : sentence_answer s ≡ Ok tt) where
   formed : Formed s
   formed = ((read_exactly s).0 e).0.0
 
@@ -54,7 +54,7 @@ module _ (s : List ℕ) (e : sentence_answer s ≡ Fine) where
   conforms : Conforms (frame_of_line (digits_in s))
   conforms = ((read_exactly s).0 e).1.1
 
-  around : around_answer s ≡ Fine
+  around : around_answer s ≡ Ok tt
   around = around_fine s (sentence_answer_lem s ∙ e)
 
   listed : In satellites (satellite_in s)
@@ -67,7 +67,7 @@ module _ (s : List ℕ) (e : sentence_answer s ≡ Fine) where
   long : length (frame_of_line (digits_in s)) ≡ 32
   long = frame-length (digits_in s) (Pieces.digits_long s formed)
 
-  pub may_be_sent : send_answer (sentence_reading s).satellite (frame_of_line (digits_in s)) 78 ≡ Fine
+  pub may_be_sent : send_answer (sentence_reading s).satellite (frame_of_line (digits_in s)) 78 ≡ Ok tt
   may_be_sent = ap (λ (n : ℕ). send_answer n (frame_of_line (digits_in s)) 78) satellite ∙ (sent_exactly (satellite_in s) (frame_of_line (digits_in s)) 78).1 (listed, (conforms, lit≤ tt))
 
   names : Names s (sentence_reading s).satellite
@@ -90,17 +90,17 @@ module _ (s : List ℕ) (e : sentence_answer s ≡ Fine) where
 
 -- ---- which numbers a satellite has
 
-pub satellite_high : (s : List ℕ) → sentence_answer s ≡ Fine → 55 ≤ (sentence_reading s).satellite
+pub satellite_high : (s : List ℕ) → sentence_answer s ≡ Ok tt → 55 ≤ (sentence_reading s).satellite
 satellite_high s e = omega (arith, satellite s e, listed_above (satellite_in s) (listed s e))
 
 of_low : (v : Verdict) (n : ℕ) → n ≤ 61 → satellite_of v n ≤ 61
-of_low Fine n h = h
-of_low (Refused x) n h = omega arith
+of_low (Ok tt) n h = h
+of_low (Err x) n h = omega arith
 
 pub satellite_low : (s : List ℕ) → (sentence_reading s).satellite ≤ 61
 unfolding sentence_reading
 satellite_low s = by (around_answer s) refl
   where
     by : (v : Verdict) → around_answer s ≡ v → (behind v s).satellite ≤ 61
-    by Fine e = of_low (line_reading (digits_in s)).answer (satellite_in s) (listed_below (satellite_in s) (allowed_in satellites (satellite_in s) (around_met s e).2))
-    by (Refused x) e = omega arith
+    by (Ok tt) e = of_low (line_reading (digits_in s)).answer (satellite_in s) (listed_below (satellite_in s) (allowed_in satellites (satellite_in s) (around_met s e).2))
+    by (Err x) e = omega arith

@@ -1,4 +1,6 @@
 -- What writing a sentence answers, question after question.
+use Rattle.std.specs.Prelude.{Ok, Err}
+use Rattle.rows.specs.Refusals.{Verdict}
 use mathlib.Core.Path.{◌≡◌, sym, ap, ap₂, ◌∙◌}
 use mathlib.Core.Bool.{Bool, true, false}
 use mathlib.Core.List.{List, [], ◌∷◌, ◌++◌, append_assoc, append-nil}
@@ -11,16 +13,13 @@ use lib.ListN.{length, take, drop, length-append, length-drop, drop_of_length-le
 use lib.Seq.{sets, sets-eq, length-take-le, take-append_seam, drop-drop}
 use Rattle.bits.specs.Frame.{field_of}
 use Rattle.lent.proofs.Chains.{sets-sets}
-use Rattle.rows.specs.declared.refusal.Verdict.{Verdict}
-use Rattle.rows.specs.declared.refusal.Verdict.TheVariants.{Fine, Refused}
 use Rattle.rows.specs.declared.refusal.Refusal.TheVariants.{Short, Satellite}
 use Rattle.rows.specs.Runs.Questions.{◌then◌, unless}
 use Rattle.rows.specs.Runs.Verdict.{allowed}
 use Rattle.rows.proofs.Rules.Outcomes.{fine_both, unless_fine}
 use Rattle.rows.proofs.Rules.Spans.{allowed_in}
-use Rattle.report.specs.declared.read.Reading.{Reading}
 use Rattle.report.specs.Records.{record_of}
-use Rattle.report.specs.Runs.Reading.{read_answer, read_of}
+use Rattle.report.specs.Runs.Reading.{read_answer, read_of, Reading}
 use Rattle.report.proofs.Reading.Frames.{fine_conforming}
 use Rattle.report.proofs.Reading.ReadSteps.{answer_found}
 use Rattle.line.specs.Lines.{line_of, line_written, line_into}
@@ -29,19 +28,19 @@ use Rattle.line.proofs.LineReasons.{print_exactly}
 use Rattle.sentence.specs.Sentences.{head, comma, satellites, checksum, between, body_of, end_of, sentence_of, send_answer}
 
 module _ (n : ℕ) (f : List ℕ) (room : ℕ) where
-  pub not_listed : allowed satellites n ≡ false → Refused Satellite ≡ send_answer n f room
-  unfolding send_answer ◌then◌ unless
+  pub not_listed : allowed satellites n ≡ false → Err Satellite ≡ send_answer n f room
+  unfolding send_answer
   not_listed e = simp e
 
   -- what the code asks of a frame that it read
   pub then_asked : allowed satellites n ≡ true → (r : Reading) → r ≡ read_of f → r.answer then unless (leb 78 room) Short ≡ send_answer n f room
-  unfolding send_answer ◌then◌ unless
+  unfolding send_answer
   then_asked e r l =
       ap (λ (v : Verdict). v then unless (leb 78 room) Short) (ap (λ (x : Reading). x.answer) l ∙ answer_found (read_answer f) (record_of f))
       ∙ sym (ap (λ (b : Bool). unless b Satellite then read_answer f then unless (leb 78 room) Short) e)
 
   -- nothing is refused, so each question was met
-  send_met : send_answer n f room ≡ Fine → (allowed satellites n ≡ true) × (read_answer f ≡ Fine) × (leb 78 room ≡ true)
+  send_met : send_answer n f room ≡ Ok tt → (allowed satellites n ≡ true) × (read_answer f ≡ Ok tt) × (leb 78 room ≡ true)
   unfolding send_answer
   send_met e =
       let p = fine_both (unless (allowed satellites n) Satellite) (read_answer f then unless (leb 78 room) Short) e in
@@ -49,7 +48,7 @@ module _ (n : ℕ) (f : List ℕ) (room : ℕ) where
       (unless_fine (allowed satellites n) Satellite p.0, q.0, unless_fine (leb 78 room) Short q.1)
 
   -- so what is put is a frame of a satellite, and has room
-  pub may_put : send_answer n f room ≡ Fine → (n ≤ 99) × (length f ≡ 32) × (field_of f 250 6 ≡ 0) × (78 ≤ room)
+  pub may_put : send_answer n f room ≡ Ok tt → (n ≤ 99) × (length f ≡ 32) × (field_of f 250 6 ≡ 0) × (78 ≤ room)
   may_put e =
       let m = send_met e in
       let c = fine_conforming f m.1 in

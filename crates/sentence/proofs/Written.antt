@@ -1,4 +1,6 @@
 -- A sentence that we wrote: what stands where, and that it is read back.
+use Rattle.std.specs.Prelude.{Ok}
+use Rattle.rows.specs.Refusals.{Verdict}
 use mathlib.Core.Path.{◌≡◌, refl, sym, ap, ap₂, subst, ◌∙◌}
 use mathlib.Core.Bool.{Bool, true, false, ◌&&◌}
 use mathlib.Core.List.{List, [], ◌∷◌, ◌++◌}
@@ -10,8 +12,6 @@ use lib.ListN.{length, take, drop, get_or, length-append, get_or-append, get_or-
 use lib.Seq.{get_or-append-add, take-append_seam}
 use borrow.Author.Tests.{ltb-true, ltb-false}
 use Rattle.bits.specs.Frame.{Bytes, field_of}
-use Rattle.rows.specs.declared.refusal.Verdict.{Verdict}
-use Rattle.rows.specs.declared.refusal.Verdict.TheVariants.{Fine}
 use Rattle.rows.specs.Kept.{In}
 use Rattle.rows.specs.Runs.Verdict.{allowed}
 use Rattle.rows.proofs.Rules.Outcomes.{and_both}
@@ -122,7 +122,7 @@ module _ (n : ℕ) (f : List ℕ) (listed : In satellites n) (long : length f �
   unfolding sentence_of
   written_satellite = named_number (sentence_of n f) n listed (refl, refl)
 
-  written_fine : around_answer (sentence_of n f) ≡ Fine
+  written_fine : around_answer (sentence_of n f) ≡ Ok tt
   written_fine = all_three (sentence_of n f) (form_of (sentence_of n f) written_formed) written_told (ap (allowed satellites) written_satellite ∙ in_allowed satellites n listed)
 
   -- ---- read back

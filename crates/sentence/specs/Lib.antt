@@ -1,2 +1,3 @@
 pub mod Sentences
+pub mod Pieces
 pub mod Reasons

@@ -1,22 +1,19 @@
 -- A frame as the sentence of a receiver (document 001, table 4.3.1-1; document 02, "Receiver sentences in and out"): `$QZQSM`, comma, satellite,
 -- comma, 63 digits, star, two checksum digits, carriage return, line feed. These are 78 characters, at fixed places from 0 on.
-use Rattle.std.specs.Prelude.{ℕ, ◌+◌, ◌-◌, ◌*◌, ◌/◌, ◌%◌, Bool, true, false, ◌&&◌, not, cond, List, [], ◌∷◌, ◌++◌, eqb, leb, length, take, drop, get_or}
+use Rattle.std.specs.Prelude.{ℕ, ◌+◌, ◌-◌, ◌*◌, ◌/◌, ◌%◌, Bool, true, false, ◌&&◌, not, cond, List, [], ◌∷◌, ◌++◌, eqb, leb, length, take, drop, get_or, Result, Ok, Err}
 use Rattle.std.specs.Int.Bits.{bit_xor}
-use Rattle.rows.specs.declared.refusal.Verdict.{Verdict}
-use Rattle.rows.specs.declared.refusal.Verdict.TheVariants.{Fine, Refused}
 use Rattle.rows.specs.declared.refusal.Refusal.{Refusal}
 use Rattle.rows.specs.declared.refusal.Refusal.TheVariants.{Short, Line, Sentence, Checksum, Satellite}
 use Rattle.rows.specs.declared.refusal.Said.{Said}
-use Rattle.rows.specs.Refusals.{answers}
+use Rattle.rows.specs.Refusals.{answers, outcome, Verdict}
 use Rattle.rows.specs.Layout.{Span, ◌to◌}
 use Rattle.rows.specs.Runs.Questions.{◌then◌, unless}
 use Rattle.rows.specs.Runs.Verdict.{allowed}
-use Rattle.report.specs.declared.read.Reading.{Reading}
-use Rattle.report.specs.Runs.Reading.{read_answer, seen, unread}
+use Rattle.report.specs.Runs.Reading.{read_answer, seen, unread, Reading, Seen}
+use Rattle.report.specs.declared.look.Looked.{Looked}
+use Rattle.sentence.specs.declared.from_sentence.Reception.{Reception}
+use Rattle.sentence.specs.declared.from_sentence.Hearing.{Hearing}
 use Rattle.line.specs.Lines.{digits, worth, capital, is_line, frame_of_line, line_reading, line_of}
-use Rattle.sentence.specs.declared.form.Around.{Around}
-use Rattle.sentence.specs.declared.from_sentence.Received.{Received}
-use Rattle.sentence.specs.declared.from_sentence.Heard.{Heard}
 
 -- ---- its characters
 
@@ -85,6 +82,21 @@ has_form s =
 
 -- ---- from a sentence
 
+-- what stands around the digits: what is found, and the satellite
+pub record Around : Type 0 where
+  pub answer : Verdict
+  pub satellite : ℕ
+
+-- what reading comes to: the satellite, and what is read
+pub record Received : Type 0 where
+  pub satellite : ℕ
+  pub reading : Reading
+
+-- what a listing needs of it: the satellite, and what is seen
+pub record Heard : Type 0 where
+  pub satellite : ℕ
+  pub look : Seen
+
 -- what stands around the digits: 18, then "19 checksum; 20 satellite not listed"
 unfoldable pub around_answer : List ℕ → Verdict
 around_answer s =
@@ -93,19 +105,19 @@ around_answer s =
     then unless (allowed satellites (satellite_in s)) Satellite
 
 abbrev pub around_refused : Refusal → Around
-around_refused x = record { answer = Refused x; satellite = 0 }
+around_refused x = record { answer = Err x; satellite = 0 }
 
 abbrev pub around_as : Verdict → List ℕ → Around
-around_as Fine s = record { answer = Fine; satellite = satellite_in s }
-around_as (Refused x) s = around_refused x
+around_as (Ok tt) s = record { answer = Ok tt; satellite = satellite_in s }
+around_as (Err x) s = around_refused x
 
 unfoldable pub around_of : List ℕ → Around
 around_of s = around_as (around_answer s) s
 
 -- a refused reading gives satellite 0
 abbrev pub satellite_of : Verdict → ℕ → ℕ
-satellite_of Fine n = n
-satellite_of (Refused x) n = 0
+satellite_of (Ok tt) n = n
+satellite_of (Err x) n = 0
 
 abbrev pub received : ℕ → Reading → Received
 received n r = record { satellite = satellite_of r.answer n; reading = r }
@@ -115,8 +127,8 @@ unheard v = record { satellite = 0; reading = unread v }
 
 -- "then 17, then the frame's own"
 abbrev pub behind : Verdict → List ℕ → Received
-behind Fine s = received (satellite_in s) (line_reading (digits_in s))
-behind (Refused x) s = unheard (Refused x)
+behind (Ok tt) s = received (satellite_in s) (line_reading (digits_in s))
+behind (Err x) s = unheard (Err x)
 
 unfoldable pub sentence_reading : List ℕ → Received
 sentence_reading s = behind (around_answer s) s
@@ -131,6 +143,16 @@ sentence_says s = answers (sentence_answer s)
 -- what a listing needs of it
 abbrev pub heard_of : Received → Heard
 heard_of r = record { satellite = r.satellite; look = seen r.reading }
+
+-- what a call hands back
+abbrev pub received_told : Received → Result Reception Refusal
+received_told r = outcome r.reading.answer (record { satellite = r.satellite; «record» = r.reading.«record» })
+
+abbrev pub looked : Seen → Looked
+looked s = record { category = s.category; count = s.count; used = s.used }
+
+abbrev pub heard_told : Heard → Result Hearing Refusal
+heard_told h = outcome h.look.answer (record { satellite = h.satellite; look = looked h.look })
 
 -- a line of a receiver's output, which lacks its line feed, as a sentence
 abbrev pub fed : List ℕ → List ℕ
@@ -162,8 +184,8 @@ send_says n f room = answers (send_answer n f room)
 
 -- "bytes past the sentence stay", and a refusal touches nothing
 abbrev pub sent : Verdict → ℕ → List ℕ → List ℕ → List ℕ
-sent Fine n f buffer = sentence_of n f ++ drop 78 buffer
-sent (Refused x) n f buffer = buffer
+sent (Ok tt) n f buffer = sentence_of n f ++ drop 78 buffer
+sent (Err x) n f buffer = buffer
 
 abbrev pub sent_into : ℕ → List ℕ → List ℕ → List ℕ
 sent_into n f buffer = sent (send_answer n f (length buffer)) n f buffer

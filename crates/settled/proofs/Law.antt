@@ -1,5 +1,5 @@
 -- An equation allows one outcome. There is a law for each form that the contracts have, so that a theorem is one line.
-use mathlib.Core.Path.{◌≡◌, ap, sym, ◌∙◌}
+use mathlib.Core.Path.{◌≡◌, refl, ap, sym, ◌∙◌}
 
 -- ---- the one law: two values that equal a third have the same outcome
 pub read_off : {W O : Type 0} (outcome : W → O) {a b c : W} → a ≡ c → b ≡ c → outcome a ≡ outcome b
@@ -10,6 +10,10 @@ read_off outcome p q = ap outcome (p ∙ sym q)
 -- the contract is `r ≡ ..`, and no buffer is lent
 pub answer : {A U : Type 0} {x y z : A} {u : U} → x ≡ z → y ≡ z → ◌≡◌ {A = A × U} (x, u) (y, u)
 answer {u} = read_off (λ x. (x, u))
+
+-- the contract is `f r ≡ ..`, where f tells any two answers apart
+pub told : {A B U : Type 0} (f : A → B) → ((x y : A) → f x ≡ f y → x ≡ y) → {x y : A} {z : B} {u : U} → f x ≡ z → f y ≡ z → ◌≡◌ {A = A × U} (x, u) (y, u)
+told f apart {u} p q = read_off (λ x. (x, u)) (apart _ _ (p ∙ sym q)) refl
 
 -- the contract is `now buffer.exit ≡ ..`, and there is no answer
 pub buffer : {B U : Type 0} (at : B → U) {b c d : B} → b ≡ d → c ≡ d → ◌≡◌ {A = Unit {0} × U} (tt, at b) (tt, at c)

@@ -3,6 +3,7 @@ pub mod Loops
 pub mod Parts
 pub mod Tables
 pub mod Judged
+pub mod Taken
 pub mod Pushing
 pub mod Used
 pub mod Tidy

@@ -1,7 +1,7 @@
 -- Loops over slots: one slot more, and the end.
 use mathlib.Core.List.{List, [], ◌∷◌, map}
 use Rattle.slots.specs.declared.slot.Slot.{Slot}
-use Prim.Native.Nat.{◌+◌, ◌<◌, ◌≤◌, ℕ, ◌-◌, suc}
+use Prim.Native.Nat.{◌+◌, ◌<◌, ◌≤◌, ℕ, ◌-◌, suc, min}
 use mathlib.Core.Path.{◌∙◌, ◌≡◌, ap, ap₂, refl, sym}
 use native.Mathlib.Numerals.{add-one}
 use native.Mathlib.Omega.{arith}
@@ -27,8 +27,8 @@ module _ (n : ℕ) (ss : List Slot) (i : ℕ) where
   pub none_left : n ≤ i → drop i (take n ss) ≡ []
   none_left h = let l : length (take n ss) ≤ i = simp length-take (omega arith) in drop_of_length-le (take n ss) l
 
-  pub none_behind : length ss ≤ i → drop i (take n ss) ≡ []
-  none_behind h = let l : length (take n ss) ≤ i = simp length-take (omega arith) in drop_of_length-le (take n ss) l
+  pub no_more : min n (length ss) ≤ i → drop i (take n ss) ≡ []
+  no_more h = let l : length (take n ss) ≤ i = simp length-take (omega arith) in drop_of_length-le (take n ss) l
 
 -- ---- slots pushed one behind the other
 

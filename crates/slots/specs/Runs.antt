@@ -1,19 +1,9 @@
 -- What the steps of judging slots and of writing them give.
-use Rattle.std.specs.Prelude.{Bool, cond, not, true, List, [], ◌∷◌, ℕ, ◌+◌, ◌*◌, ◌%◌, ◌^◌, ltb, get_or, replicate}
-use Rattle.rows.specs.declared.refusal.Refusal.TheVariants.{Gap}
-use Rattle.slots.specs.declared.run.Run.{Run}
+use Rattle.std.specs.Prelude.{cond, List, [], ◌∷◌, ℕ, ◌+◌, ◌*◌, ◌%◌, ◌^◌, ltb, get_or, replicate}
 use Rattle.slots.specs.declared.slot.Slot.{Slot}
-use Rattle.rows.specs.declared.refusal.Verdict.{Verdict}
-use Rattle.rows.specs.Runs.Questions.{◌then◌, unless}
 use Rattle.bits.specs.declared.words.Words.{Words}
 use Rattle.bits.specs.Words.{pushed}
 use Rattle.std.specs.Int.Bits.{bit_or}
-
--- what has been found among the slots so far, with one later slot more: whether it is empty, and what is found in its fields
-unfoldable pub later_run : Run → ℕ → Bool → Verdict → Run
-later_run run at is_empty fields =
-    cond is_empty (record { verdict = run.verdict; gap = true })
-    (record { verdict = run.verdict then unless (not run.gap) (Gap at) then fields; gap = run.gap })
 
 -- a number of 64 bits with a field behind it: up to 63 bits of its width count
 abbrev pub followed : ℕ → ℕ → ℕ → ℕ

@@ -1,5 +1,5 @@
 -- The slots of a record (document 01, "Silence in a slot" and "The record").
-use Rattle.std.specs.Prelude.{Bool, ◌&&◌, cond, false, true, List, [], ◌++◌, ◌∷◌, map, ◌*◌, ◌+◌, ◌-◌, suc, zero, ℕ, eqb, get_or, replicate, take, ◌≡◌}
+use Rattle.std.specs.Prelude.{Bool, ◌&&◌, cond, false, true, List, [], ◌++◌, ◌∷◌, map, ◌*◌, ◌+◌, ◌-◌, suc, zero, ℕ, eqb, ltb, get_or, replicate, take, ◌≡◌}
 use Rattle.rows.specs.Layout.{Slots, slot_rows}
 use Rattle.slots.specs.declared.slot.Slot.{Slot}
 use Rattle.rows.specs.Values.{cut, each, flags, spread}
@@ -36,6 +36,10 @@ slot_from k vs = parts_from (spread (flags k.parts) vs)
 -- the slot at the bit a
 abbrev pub slot_of : Slots → List ℕ → ℕ → Slot
 slot_of k s a = slot_from k (map (cut s) (slot_rows k a))
+
+-- slot i of a frame, and an empty one behind the last
+abbrev pub slot_or_none : Slots → List ℕ → ℕ → Slot
+slot_or_none k s i = cond (ltb i k.count) (slot_of k s (k.first + k.bits * i)) no_slot
 
 -- the category's slots, and empty ones up to sixteen
 unfoldable pub slots_of : List ℕ → Slots → List Slot

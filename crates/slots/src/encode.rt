@@ -13,41 +13,34 @@ fn behind(number: u64, width: u8, value: u64) -> u64
 }
 
 // The fields of a slot as one number, each in its width, the first in front.
-fn slot_number(widths: [u8; 5], s: Slot) -> u64
-    ensures { result ≡ slot_number widths s }
+fn slot_number(widths: &[u8; 5], slot: &Slot) -> u64
+    ensures { result ≡ slot_number widths.now slot.now }
 {
-    let to_hour = behind(s.day as u64, widths[1], s.hour as u64);
-    let to_minute = behind(to_hour, widths[2], s.minute as u64);
-    let to_strength = behind(to_minute, widths[3], s.strength as u64);
-    behind(to_strength, widths[4], s.place)
+    let to_hour = behind(u64::from(slot.day), widths[1], u64::from(slot.hour));
+    let to_minute = behind(to_hour, widths[2], u64::from(slot.minute));
+    let to_strength = behind(to_minute, widths[3], u64::from(slot.strength));
+    behind(to_strength, widths[4], slot.place)
 }
 
 // A slot in one piece: the words move once for all of its fields.
-fn push_slot(n: Words, widths: [u8; 5], s: Slot) -> Words
-    ensures { result ≡ slot_pushed n widths s }
+fn push_slot(n: Words, widths: &[u8; 5], slot: &Slot) -> Words
+    ensures { result ≡ slot_pushed n widths.now slot.now }
 {
-    let bits = widths[0] as usize
-        + widths[1] as usize
-        + widths[2] as usize
-        + widths[3] as usize
-        + widths[4] as usize;
-    n.push(bits, slot_number(widths, s))
+    let bits = usize::from(widths[0])
+        + usize::from(widths[1])
+        + usize::from(widths[2])
+        + usize::from(widths[3])
+        + usize::from(widths[4]);
+    n.push(bits, slot_number(widths, slot))
 }
 
 // So many slots, at most sixteen, with fields of these widths.
-pub fn push_slots(n: Words, count: usize, widths: [u8; 5], slots: [Slot; 16]) -> Words
-    ensures { result ≡ slots_pushed n widths (take count slots) }
+pub fn push_slots(n: Words, count: usize, widths: &[u8; 5], slots: &[Slot; 16]) -> Words
+    ensures { result ≡ slots_pushed n widths.now (take count slots.now) }
 {
     let mut next = n;
-    let mut k = 0;
-    while k < 16 {
-        if k == count {
-            return next;
-        }
-        let s = slots[k];
-        let more = push_slot(next, widths, s);
-        next = more;
-        k += 1;
+    for k in 0..count.min(16) {
+        next = push_slot(next, widths, &slots[k]);
     }
     next
 }

@@ -6,46 +6,34 @@ ghost use Rattle.slots.specs.Runs.{widths_in};
 use crate::slot::{Slot, is_vacant};
 
 // How many slots are used: those before the first empty one.
-pub fn used(slots: [Slot; 16]) -> usize
-    ensures { result ≡ used_among (map slot_parts slots) }
+pub fn used(slots: &[Slot; 16]) -> usize
+    ensures { result ≡ used_among (map slot_parts slots.now) }
 {
-    let mut k = 0;
-    while k < 16 {
-        let s = slots[k];
-        if s.is_empty() {
+    for k in 0..16 {
+        if slots[k].is_empty() {
             return k;
         }
-        k += 1;
     }
-    k
+    16
 }
 
 // Nothing stands in slot i where it has no bits: past the category's slots, nothing at all. Most slots are empty, so
 // that is asked first.
-fn is_tidy(i: usize, count: usize, widths: [u8; 5], s: Slot) -> bool
-    ensures { result ≡ vacant (widths_in i count widths) (slot_parts s) }
+fn is_tidy(i: usize, count: usize, widths: &[u8; 5], slot: &Slot) -> bool
+    ensures { result ≡ vacant (widths_in i count widths.now) (slot_parts slot.now) }
 {
-    if s.is_empty() {
-        return true;
-    }
-    if i < count {
-        return is_vacant(widths, s.values());
-    }
-    false
+    slot.is_empty() || i < count && is_vacant(widths, &slot.values())
 }
 
 // Nothing stands in what a category with so many slots of these fields does not use: neither in its slots
 // nor in those behind them.
-pub fn are_tidy(count: usize, widths: [u8; 5], slots: [Slot; 16]) -> bool
-    ensures { result ≡ tidy_slots widths count slots }
+pub fn are_tidy(count: usize, widths: &[u8; 5], slots: &[Slot; 16]) -> bool
+    ensures { result ≡ tidy_slots widths.now count slots.now }
 {
-    let mut i = 0;
-    while i < 16 {
-        let s = slots[i];
-        if !is_tidy(i, count, widths, s) {
+    for i in 0..16 {
+        if !is_tidy(i, count, widths, &slots[i]) {
             return false;
         }
-        i += 1;
     }
     true
 }

@@ -19,22 +19,17 @@ pub struct Slot {
 fn is_held(width: u8, value: u64) -> bool
     ensures { result ≡ cond (eqb width 0) (eqb value 0) true }
 {
-    if width == 0 {
-        return value == 0;
-    }
-    true
+    width != 0 || value == 0
 }
 
 // Nothing stands in the fields of which no bit is on the wire.
-pub(crate) fn is_vacant(widths: [u8; 5], values: [u64; 5]) -> bool
-    ensures { result ≡ vacant widths values }
+pub(crate) fn is_vacant(widths: &[u8; 5], values: &[u64; 5]) -> bool
+    ensures { result ≡ vacant widths.now values.now }
 {
-    let mut i = 0;
-    while i < 5 {
+    for i in 0..5 {
         if !is_held(widths[i], values[i]) {
             return false;
         }
-        i += 1;
     }
     true
 }
@@ -53,29 +48,29 @@ impl Slot {
     }
 
     // All it holds, in the order of the wire.
-    pub fn values(self) -> [u64; 5]
-        ensures { result ≡ slot_parts self }
+    pub fn values(&self) -> [u64; 5]
+        ensures { result ≡ slot_parts self.now }
     {
         [
-            self.day as u64,
-            self.hour as u64,
-            self.minute as u64,
-            self.strength as u64,
+            u64::from(self.day),
+            u64::from(self.hour),
+            u64::from(self.minute),
+            u64::from(self.strength),
             self.place,
         ]
     }
 
     // "An empty slot is never named". The four bytes are one number, since they are then read at once.
-    pub fn is_empty(self) -> bool
-        ensures { result ≡ empty (slot_parts self) }
+    pub fn is_empty(&self) -> bool
+        ensures { result ≡ empty (slot_parts self.now) }
     {
         if self.place != 0 {
             return false;
         }
-        self.day as u32
-            + self.hour as u32 * 0x100
-            + self.minute as u32 * 0x1_0000
-            + self.strength as u32 * 0x100_0000
+        u32::from(self.day)
+            + u32::from(self.hour) * 0x100
+            + u32::from(self.minute) * 0x1_0000
+            + u32::from(self.strength) * 0x100_0000
             == 0
     }
 }

@@ -6,7 +6,7 @@ use native.Mathlib.Numerals.{add-one}
 use mathlib.Core.List.{List, [], ◌∷◌, ◌++◌, append-nil, append_assoc}
 use lib.ListN.{length, get_or, take, length-append}
 use lib.Seq.{sets, take-suc, take_all}
-use borrow.Author.Tests.{eq-eqb, ne_eqb}
+use borrow.Author.Tests.{eq-eqb}
 use Rattle.pages.specs.declared.page.Page.{Page}
 use Rattle.bulletin.specs.declared.store.Store.{Store}
 use Rattle.pages.specs.Pages.{no_page}
@@ -64,7 +64,3 @@ store_in_parts l s n e long x y =
     ∙ sets-sets (name_bytes s.name) (pages_bytes s.pages) l 0
     ∙ sets_whole (store_bytes s) l (length_store s n e ∙ sym long)
     ∙ rw (eq-eqb _ 1205 long)
-
-pub other_length : (s : Store) (l : List ℕ) → (length l ≡ 1205 → ⊥) → l ≡ store_into s l
-unfolding store_into
-other_length s l n = rw (ne_eqb _ 1205 n)

@@ -13,10 +13,9 @@ fn page_at(bytes: &[u8], at: usize) -> Page
     requires { at + 19 ≤ length bytes.now }
     ensures { result ≡ page_at bytes.now at }
 {
-    let text = text_at(bytes, at + 1);
     Page {
         mark: bytes[at],
-        text: text,
+        text: text_at(bytes, at + 1),
     }
 }
 
@@ -40,30 +39,28 @@ fn name_of(bytes: &[u8]) -> Name
 
 // The store that 1205 lent bytes are, whatever they are. Bytes of another length are a store of zeros,
 // which is not sound.
+#[tactic(auto, unfolding(crate::specs::Stores::store_or_zeros))]
 pub fn unpack_store(bytes: &[u8]) -> Store
     ensures { result ≡ store_or_zeros bytes.now }
 {
-    if bytes.len() != STORE_SIZE {
-        return Store::of_zeros();
-    }
-    let name = name_of(bytes);
     let mut store = Store::of_zeros();
-    store.name = name;
-    let mut k = 0;
-    while k < Store::PAGES {
-        let page = page_at(bytes, PAGES_AT + PAGE_SIZE * k);
-        store.pages[k] = page;
-        k += 1;
+    if bytes.len() == STORE_SIZE {
+        store.name = name_of(bytes);
+        for k in 0..Store::PAGES {
+            store.pages[k] = page_at(bytes, PAGES_AT + PAGE_SIZE * k);
+        }
     }
     store
 }
 
 // The name that 8 lent bytes are. Bytes of another length are a name of zeros, which is out of range.
+#[tactic(auto, unfolding(crate::specs::Stores::name_or_zeros))]
 pub fn unpack_name(bytes: &[u8]) -> Name
     ensures { result ≡ name_or_zeros bytes.now }
 {
-    if bytes.len() != NAME_SIZE {
-        return Name::of_zeros();
+    if bytes.len() == NAME_SIZE {
+        name_of(bytes)
+    } else {
+        Name::of_zeros()
     }
-    name_of(bytes)
 }

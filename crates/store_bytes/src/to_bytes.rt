@@ -1,7 +1,7 @@
 // From a store to its bytes, front to back.
 ghost use Rattle.std.specs.Prelude.{◌≡◌, ◌+◌, ◌≤◌, length};
 ghost use Rattle.std.proofs.lemmas.List.Edits.{sets};
-ghost use Rattle.store_bytes.specs.Stores.{name_bytes, page_bytes, pages_bytes, store_into, page_into};
+ghost use Rattle.store_bytes.specs.Stores.{name_bytes, page_bytes, store_into, page_into};
 
 use crate::sizes::{PAGE_SIZE, PAGES_AT, STORE_SIZE};
 use bulletin::store::Store;
@@ -9,8 +9,8 @@ use lent::put_bytes;
 use pages::name::Name;
 use pages::page::Page;
 
-fn put_name(out: &mut [u8], name: Name)
-    ensures { out.new ≡ sets out.old 0 (name_bytes name) }
+fn put_name(out: &mut [u8], name: &Name)
+    ensures { out.new ≡ sets out.old 0 (name_bytes name.now) }
 {
     let common = name.common;
     put_bytes(
@@ -29,51 +29,36 @@ fn put_name(out: &mut [u8], name: Name)
     );
 }
 
-// A page that finds its place: the buffer's length is not asked for each byte of it.
+// A page that finds its place. It is passed by value: of one that is lent the compiler does not know that it lies apart
+// from the buffer, and copies it byte by byte.
 fn put_page(out: &mut [u8], at: usize, page: Page)
     requires { at + 19 ≤ length out.old }
     ensures { out.new ≡ sets out.old at (page_bytes page) }
 {
-    let text = page.text;
     out[at] = page.mark;
-    let mut k = 0;
-    while k < Store::BYTES {
-        out[at + 1 + k] = text[k];
-        k += 1;
-    }
-}
-
-fn put_pages(out: &mut [u8], store: Store)
-    requires { length out.old ≡ 1205 }
-    ensures { out.new ≡ sets out.old 8 (pages_bytes store.pages) }
-{
-    let mut k = 0;
-    while k < Store::PAGES {
-        let page = store.pages[k];
-        put_page(out, PAGES_AT + PAGE_SIZE * k, page);
-        k += 1;
-    }
+    out[at + 1..at + PAGE_SIZE].copy_from_slice(&page.text);
 }
 
 // The store, into a lent buffer of 1205 bytes. A buffer of another length stays as it was.
-pub fn pack_store(store: Store, out: &mut [u8])
-    ensures { out.new ≡ store_into store out.old }
+#[tactic(auto, unfolding(crate::specs::Stores::store_into))]
+pub fn pack_store(store: &Store, out: &mut [u8])
+    ensures { out.new ≡ store_into store.now out.old }
 {
     if out.len() == STORE_SIZE {
-        let name = store.name;
-        put_name(out, name);
-        put_pages(out, store);
+        put_name(out, &store.name);
+        for k in 0..Store::PAGES {
+            put_page(out, PAGES_AT + PAGE_SIZE * k, store.pages[k]);
+        }
     }
 }
 
 // One page alone, which stands behind i others, for who knows that the buffer has the rest already. A
 // buffer of another length stays as it was, and so does any buffer where the page has no place.
-pub fn pack_page(page: Page, i: usize, out: &mut [u8])
-    ensures { out.new ≡ page_into page i out.old }
+#[tactic(auto, unfolding(crate::specs::Stores::page_into))]
+pub fn pack_page(page: &Page, i: usize, out: &mut [u8])
+    ensures { out.new ≡ page_into page.now i out.old }
 {
-    if out.len() == STORE_SIZE {
-        if i < Store::PAGES {
-            put_page(out, PAGES_AT + PAGE_SIZE * i, page);
-        }
+    if out.len() == STORE_SIZE && i < Store::PAGES {
+        put_page(out, PAGES_AT + PAGE_SIZE * i, *page);
     }
 }

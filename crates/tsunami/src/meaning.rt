@@ -20,21 +20,16 @@ pub enum Arrival {
 }
 
 impl Arrival {
+    #[tactic(auto, unfolding(crate::specs::Meaning::arrival_of))]
     pub fn of(hour: u8, minute: u8) -> Arrival
         ensures { result ≡ arrival_of hour minute }
     {
         if has_arrived(hour, minute) {
-            return Arrival::Arrived;
-        }
-        if 23 < hour {
-            return Arrival::OutOfRange;
-        }
-        if 59 < minute {
-            return Arrival::OutOfRange;
-        }
-        Arrival::At {
-            hour: hour,
-            minute: minute,
+            Arrival::Arrived
+        } else if hour <= 23 && minute <= 59 {
+            Arrival::At { hour, minute }
+        } else {
+            Arrival::OutOfRange
         }
     }
 }
@@ -49,6 +44,7 @@ pub enum Height {
 }
 
 impl Height {
+    #[tactic(auto, unfolding(crate::specs::Meaning::height_of))]
     pub fn of(code: u8) -> Height
         ensures { result ≡ height_of code }
     {

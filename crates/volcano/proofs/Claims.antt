@@ -1,4 +1,5 @@
 -- What is claimed of an activity: what its time and its ambiguity say, which times are refused and where, and which fields keep their rules.
+use Rattle.std.specs.Prelude.{Err}
 use mathlib.Core.Path.{◌≡◌, refl, subst}
 use mathlib.Core.Bool.{Bool, true, false, ◌&&◌, cond}
 use mathlib.Core.Logic.{◌⊎◌, inl, inr, ⊎_elim, ◌↔◌}
@@ -7,11 +8,9 @@ use Prim.Native.Nat.{ℕ, ◌^◌, ◌≤◌, ◌<◌}
 use native.Mathlib.Omega.{arith}
 use lib.Dec.{eqb, leb}
 use borrow.Author.Tests.{eqb-true, leb-true, le-leb, lt-leb, ne_eqb}
-use Rattle.rows.specs.declared.refusal.Verdict.TheVariants.{Refused}
 use Rattle.rows.specs.declared.refusal.Refusal.TheVariants.{Range}
 use Rattle.rows.specs.Kept.{AllNormal, Kept}
 use Rattle.rows.specs.Layout.{Row, row, within, codes_of, group}
-use Rattle.rows.specs.Runs.Questions.{◌then◌, unless}
 use Rattle.rows.specs.Runs.Verdict.{allowed, judge, walk}
 use Rattle.rows.proofs.Rules.Outcomes.{and_both, not-true}
 use Rattle.rows.proofs.Rules.Spans.{in_span, one_span, span_in}
@@ -88,8 +87,8 @@ nothing_else_is_an_activity_time d h m n t = simp (not-true (unknown d h m) (λ 
 
 -- day 0 without both of the other codes: at the day ..
 pub a_day_of_0_is_refused_at_53 : (hour minute : ℕ) → ((hour ≡ 31) × (minute ≡ 63) → ⊥)
-    → walk [] (group 53 activity_times) (0 ∷ hour ∷ minute ∷ []) ≡ Refused (Range 53 0)
-unfolding walk judge allowed ◌then◌ unless
+    → walk [] (group 53 activity_times) (0 ∷ hour ∷ minute ∷ []) ≡ Err (Range 53 0)
+unfolding walk judge allowed
 a_day_of_0_is_refused_at_53 h m n = simp (not-true (eqb h 31 && (eqb m 63 && true)) (λ e. n (both e)))
   where
     both : eqb h 31 && (eqb m 63 && true) ≡ true → (h ≡ 31) × (m ≡ 63)
@@ -97,8 +96,8 @@ a_day_of_0_is_refused_at_53 h m n = simp (not-true (eqb h 31 && (eqb m 63 && tru
 
 -- .. with a day, an hour past 23, be it 31 beside minute 63: at the hour ..
 pub an_hour_beside_a_day_is_refused_at_58 : (day hour minute : ℕ) → 1 ≤ day → day ≤ 31 → 23 < hour
-    → walk [] (group 53 activity_times) (day ∷ hour ∷ minute ∷ []) ≡ Refused (Range 58 hour)
-unfolding walk judge allowed ◌then◌ unless
+    → walk [] (group 53 activity_times) (day ∷ hour ∷ minute ∷ []) ≡ Err (Range 58 hour)
+unfolding walk judge allowed
 an_hour_beside_a_day_is_refused_at_58 d h m low high past =
     let n : d ≡ 0 → ⊥ = λ e. omega (arith, low) in
     let zero : 0 ≤ h = omega arith in
@@ -106,8 +105,8 @@ an_hour_beside_a_day_is_refused_at_58 d h m low high past =
 
 -- .. and with a day and an hour, a minute past 59, be it 63: at the minute
 pub a_minute_beside_an_hour_is_refused_at_63 : (day hour minute : ℕ) → 1 ≤ day → day ≤ 31 → hour ≤ 23 → 59 < minute
-    → walk [] (group 53 activity_times) (day ∷ hour ∷ minute ∷ []) ≡ Refused (Range 63 minute)
-unfolding walk judge allowed ◌then◌ unless
+    → walk [] (group 53 activity_times) (day ∷ hour ∷ minute ∷ []) ≡ Err (Range 63 minute)
+unfolding walk judge allowed
 a_minute_beside_an_hour_is_refused_at_63 d h m low high at past =
     let n : h ≡ 31 → ⊥ = λ e. omega (arith, at) in
     let zero : (v : ℕ) → 0 ≤ v = λ v. omega arith in

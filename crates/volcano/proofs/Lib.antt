@@ -1,2 +1,3 @@
+pub mod Codes
 pub mod Claims
 pub mod Settled

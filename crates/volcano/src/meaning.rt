@@ -7,10 +7,7 @@ ghost use Rattle.volcano.specs.Meaning.{unknown, activity_time_of, validity_of};
 pub(crate) fn is_unknown(day: u8, hour: u8, minute: u8) -> bool
     ensures { result ≡ unknown day hour minute }
 {
-    if day != 0 {
-        return false;
-    }
-    hour == 31 && minute == 63
+    day == 0 && hour == 31 && minute == 63
 }
 
 #[derive(Clone, Copy)]
@@ -23,28 +20,16 @@ pub enum ActivityTime {
 }
 
 impl ActivityTime {
+    #[tactic(auto, unfolding(crate::specs::Meaning::activity_time_of))]
     pub fn of(day: u8, hour: u8, minute: u8) -> ActivityTime
         ensures { result ≡ activity_time_of day hour minute }
     {
         if is_unknown(day, hour, minute) {
-            return ActivityTime::Unknown;
-        }
-        if day < 1 {
-            return ActivityTime::OutOfRange;
-        }
-        if 31 < day {
-            return ActivityTime::OutOfRange;
-        }
-        if 23 < hour {
-            return ActivityTime::OutOfRange;
-        }
-        if 59 < minute {
-            return ActivityTime::OutOfRange;
-        }
-        ActivityTime::At {
-            day: day,
-            hour: hour,
-            minute: minute,
+            ActivityTime::Unknown
+        } else if 1 <= day && day <= 31 && hour <= 23 && minute <= 59 {
+            ActivityTime::At { day, hour, minute }
+        } else {
+            ActivityTime::OutOfRange
         }
     }
 }
@@ -61,6 +46,7 @@ pub enum Validity {
 }
 
 impl Validity {
+    #[tactic(auto, unfolding(crate::specs::Meaning::validity_of))]
     pub fn of(ambiguity: u8) -> Validity
         ensures { result ≡ validity_of ambiguity }
     {

@@ -1,69 +1,59 @@
-// The five places that a report names: from a frame, and their rules.
-ghost use Rattle.std.specs.Prelude.{◌≡◌, [], ◌≤◌};
-ghost use Rattle.bits.specs.Frame.{frame_in};
-ghost use Rattle.rows.specs.Runs.Questions.{◌then◌};
-ghost use Rattle.rows.specs.Runs.Verdict.{empty, slots_verdict, walk};
-ghost use Rattle.slots.specs.Runs.{later_run};
+// The five places that a report names.
+ghost use Rattle.std.specs.Prelude.{refl};
+ghost use Rattle.std.proofs.Common.{rules};
 ghost use Rattle.volcano.specs.Volcano.{places};
-ghost use Rattle.slots.specs.Slots.{slot_of, slot_values, slots_of, slots_values};
-ghost use Rattle.rows.specs.Layout.{slot_rows};
 
-use rows::refusal::Verdict;
-use slots::run::Run;
+use rows::question::within;
+use rows::refusal::Refusal;
+use slots::listed::{Listed, SlotBit};
 use slots::slot::Slot;
 
-fn place_at(f: &[u8], at: usize) -> Slot
-    requires { at ≤ 220 }
-    ensures { result ≡ slot_of places (frame_in f.now) at }
-{
-    Slot {
-        day: 0,
-        hour: 0,
-        minute: 0,
-        strength: 0,
-        place: bits::field64(f, at, 23),
+pub struct Places;
+
+impl Listed for Places {
+    ghost slots = { places };
+
+    const FIRST: u8 = 88;
+
+    ghost FIRST = { 88 };
+
+    const BITS: u8 = 23;
+
+    ghost BITS = { 23 };
+
+    const COUNT: usize = 5;
+
+    ghost COUNT = { 5 };
+
+    fn slot(f: &[u8], at: SlotBit) -> Slot {
+        Slot {
+            day: 0,
+            hour: 0,
+            minute: 0,
+            strength: 0,
+            place: bits::field(f, usize::from(at.bit), 23),
+        }
     }
-}
 
-// The places of a frame, and empty slots up to sixteen.
-pub fn places_of(f: &[u8]) -> [Slot; 16]
-    ensures { result ≡ slots_of (frame_in f.now) places }
-{
-    let mut slots = [Slot::none(); 16];
-    slots[0] = place_at(f, 88);
-    slots[1] = place_at(f, 111);
-    slots[2] = place_at(f, 134);
-    slots[3] = place_at(f, 157);
-    slots[4] = place_at(f, 180);
-    slots
-}
+    #[tactic(auto, unfolding(rows::specs::Runs::Verdict::empty))]
+    fn is_empty(slot: &Slot) -> bool {
+        slot.place == 0
+    }
 
-// What is found of the place at this bit.
-fn fields(at: u8, s: Slot) -> Verdict
-    requires { at ≤ 220 }
-    ensures { result ≡ walk [] (slot_rows places at) (slot_values places s) }
-{
-    Verdict::Fine.within(at, s.place, 110000, 4799999)
-}
+    #[tactic(auto, using(rows::proofs::Rules::Spans::allowed_one, rows::proofs::Rules::Outcomes::then_fine), unfolding(rows::specs::Runs::Verdict::walk, rows::specs::Runs::Verdict::judge))]
+    fn check(slot: &Slot, at: SlotBit) -> Result<(), Refusal> {
+        within(at.bit, slot.place, 110000, 4799999)
+    }
 
-fn later(run: Run, at: u8, s: Slot) -> Run
-    requires { at ≤ 220 }
-    ensures { result ≡ later_run run at (empty (slot_values places s)) (walk [] (slot_rows places at) (slot_values places s)) }
-{
-    run.later(at, s.place == 0, fields(at, s))
-}
+    ghost first = { refl };
 
-// The first place is used; a later one may be empty.
-pub(crate) fn check_places(found: Verdict, slots: [Slot; 16]) -> Verdict
-    ensures { result ≡ found then slots_verdict places (slots_values places slots) }
-{
-    let first = Run {
-        verdict: found.then(fields(88, slots[0])),
-        gap: false,
-    };
-    let second = later(first, 111, slots[1]);
-    let third = later(second, 134, slots[2]);
-    let fourth = later(third, 157, slots[3]);
-    let fifth = later(fourth, 180, slots[4]);
-    fifth.verdict
+    ghost bits = { refl };
+
+    ghost count = { refl };
+
+    ghost one = { Prim.search rules };
+
+    ghost sixteen = { Prim.search rules };
+
+    ghost inside = { Prim.search rules };
 }

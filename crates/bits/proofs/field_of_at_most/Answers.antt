@@ -13,8 +13,8 @@ returns-then-frame-ne32 c =
     let a = c.args in
     (sym (no_frame a.most a.frame.now a.first a.width c.if-frame-ne32.true), (pow_pos a.width, pow_pos a.most))
 
-pub field-requires : goal.field-requires
-field-requires c =
+pub field_inside-requires : goal.field_inside-requires
+field_inside-requires c =
     let inside : lies c.args.most c.args.first c.args.width ≡ true =
     sym c.lies_in_frame.ensures ∙ c.if-lies_in_frame.true
     in
@@ -27,7 +27,7 @@ returns-then-lies_in_frame c =
     sym c.lies_in_frame.ensures ∙ c.if-lies_in_frame.true
     in
     let a = c.args in
-    let read = field_read a.most a.frame.now a.first a.width _ inside c.field.ensures in
+    let read = field_read a.most a.frame.now a.first a.width _ inside c.field_inside.ensures in
     let lent = frame_lent a.frame.now c.if-frame-ne32.false in (
       rw lent read.0,
       (read.1, narrower _ _ a.most read.1 (lies_told a.most _ _ inside).1),

@@ -1,4 +1,5 @@
 -- A held text is never replaced by another: joined with whatever comes, it stays or is disputed.
+use Rattle.std.specs.Prelude.{Ok, Err}
 use mathlib.Core.Path.{◌≡◌, refl, ap, sym, ◌∙◌}
 use mathlib.Core.Bool.{Bool, true, false}
 use mathlib.Core.List.{List}
@@ -14,10 +15,8 @@ use Rattle.pages.specs.Pages.{no_page, join, held_page, disputed_page}
 use Rattle.pages.proofs.States.{Text, Mark, absent, held, disputed, to_page, join_marks, join_to}
 use Rattle.rows.proofs.Rules.Tests.{same?, eq_same, ne_same}
 use Rattle.bulletin.specs.declared.store.Store.{Store}
-use Rattle.bulletin.specs.declared.take.Admission.{Admission}
-use Rattle.bulletin.specs.declared.take.Admission.TheVariants.{Number, Refused}
 use Rattle.bulletin.specs.Stores.{page_behind}
-use Rattle.bulletin.specs.Takings.{put_page, taking}
+use Rattle.bulletin.specs.Takings.{put_page, taking, Admission}
 
 held_stays : (t : Text) (n : Mark) → (join_marks (held t) n ≡ held t) ⊎ (join_marks (held t) n ≡ disputed)
 held_stays t absent = inl refl
@@ -30,8 +29,8 @@ joined_held p t n e = ⊎_elim (λ k. inl (e ∙ ap to_page k)) (λ k. inr (e �
 pub taking_keeps : (s : Store) (a : Admission) (x : List ℕ) (i : ℕ) (t : List ℕ) → i < length s.pages → page_behind s i ≡ held_page t
     → (page_behind (taking a s x).store i ≡ held_page t) ⊎ (page_behind (taking a s x).store i ≡ disputed_page)
 unfolding taking put_page
-taking_keeps s (Refused y) x i t h e = inl e
-taking_keeps s (Number k) x i t h e = go (eqb i (k - 1)) refl
+taking_keeps s (Err y) x i t h e = inl e
+taking_keeps s (Ok k) x i t h e = go (eqb i (k - 1)) refl
   where
     after : List Page
     after = set s.pages (k - 1) (join (page_behind s (k - 1)) (held_page x))

@@ -13,11 +13,9 @@ use Rattle.report.specs.declared.record.Record.{Record}
 use Rattle.pages.specs.declared.page.Page.{Page}
 use Rattle.pages.specs.declared.name.Name.{Name}
 use Rattle.bulletin.specs.declared.store.Store.{Store}
-use Rattle.bulletin.specs.declared.store.Opening.{Opening}
-use Rattle.bulletin.specs.declared.take.Taking.{Taking}
 use Rattle.pages.specs.Pages.{no_page, join, held_page}
-use Rattle.bulletin.specs.Stores.{no_pages, open_of, page_behind}
-use Rattle.bulletin.specs.Takings.{put_page, take_of}
+use Rattle.bulletin.specs.Stores.{no_pages, open_of, page_behind, Opening}
+use Rattle.bulletin.specs.Takings.{put_page, take_of, Taking}
 use Rattle.bulletin.proofs.Taking.TakenOrRefused.{taken_or_refused}
 use Rattle.bulletin.proofs.Claims.{every_name_in_range_is_opened}
 use Rattle.pages.proofs.States.{Text, Mark, absent, held, to_page, join_marks, join_to, join_marks_none, join_marks_assoc, mark_of, mark_of_append}

@@ -1,4 +1,5 @@
 -- What a record brings for a page, as the store's test admits it and as `Brings` says it.
+use Rattle.std.specs.Prelude.{Err}
 use mathlib.Core.Path.{◌≡◌, refl, ap, sym, ◌∙◌}
 use mathlib.Core.Bool.{Bool, true, false, ◌&&◌, cond}
 use mathlib.Core.List.{List, [], ◌∷◌, ◌++◌, append_assoc}
@@ -12,11 +13,9 @@ use Rattle.rows.specs.declared.refusal.Refusal.{Refusal}
 use Rattle.rows.proofs.Rules.Outcomes.{and_both}
 use Rattle.pages.specs.declared.name.Name.{Name}
 use Rattle.bulletin.specs.declared.store.Store.{Store}
-use Rattle.bulletin.specs.declared.take.Taken.TheVariants.{Refused}
-use Rattle.bulletin.specs.declared.take.Taking.{Taking}
 use Rattle.pages.specs.Names.{same_common, same_name}
 use Rattle.bulletin.specs.Stores.{no_pages, sound_store}
-use Rattle.bulletin.specs.Takings.{bulletin_of, put_page, take_of}
+use Rattle.bulletin.specs.Takings.{bulletin_of, put_page, take_of, Taking}
 use Rattle.bulletin.proofs.Taking.TakingOutcomes.{Admits}
 use Rattle.pages.proofs.Numbered.{numbered}
 use Rattle.bulletin.proofs.Taking.TakenOrRefused.{taken_or_refused, put_answer}
@@ -89,7 +88,7 @@ brings_taken s r p t h b =
 -- "Page number at 201 (6, 1-63). Page total at 207 (6): at least the page number"
 pub brings_page : (n : Name) (f : Frame) (p : ℕ) (t : Text) → Brings n f.came p t → (1 ≤ p) × (p ≤ n.total)
 brings_page n f p t b =
-    let k = numbered f.came _ (record { slots = f.slots; text = f.text }) b.valid b.body in
+    let k = numbered f.came _ b.valid b.body in
     (k.low, k.high)
 
 -- a record is one page, with one text
@@ -115,7 +114,7 @@ page? n r i =
     (taken_or_refused (no_pages n) r)
   where
     -- a page that is put answers one of the three
-    answered : (s : Store) (k : ℕ) (x : Refusal) → put_page s (k - 1) r.text ≡ record { answer = Refused x; store = s } → ⊥
+    answered : (s : Store) (k : ℕ) (x : Refusal) → put_page s (k - 1) r.text ≡ record { answer = Err x; store = s } → ⊥
     answered s k x e = put_answer s (k - 1) r.text x (ap (λ (z : Taking). z.answer) e)
 
 abbrev pub brought_by : {n : Name} {r : Record} → Page? n r → ℕ → Text → List Text

@@ -1,20 +1,19 @@
 -- The laws of merging, and that it is taking the frames of both.
+use Rattle.std.specs.Prelude.{Ok, Err}
+use Rattle.rows.specs.Refusals.{Verdict}
 use mathlib.Core.Path.{◌≡◌, refl, ap, sym, ◌∙◌}
 use mathlib.Core.List.{List, ◌++◌}
 use mathlib.Core.Logic.{◌⊎◌, inl}
 use Prim.Native.Nat.{ℕ, suc, ◌<◌}
 use lib.ListN.{length}
-use Rattle.rows.specs.declared.refusal.Verdict.{Verdict}
-use Rattle.rows.specs.declared.refusal.Verdict.TheVariants.{Fine, Refused}
 use Rattle.rows.proofs.Rules.Ordered.{Answers, question, last_question}
 use Rattle.rows.specs.declared.refusal.Refusal.TheVariants.{OtherBulletin, Unsound}
 use Rattle.pages.specs.declared.name.Name.{Name}
 use Rattle.bulletin.specs.declared.store.Store.{Store}
-use Rattle.bulletin.specs.declared.merge.Merging.{Merging}
 use Rattle.pages.specs.Pages.{held_page, disputed_page}
 use Rattle.pages.specs.Names.{same_name}
 use Rattle.bulletin.specs.Stores.{sound_store, page_behind}
-use Rattle.bulletin.specs.Merges.{merge_verdict, joined_stores, merging, merge_of}
+use Rattle.bulletin.specs.Merges.{merge_verdict, joined_stores, merging, merge_of, Merging}
 use Rattle.pages.proofs.States.{Mark, to_page, join_marks, join_marks_comm, join_marks_assoc, join_marks_idem, mark_of, mark_of_append}
 use Rattle.bulletin.proofs.Taking.HeldTexts.{joined_held}
 use Rattle.histories.specs.Soundness.{InRange, Sound}
@@ -29,10 +28,10 @@ use Rattle.histories.proofs.Frames.PageStates.{same_pages}
 
 -- a merge that is not refused
 abbrev pub fine_merge : Store → Merging
-fine_merge s = record { answer = Fine; store = s }
+fine_merge s = record { answer = Ok tt; store = s }
 
 -- sound stores of one bulletin are merged, and no others
-pub merge_answered : (a b : Store) → Answers (merge_verdict a b) (merge_questions a b) Fine
+pub merge_answered : (a b : Store) → Answers (merge_verdict a b) (merge_questions a b) (Ok tt)
 unfolding merge_verdict
 merge_answered a b =
     question (sound_store a) (Sound a) Unsound (tested_sound a) (sound_tested a)
@@ -95,8 +94,8 @@ pub held_kept : (a b : Store) → length a.pages ≡ 63 → length b.pages ≡ 6
 held_kept a b la lb i t h e = by (merge_verdict a b) refl
   where
     by : (v : Verdict) → merge_verdict a b ≡ v → (page_behind (merging v a b).store i ≡ held_page t) ⊎ (page_behind (merging v a b).store i ≡ disputed_page)
-    by (Refused x) f = inl e
-    by Fine f =
+    by (Err x) f = inl e
+    by (Ok tt) f =
         let parts = ((merge_answered a b).fine f).0 in
         joined_held (page_behind (joined_stores a b) i) t (marks_of b i)
         ((merged_stands a b parts.0 parts.1.0 la lb parts.1.1.0).page i h

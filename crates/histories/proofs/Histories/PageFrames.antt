@@ -49,10 +49,7 @@ module _ (n : Name) (range : InRange n) (p : ℕ) (t : Text) (low : 1 ≤ p) (hi
   }
     where
       no_nankai : (record_of n p t).body ≡ NoCategory → ⊥
-      no_nankai e = let z : ◌≡◌ {A = ℕ} 0 1 = cc in apart z
-        where
-          apart : ◌≡◌ {A = ℕ} 0 1 → ⊥
-          apart z = omega arith
+      no_nankai e = cc
 
       none : {i : ℕ} → i < 0 → ⊥
       none h = omega arith

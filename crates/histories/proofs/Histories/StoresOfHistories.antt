@@ -1,17 +1,16 @@
 -- A store that any history has come to is the one that the history's frames give.
+use Rattle.std.specs.Prelude.{Ok, Err}
+use Rattle.rows.specs.Refusals.{Verdict}
 use mathlib.Core.Path.{◌≡◌, refl, ap, sym, ◌∙◌, subst}
 use mathlib.Core.Bool.{Bool, true, false}
 use mathlib.Core.List.{List, [], ◌∷◌, ◌++◌}
-use Rattle.rows.specs.declared.refusal.Verdict.{Verdict}
-use Rattle.rows.specs.declared.refusal.Verdict.TheVariants.{Fine, Refused}
 use Rattle.rows.proofs.Rules.Outcomes.{false_not_true}
 use Rattle.pages.specs.declared.name.Name.{Name}
 use Rattle.bulletin.specs.declared.store.Store.{Store}
-use Rattle.bulletin.specs.declared.merge.Merging.{Merging}
 use Rattle.pages.specs.Names.{same_name}
 use Rattle.bulletin.specs.Stores.{sound_store, ShapedStore}
 use Rattle.bulletin.specs.Takings.{take_of}
-use Rattle.bulletin.specs.Merges.{merge_verdict, joined_stores, merging, merge_of}
+use Rattle.bulletin.specs.Merges.{merge_verdict, joined_stores, merging, merge_of, Merging}
 use Rattle.histories.specs.Soundness.{InRange, Sound}
 use mathlib.Core.Logic.{◌⊎◌, inl, inr, ⊎_elim}
 use Prim.Native.Nat.{ℕ, ◌≤◌}
@@ -34,8 +33,8 @@ merge_refused : (a b : Store) → (Sound b → b.name ≡ a.name → ⊥) → (m
 merge_refused a b none = by (merge_verdict a b) refl
   where
     by : (v : Verdict) → merge_verdict a b ≡ v → (merging v a b).store ≡ a
-    by (Refused x) e = refl
-    by Fine e = let parts = ((merge_answered a b).fine e).0 in absurd (none parts.1.0 (sym parts.1.1.0))
+    by (Err x) e = refl
+    by (Ok tt) e = let parts = ((merge_answered a b).fine e).0 in absurd (none parts.1.0 (sym parts.1.1.0))
 
 -- what two sound stores of one bulletin give has the shape of a store of the code
 pub joined-shaped : (a b : Store) → Sound a → Sound b → ShapedStore a → ShapedStore b → a.name ≡ b.name → ShapedStore (joined_stores a b)

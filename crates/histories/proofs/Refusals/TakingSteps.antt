@@ -1,4 +1,5 @@
 -- What a taking is refused for, step by step, and that nothing else is.
+use Rattle.std.specs.Prelude.{Err}
 use mathlib.Core.Path.{◌≡◌, ap, sym, ◌∙◌}
 use mathlib.Core.Logic.{◌↔◌, inl, inr, ⊎_elim}
 use Prim.Native.Nat.{◌-◌}
@@ -7,9 +8,7 @@ use Rattle.rows.specs.Faults.{First, Met}
 use Rattle.report.specs.declared.record.Record.{Record}
 use Rattle.report.specs.Runs.Writing.{Valid}
 use Rattle.bulletin.specs.declared.store.Store.{Store}
-use Rattle.bulletin.specs.declared.take.Taken.TheVariants.{Refused}
-use Rattle.bulletin.specs.declared.take.Taking.{Taking}
-use Rattle.bulletin.specs.Takings.{take_of}
+use Rattle.bulletin.specs.Takings.{take_of, Taking}
 use Rattle.bulletin.proofs.Claims.{a_sound_store_takes_every_page}
 use Rattle.bulletin.proofs.Taking.TakenOrRefused.{taken_or_refused, put_answer, page_tests, taking_steps}
 use Rattle.histories.specs.Soundness.{Sound}
@@ -17,7 +16,7 @@ use Rattle.histories.specs.Reasons.{page_questions, WhyNotTaken}
 use Rattle.histories.proofs.Soundness.Tested.{tested_sound, sound_tested}
 use Rattle.histories.proofs.Frames.TextsBrought.{same_name_lem, named_same}
 
-pub take_reason : (s : Store) (r : Record) (x : Refusal) → (take_of s r).answer ≡ Refused x → WhyNotTaken s r x
+pub take_reason : (s : Store) (r : Record) (x : Refusal) → (take_of s r).answer ≡ Err x → WhyNotTaken s r x
 take_reason s r x e =
     ⊎_elim
     (λ u. inl (λ h. u.0 (sound_tested s h), u.1))
@@ -31,7 +30,7 @@ take_reason s r x e =
         (λ u. inr (u.0, ⊎_elim (λ w. inl (λ q. w.0 (q.0, q.1, named_same _ _ q.2), w.1)) (λ w. absurd w.1) u.1))
         f
 
-pub take_exactly : (s : Store) (r : Record) → ((x : Refusal) → (take_of s r).answer ≡ Refused x → ⊥) ↔ (Sound s × Valid r × Met (page_questions s.name r))
+pub take_exactly : (s : Store) (r : Record) → ((x : Refusal) → (take_of s r).answer ≡ Err x → ⊥) ↔ (Sound s × Valid r × Met (page_questions s.name r))
 take_exactly s r = (
   λ h.
       ⊎_elim

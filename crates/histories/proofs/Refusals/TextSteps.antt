@@ -1,4 +1,6 @@
 -- What the text of a store is refused for, step by step, and that nothing else is.
+use Rattle.std.specs.Prelude.{Ok, Err}
+use Rattle.rows.specs.Refusals.{Verdict}
 use mathlib.Core.Path.{◌≡◌, refl, ap, sym, ◌∙◌, subst}
 use mathlib.Core.Bool.{Bool, true, false, cond}
 use mathlib.Core.List.{List}
@@ -9,8 +11,6 @@ use lib.ListN.{length, take}
 use lib.Seq.{length-take-le}
 use lib.Dec.{eqb}
 use borrow.Author.Tests.{eq-eqb, ne_eqb, lt-ltb, le-ltb}
-use Rattle.rows.specs.declared.refusal.Verdict.{Verdict}
-use Rattle.rows.specs.declared.refusal.Verdict.TheVariants.{Fine, Refused}
 use Rattle.rows.specs.declared.refusal.Refusal.{Refusal}
 use Rattle.rows.specs.declared.refusal.Refusal.TheVariants.{Unsound, NotHeld, Short}
 use Rattle.rows.proofs.Rules.Outcomes.{false_not_true, not_both, same_refusal}
@@ -53,8 +53,8 @@ why p three empty no_text_lem =
     three
 
 text_by : (v : Verdict) (n : ℕ) → (text_answer_by v n).answer ≡ v
-text_by Fine n = refl
-text_by (Refused x) n = refl
+text_by (Ok tt) n = refl
+text_by (Err x) n = refl
 
 module _ (s : Store) (shape : ShapedStore s) where
   abbrev lowest_page : ℕ
@@ -65,9 +65,9 @@ module _ (s : Store) (shape : ShapedStore s) where
       text_by (with_room (text_verdict s) (text_length_of s) size) (text_length_of s) ∙ ap (λ (w : Verdict). with_room w (text_length_of s) size) e
 
   -- 14
-  unsound : sound_store s ≡ false → text_verdict s ≡ Refused Unsound
+  unsound : sound_store s ≡ false → text_verdict s ≡ Err Unsound
   unfolding text_verdict
-  unsound e = ap (λ (b : Bool). cond b (cond (eqb lowest_page 0) Fine (Refused (NotHeld lowest_page (why_not_held (page_behind s (lowest_page - 1)))))) (Refused Unsound)) e
+  unsound e = ap (λ (b : Bool). cond b (cond (eqb lowest_page 0) (Ok tt) (Err (NotHeld lowest_page (why_not_held (page_behind s (lowest_page - 1)))))) (Err Unsound)) e
 
   module _ (sound : Sound s) where
     most : s.name.total ≤ 63
@@ -88,22 +88,22 @@ module _ (s : Store) (shape : ShapedStore s) where
     found : ((lowest_page ≡ 0) × All (PageHeld s) s.name.total) ⊎ LowestWithout (PageHeld s) s.name.total lowest_page
     found = lowest-found (PageHeld s) s.pages s.name.total enough held_marks
 
-    verdict_is : text_verdict s ≡ cond (eqb lowest_page 0) Fine (Refused (NotHeld lowest_page (why_not_held (page_behind s (lowest_page - 1)))))
+    verdict_is : text_verdict s ≡ cond (eqb lowest_page 0) (Ok tt) (Err (NotHeld lowest_page (why_not_held (page_behind s (lowest_page - 1)))))
     verdict_is = verdict_by_lowest s lowest_page (sound_tested s sound) refl
 
     -- 15
     not_held : LowestWithout (PageHeld s) s.name.total lowest_page
-        → (mark : ℕ) × LowestNotHeld s lowest_page mark × (text_verdict s ≡ Refused (NotHeld lowest_page mark))
+        → (mark : ℕ) × LowestNotHeld s lowest_page mark × (text_verdict s ≡ Err (NotHeld lowest_page mark))
     not_held l =
         let i = lowest_page - 1 in
         let here : i < length s.pages = omega (arith, l.low, l.high, enough) in (
           why_not_held (page_behind s i),
           record { lowest = l; why = why (page_behind s i) (sound.state i here) (sound.empty i here) (λ e. l.lacks ((page_behind s i).text, marked (page_behind s i) 1 (page_behind s i).text e refl)) },
-          verdict_is ∙ ap (λ (b : Bool). cond b Fine (Refused (NotHeld lowest_page (why_not_held (page_behind s i))))) (ne_eqb lowest_page 0 (λ e. omega (arith, l.low))),
+          verdict_is ∙ ap (λ (b : Bool). cond b (Ok tt) (Err (NotHeld lowest_page (why_not_held (page_behind s i))))) (ne_eqb lowest_page 0 (λ e. omega (arith, l.low))),
         )
 
-    all_held : lowest_page ≡ 0 → text_verdict s ≡ Fine
-    all_held e = verdict_is ∙ ap (λ (b : Bool). cond b Fine (Refused (NotHeld lowest_page (why_not_held (page_behind s (lowest_page - 1)))))) (eq-eqb lowest_page 0 e)
+    all_held : lowest_page ≡ 0 → text_verdict s ≡ Ok tt
+    all_held e = verdict_is ∙ ap (λ (b : Bool). cond b (Ok tt) (Err (NotHeld lowest_page (why_not_held (page_behind s (lowest_page - 1)))))) (eq-eqb lowest_page 0 e)
 
     -- 16
     abbrev text : List ℕ
@@ -131,17 +131,17 @@ module _ (s : Store) (shape : ShapedStore s) where
 
   abbrev Outcome : ℕ → Type 0
   Outcome size =
-      ((Sound s → ⊥) × ((text_answer s size).answer ≡ Refused Unsound))
+      ((Sound s → ⊥) × ((text_answer s size).answer ≡ Err Unsound))
       ⊎ (Sound s
-      × (((k : ℕ) × (mark : ℕ) × LowestNotHeld s k mark × ((text_answer s size).answer ≡ Refused (NotHeld k mark)))
+      × (((k : ℕ) × (mark : ℕ) × LowestNotHeld s k mark × ((text_answer s size).answer ≡ Err (NotHeld k mark)))
       ⊎ (All (PageHeld s) s.name.total
-      × (((TextFits s size → ⊥) × ((text_answer s size).answer ≡ Refused Short)) ⊎ (TextFits s size × ((text_answer s size).answer ≡ Fine))))))
+      × (((TextFits s size → ⊥) × ((text_answer s size).answer ≡ Err Short)) ⊎ (TextFits s size × ((text_answer s size).answer ≡ Ok tt))))))
 
   outcome : (size : ℕ) → Outcome size
   outcome size = by (sound_store s) refl
     where
       by : (b : Bool) → sound_store s ≡ b → Outcome size
-      by false e = inl (λ h. false_not_true (sym e ∙ sound_tested s h), told_by size (Refused Unsound) (unsound e))
+      by false e = inl (λ h. false_not_true (sym e ∙ sound_tested s h), told_by size (Err Unsound) (unsound e))
       by true e =
           let sound = tested_sound s e in
           inr (
@@ -150,15 +150,15 @@ module _ (s : Store) (shape : ShapedStore s) where
                 (λ f. inr (
                   f.1,
                   ⊎_elim
-                      (λ less. inl (λ t. omega (arith, fits sound size t), told_by size Fine (all_held sound f.0) ∙ rw (lt-ltb size (text_length_of s) less)))
-                      (λ more. inr ((text sound, text_is sound, omega (arith, text-length sound)), told_by size Fine (all_held sound f.0) ∙ rw (le-ltb size (text_length_of s) more)))
+                      (λ less. inl (λ t. omega (arith, fits sound size t), told_by size (Ok tt) (all_held sound f.0) ∙ rw (lt-ltb size (text_length_of s) less)))
+                      (λ more. inr ((text sound, text_is sound, omega (arith, text-length sound)), told_by size (Ok tt) (all_held sound f.0) ∙ rw (le-ltb size (text_length_of s) more)))
                       (below? size (text_length_of s)),
                 ))
-                (λ l. let n = not_held sound l in inl (lowest_page, n.0, n.1, told_by size (Refused (NotHeld lowest_page n.0)) n.2))
+                (λ l. let n = not_held sound l in inl (lowest_page, n.0, n.1, told_by size (Err (NotHeld lowest_page n.0)) n.2))
                 (found sound),
           )
 
-  pub text_reason : (size : ℕ) (x : Refusal) → (text_answer s size).answer ≡ Refused x → WhyNotTold s size x
+  pub text_reason : (size : ℕ) (x : Refusal) → (text_answer s size).answer ≡ Err x → WhyNotTold s size x
   text_reason size x e =
       ⊎_elim
       (λ u. inl (u.0, same_refusal x Unsound (sym e ∙ u.1)))
@@ -171,7 +171,7 @@ module _ (s : Store) (shape : ShapedStore s) where
       ))
       (outcome size)
 
-  pub text_exactly : (size : ℕ) → (text_answer s size).answer ≡ Fine ↔ (Sound s × All (PageHeld s) s.name.total × TextFits s size)
+  pub text_exactly : (size : ℕ) → (text_answer s size).answer ≡ (Ok tt) ↔ (Sound s × All (PageHeld s) s.name.total × TextFits s size)
   text_exactly size = (
     λ e.
         ⊎_elim

@@ -1,4 +1,5 @@
 -- A bulletin of two pages comes to be complete, and tells its text.
+use Rattle.std.specs.Prelude.{Ok}
 use mathlib.Core.Path.{◌≡◌, refl, sym, ap, ◌∙◌, subst}
 use mathlib.Core.List.{List, [], ◌∷◌, ◌++◌}
 use mathlib.Core.Logic.{◌⊎◌, inl, inr, ⊎_elim}
@@ -7,9 +8,7 @@ use native.Mathlib.Omega.{arith}
 use lib.ListN.{length, get_or, length-append, replicate}
 use lib.Seq.{get_or_at}
 use Rattle.report.specs.declared.record.Record.{Record}
-use Rattle.rows.specs.declared.refusal.Verdict.TheVariants.{Fine}
-use Rattle.bulletin.specs.declared.count.Count.{Count}
-use Rattle.bulletin.specs.Counts.{count_of}
+use Rattle.bulletin.specs.Counts.{count_of, Counted}
 use Rattle.pages.proofs.States.{Text}
 use Rattle.histories.specs.Frames.{store_after, Among, Came, Held, Disputed}
 use Rattle.histories.specs.Reports.{none, one_more, no_more, Tells, in_order}
@@ -35,8 +34,8 @@ both_held_lem (suc (suc (suc p))) low high = absurd (omega arith)
 none_disputed : (p : ℕ) → Disputed of_two_pages came_both p → ⊥
 none_disputed p d = d.differ (letters_alone p d.one d.came ∙ sym (letters_alone p d.other d.came_too))
 
-abbrev both_held : Count
-both_held = record { answer = Fine; held = 2; disputed = 0; lowest = 0 }
+abbrev both_held : Counted
+both_held = record { answer = Ok tt; held = 2; disputed = 0; lowest = 0 }
 
 pub complete_reported : count_of (store_after of_two_pages came_both) ≡ both_held
 complete_reported =

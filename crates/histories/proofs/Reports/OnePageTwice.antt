@@ -1,14 +1,13 @@
 -- A page that came twice does not stand for another.
+use Rattle.std.specs.Prelude.{Ok}
 use mathlib.Core.Path.{◌≡◌, refl, sym, ◌∙◌, subst}
 use mathlib.Core.Logic.{inl, inr, ⊎_elim}
 use Prim.Native.Nat.{ℕ, ◌≤◌}
 use native.Mathlib.Omega.{arith}
 use lib.ListN.{replicate}
 use Rattle.report.specs.declared.record.Record.{Record}
-use Rattle.rows.specs.declared.refusal.Verdict.TheVariants.{Fine}
 use Rattle.rows.specs.declared.refusal.Refusal.TheVariants.{NotHeld}
-use Rattle.bulletin.specs.declared.count.Count.{Count}
-use Rattle.bulletin.specs.Counts.{count_of}
+use Rattle.bulletin.specs.Counts.{count_of, Counted}
 use Rattle.pages.proofs.States.{Text}
 use Rattle.histories.specs.Soundness.{InRange}
 use Rattle.histories.specs.Frames.{store_after, Among, Brings, Came, Held, Disputed, AllTaken}
@@ -17,7 +16,6 @@ use Rattle.histories.specs.Examples.{of_two_pages, frame_paged, sent_again, came
 use Rattle.histories.proofs.Frames.TextsBrought.{alike_brings, same_page}
 use Rattle.report.specs.Records.{values}
 use Rattle.report.specs.Runs.Writing.{Valid, write_answer}
-use Rattle.rows.specs.Runs.Questions.{◌then◌, unless}
 use Rattle.rows.specs.Runs.Verdict.{allowed, empty, judge, later, slots_verdict, verdict, walk}
 use Rattle.slots.specs.Slots.{tidy_slots, vacant}
 use Rattle.histories.proofs.Histories.PageFrames.{frame_brings}
@@ -40,7 +38,7 @@ first_brings = page_brings 1 (omega arith) (omega arith)
 
 -- what came again can be written too, and is like what came first
 again_valid : Valid (sent_again 1).came
-unfolding write_answer ◌then◌ unless allowed judge walk empty later slots_verdict verdict values tidy_slots vacant
+unfolding write_answer allowed judge walk empty later slots_verdict verdict values tidy_slots vacant
 again_valid = refl
 
 again_brings : Brings of_two_pages (sent_again 1).came 1 letters
@@ -76,8 +74,8 @@ second-lowest = record {
   before = λ p low high. let one : 1 ≡ p = omega arith in subst (IsHeld of_two_pages came_twice) one (letters, first_held);
 }
 
-abbrev one_of_two : Count
-one_of_two = record { answer = Fine; held = 1; disputed = 0; lowest = 2 }
+abbrev one_of_two : Counted
+one_of_two = record { answer = Ok tt; held = 1; disputed = 0; lowest = 2 }
 
 pub twice_reported : count_of (store_after of_two_pages came_twice) ≡ one_of_two
 twice_reported =

@@ -1,18 +1,17 @@
 -- What a store reports is told by the frames that it took.
+use Rattle.std.specs.Prelude.{Ok, Err}
 use mathlib.Core.Path.{◌≡◌, refl, ap, sym, ◌∙◌}
 use mathlib.Core.Bool.{Bool, true, cond}
 use mathlib.Core.List.{List}
 use Prim.Native.Nat.{ℕ, suc, ◌<◌, ◌≤◌}
 use native.Mathlib.Omega.{arith}
 use lib.ListN.{length}
-use Rattle.rows.specs.declared.refusal.Verdict.TheVariants.{Fine, Refused}
 use Rattle.rows.specs.declared.refusal.Refusal.TheVariants.{Unsound}
 use Rattle.pages.specs.declared.page.Page.{Page}
 use Rattle.pages.specs.declared.name.Name.{Name}
 use Rattle.bulletin.specs.declared.store.Store.{Store}
-use Rattle.bulletin.specs.declared.count.Count.{Count}
 use Rattle.bulletin.specs.Stores.{sound_store, page_behind}
-use Rattle.bulletin.specs.Counts.{count_marked, lowest_not_held, count_of}
+use Rattle.bulletin.specs.Counts.{count_marked, lowest_not_held, count_of, Counted}
 use Rattle.pages.proofs.States.{Mark, absent, held, disputed, to_page}
 use Rattle.histories.specs.Soundness.{InRange}
 use Rattle.histories.specs.Frames.{Frame, store_after, Disputed}
@@ -24,11 +23,11 @@ use Rattle.histories.proofs.Histories.Merges.{after_sound, after_name}
 use Rattle.histories.proofs.Frames.PageStates.{Tells, mark_for, tells, tells_one}
 use Rattle.histories.proofs.Reports.Counts.{Marks, counted, lowest-found, counted_once, found_once}
 
-abbrev pub sound_count : Store → Count
-sound_count s = record { answer = Fine; held = count_marked 1 s.pages; disputed = count_marked 2 s.pages; lowest = lowest_not_held s.name.total 0 s.pages }
+abbrev pub sound_count : Store → Counted
+sound_count s = record { answer = Ok tt; held = count_marked 1 s.pages; disputed = count_marked 2 s.pages; lowest = lowest_not_held s.name.total 0 s.pages }
 
-abbrev pub refused_count : Count
-refused_count = record { answer = Refused Unsound; held = 0; disputed = 0; lowest = 0 }
+abbrev pub refused_count : Counted
+refused_count = record { answer = Err Unsound; held = 0; disputed = 0; lowest = 0 }
 
 pub count_by : (s : Store) (b : Bool) → sound_store s ≡ b → count_of s ≡ cond b (sound_count s) refused_count
 unfolding count_of
@@ -100,7 +99,7 @@ module _ (n : Name) (range : InRange n) (fs : List Frame) where
         lowest = rw total_same (lowest-found (IsHeld n fs) pages n.total enough held_marks);
       })
 
-pub reported_once : (n : Name) (fs : List Frame) (c d : Count) → Reports n fs c → Reports n fs d → c ≡ d
+pub reported_once : (n : Name) (fs : List Frame) (c d : Counted) → Reports n fs c → Reports n fs d → c ≡ d
 reported_once n fs c d p q =
     let a = p.answer ∙ sym q.answer in
     let h = counted_once (IsHeld n fs) n.total c.held d.held p.held q.held in

@@ -1,4 +1,6 @@
 -- The text of a store is told by the frames that it took.
+use Rattle.std.specs.Prelude.{Ok, Err}
+use Rattle.rows.specs.Refusals.{Verdict}
 use mathlib.Core.Path.{◌≡◌, refl, ap, sym, ◌∙◌, subst}
 use mathlib.Core.Bool.{Bool, true, cond}
 use mathlib.Core.List.{List, ◌++◌}
@@ -8,11 +10,9 @@ use native.Mathlib.Omega.{arith}
 use lib.ListN.{length, take, drop}
 use lib.Seq.{length-take-le}
 use lib.Dec.{eqb}
-use borrow.Author.Tests.{ne_eqb}
-use Rattle.rows.specs.declared.refusal.Verdict.{Verdict}
-use Rattle.rows.specs.declared.refusal.Verdict.TheVariants.{Fine, Refused}
+use borrow.Author.Tests.{ne_eqb, lt-ltb, le-ltb}
 use Rattle.rows.specs.declared.refusal.Refusal.{Refusal}
-use Rattle.rows.specs.declared.refusal.Refusal.TheVariants.{Unsound, NotHeld}
+use Rattle.rows.specs.declared.refusal.Refusal.TheVariants.{Unsound, NotHeld, Short}
 use Rattle.pages.specs.declared.page.Page.{Page}
 use Rattle.pages.specs.declared.name.Name.{Name}
 use Rattle.bulletin.specs.declared.store.Store.{Store}
@@ -20,7 +20,6 @@ use Rattle.bulletin.specs.Stores.{sound_store, page_behind}
 use Rattle.bulletin.specs.Counts.{lowest_not_held, count_of}
 use Rattle.bulletin.specs.Text.{bytes_in_order, text_length_of, why_not_held, text_verdict, with_room, text_answer_by, text_buffer_by}
 use Rattle.pages.proofs.States.{Mark, absent, held, disputed, to_page}
-use Rattle.bulletin.proofs.Telling.TextOutcomes.{told_whole, told_short}
 use Rattle.histories.specs.Soundness.{InRange}
 use Rattle.histories.specs.Frames.{Frame, store_after, page_numbered, Absent, Held, Disputed}
 use Rattle.histories.specs.Reports.{All, LowestWithout, IsHeld, in_order, Trimmed, Tells, TellsNothing, NotHeldBecause}
@@ -37,26 +36,35 @@ use Rattle.histories.proofs.Reports.Trimming.{trimmed, trimmed_length, length_or
 -- ---- 14 and 15
 
 pub verdict_by_lowest : (s : Store) (k : ℕ) → sound_store s ≡ true → lowest_not_held s.name.total 0 s.pages ≡ k
-    → text_verdict s ≡ cond (eqb k 0) Fine (Refused (NotHeld k (why_not_held (page_behind s (k - 1)))))
+    → text_verdict s ≡ cond (eqb k 0) (Ok tt) (Err (NotHeld k (why_not_held (page_behind s (k - 1)))))
 unfolding text_verdict
 verdict_by_lowest s k h e =
-    (λ j. cond (h j) (cond (eqb (e j) 0) Fine (Refused (NotHeld (e j) (why_not_held (page_behind s (e j - 1)))))) (Refused Unsound))
+    (λ j. cond (h j) (cond (eqb (e j) 0) (Ok tt) (Err (NotHeld (e j) (why_not_held (page_behind s (e j - 1)))))) (Err Unsound))
 
-refused_tells : (s : Store) (x : Refusal) → text_verdict s ≡ Refused x → TellsNothing s x
+refused_tells : (s : Store) (x : Refusal) → text_verdict s ≡ Err x → TellsNothing s x
 refused_tells s x e = record {
   answer = λ size. ap (λ (v : Verdict). text_answer_by (with_room v (text_length_of s) size) (text_length_of s)) e;
   untouched = λ out. ap (λ (v : Verdict). text_buffer_by (with_room v (text_length_of s) (length out)) (text_length_of s) (bytes_in_order s.pages) out) e;
 }
 
-pub fine_tells : (s : Store) → text_verdict s ≡ Fine → text_length_of s ≤ length (bytes_in_order s.pages) → Tells s (take (text_length_of s) (bytes_in_order s.pages))
+-- ---- 16
+
+roomy : (s : Store) (size : ℕ) → text_verdict s ≡ Ok tt → text_length_of s ≤ size → with_room (text_verdict s) (text_length_of s) size ≡ Ok tt
+roomy s size e h = simp (e, le-ltb size (text_length_of s) h)
+
+too_short : (s : Store) (size : ℕ) → text_verdict s ≡ Ok tt → size < text_length_of s → with_room (text_verdict s) (text_length_of s) size ≡ Err Short
+too_short s size e h = simp (e, lt-ltb size (text_length_of s) h)
+
+pub fine_tells : (s : Store) → text_verdict s ≡ Ok tt → text_length_of s ≤ length (bytes_in_order s.pages) → Tells s (take (text_length_of s) (bytes_in_order s.pages))
 fine_tells s e most =
-    let text = take (text_length_of s) (bytes_in_order s.pages) in
-    let long : length text ≡ text_length_of s = length-take-le (text_length_of s) (bytes_in_order s.pages) most in
+    let n = text_length_of s in
+    let all = bytes_in_order s.pages in
+    let long : length (take n all) ≡ n = length-take-le n all most in
     record {
-      answer = λ out h. sym (told_whole s out _ Fine (length text) (sym e) refl long h refl).0;
-      written = λ out h. sym (told_whole s out _ Fine (length text) (sym e) refl long h refl).1 ∙ ap (λ (k : ℕ). take k (bytes_in_order s.pages) ++ drop (length text) out) long;
-      short = λ out h. sym (told_short s out Fine (length text) (sym e) refl long h).0;
-      untouched = λ out h. sym (told_short s out Fine (length text) (sym e) refl long h).1;
+      answer = λ out h. ap (λ (v : Verdict). text_answer_by v n) (roomy s (length out) e (omega (arith, long))) ∙ sym (ap (text_answer_by (Ok tt)) long);
+      written = λ out h. ap (λ (v : Verdict). text_buffer_by v n all out) (roomy s (length out) e (omega (arith, long))) ∙ sym (ap (λ (k : ℕ). take n all ++ drop k out) long);
+      short = λ out h. ap (λ (v : Verdict). text_answer_by v n) (too_short s (length out) e (omega (arith, long)));
+      untouched = λ out h. ap (λ (v : Verdict). text_buffer_by v n all out) (too_short s (length out) e (omega (arith, long)));
     }
 
 module _ (n : Name) (range : InRange n) (fs : List Frame) where
@@ -109,7 +117,7 @@ module _ (n : Name) (range : InRange n) (fs : List Frame) where
         why_not_held (page_numbered s k),
         record { lowest = h; why = subst (λ (p : Page). ((why_not_held p ≡ 1) × Absent n fs k) ⊎ ((why_not_held p ≡ 2) × Disputed n fs k)) (sym here) (why_not k m h.lacks told) },
         refused_tells s (NotHeld k (why_not_held (page_numbered s k)))
-            (verdict_by_lowest s k store_sound (lowest_is k (inr h)) ∙ ap (λ (b : Bool). cond b Fine (Refused (NotHeld k (why_not_held (page_numbered s k))))) (ne_eqb k 0 (λ e. omega (arith, h.low)))),
+            (verdict_by_lowest s k store_sound (lowest_is k (inr h)) ∙ ap (λ (b : Bool). cond b (Ok tt) (Err (NotHeld k (why_not_held (page_numbered s k))))) (ne_eqb k 0 (λ e. omega (arith, h.low)))),
       )
 
   -- a page that no frame brought is missed, however many frames came

@@ -1,9 +1,9 @@
 -- A name is opened exactly where each of its values is in its range, and refused at the first that is not.
+use Rattle.std.specs.Prelude.{Ok}
 use mathlib.Core.Path.{◌≡◌, refl, sym, ◌∙◌}
 use mathlib.Core.Bool.{true, ◌&&◌}
 use native.Mathlib.Omega.{arith}
 use lib.Dec.{leb}
-use Rattle.rows.specs.declared.refusal.Verdict.TheVariants.{Fine}
 use Rattle.rows.specs.declared.refusal.Refusal.TheVariants.{Range}
 use Rattle.rows.specs.Layout.{two_or_seven, uncorrected}
 use Rattle.rows.specs.Values.{no_spares}
@@ -29,9 +29,9 @@ unfolding body_verdict slots_verdict
 name_asked n =
     sym (name_found n no_spares _ refl refl)
     ∙ simp (common-walk nankai n.common, front-walk (page_one n) no_spares, behind-walk (page_one n) no_spares)
-    (simp (unless_true true (Range 43 0) refl, unless_true true (Range 201 1) refl, unless_true true (Range 213 0) refl, fine_then, then_fine))
+    (simp (unless_true true (Range 43 0) refl, fine_then, then_fine))
 
-pub name_answered : (n : Name) → Answers (name_verdict n) (open_questions n) Fine
+pub name_answered : (n : Name) → Answers (name_verdict n) (open_questions n) (Ok tt)
 name_answered n =
     let c = n.common in
     rw (name_asked n)
@@ -45,8 +45,8 @@ name_answered n =
     (question (leb 1 n.serial && leb n.serial 15) _ (Range 53 n.serial) (in_span 1 15 n.serial) (span_in 1 15 n.serial)
     (last_question (leb 1 n.total && leb n.total 63) _ (Range 207 n.total) (in_span 1 63 n.total) (span_in 1 63 n.total))))))))))
 
-pub fine_in_range : (n : Name) → name_verdict n ≡ Fine → InRange n
+pub fine_in_range : (n : Name) → name_verdict n ≡ Ok tt → InRange n
 fine_in_range n e = ((name_answered n).fine e).0
 
-pub in_range_fine : (n : Name) → InRange n → name_verdict n ≡ Fine
+pub in_range_fine : (n : Name) → InRange n → name_verdict n ≡ Ok tt
 in_range_fine n h = (name_answered n).met h

@@ -6,20 +6,15 @@ use native.Mathlib.Numerals.{add-one}
 use native.Mathlib.Omega.{arith}
 use lib.ListN.{length, take, drop, get_or, length-append, length-take, length-drop, take-append-drop, drop_of_length-le}
 use lib.Seq.{sets, take_all, get_or-take, get_or-drop, drop-cons, drop-drop}
-use Rattle.report.specs.declared.look.Looked.{Looked}
-use Rattle.report.specs.Runs.Reading.{seen}
-use Rattle.line.specs.Lines.{line_reading}
-use Rattle.listing.specs.declared.row.Row.{Row}
 use Rattle.listing.specs.declared.progress.Progress.{Progress}
 use Rattle.listing.specs.declared.scan.Step.{Step}
-use Rattle.listing.specs.Rows.{row_seen, row_text, cut_text}
+use Rattle.listing.specs.Rows.{cut_text}
 use Rattle.listing.specs.Listing.{line_row, limit}
 use Rattle.listing.specs.Scanning.{Reach, say, reach, progress_of, begun_in}
 use Rattle.lent.specs.Writing.{Wrote}
-use Rattle.lent.proofs.Chains.{sets_next, wrote_as, all_placed, placed}
+use Rattle.lent.proofs.Chains.{sets_next, all_placed, placed}
 use Rattle.listing.specs.Pieces.{Found, Scanned}
 use Rattle.listing.proofs.Chunks.ByteByByte.{Quiet, line_reach, quiet_reach, cut-reach}
-use Rattle.listing.proofs.Lines.SeenRows.{row_seen_lem}
 use Rattle.listing.proofs.Lines.WrongLines.{kept_row}
 
 -- ---- what a search found
@@ -36,12 +31,6 @@ pub quiet_found : (c : List ℕ) (a e : ℕ) → Found c a e → Quiet (take (e 
 quiet_found c a e f k h g =
     let l : k < e - a = omega (arith, length-take (e - a) (drop a c)) in
     f.quiet (a + k) (omega arith) (omega arith) (sym (get_or-take (e - a) (drop a c) k 0 l ∙ get_or-drop a c k 0) ∙ g)
-
--- the row of a line as the code makes it
-pub row-said : {o after : List ℕ} {at next : ℕ} {said : Row} {look : Looked} (n : ℕ) (line : List ℕ) → said ≡ row_seen look.answer look → look ≡ seen (line_reading line) → Wrote o after at next (row_text n said)
-    → Wrote o after at next (line_row n line)
-unfolding line_row
-row-said n line e f w = wrote_as (ap (row_text n) (e ∙ ap (λ (l : Looked). row_seen l.answer l) f ∙ row_seen_lem (line_reading line))) w
 
 -- ---- the loop
 

@@ -1,4 +1,5 @@
 -- Lines that are no frame, for their length or for a byte, and what is kept of a line.
+use Rattle.std.specs.Prelude.{Err}
 use mathlib.Core.Path.{◌≡◌, refl, sym, ap, ◌∙◌}
 use mathlib.Core.Bool.{Bool, true, false, ◌&&◌}
 use mathlib.Core.List.{List, [], ◌∷◌, ◌++◌}
@@ -8,12 +9,10 @@ use borrow.Author.Tests.{ne_eqb, ltb-true, ltb-false}
 use lib.Dec.{ltb, eqb}
 use lib.ListN.{length, take, length-take}
 use lib.Seq.{take_all}
-use Rattle.rows.specs.declared.refusal.Verdict.TheVariants.{Refused}
 use Rattle.rows.specs.declared.refusal.Refusal.TheVariants.{Line}
-use Rattle.report.specs.declared.read.Reading.{Reading}
 use Rattle.rows.specs.Runs.Verdict.{allowed}
 use Rattle.report.specs.Records.{zeros}
-use Rattle.report.specs.Runs.Reading.{reading}
+use Rattle.report.specs.Runs.Reading.{reading, Reading}
 use Rattle.line.specs.Lines.{digits, all_digits, is_line, line_reading}
 use Rattle.line.proofs.Claims.{no_line_is_17}
 use Rattle.listing.specs.Listing.{line_row}
@@ -21,7 +20,7 @@ use Rattle.listing.specs.Rows.{row_of, row_text}
 
 -- 17
 abbrev pub no_line : Reading
-no_line = reading (Refused Line) zeros
+no_line = reading (Err Line) zeros
 
 pub wrong_length : (l : List ℕ) → (length l ≡ 63 → ⊥) → line_reading l ≡ no_line
 unfolding is_line

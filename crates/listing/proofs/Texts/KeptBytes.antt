@@ -1,31 +1,15 @@
 -- Laws of the first bytes of a line, as they are kept.
-use mathlib.Core.Path.{◌≡◌, refl, sym, ap, ◌∙◌}
-use mathlib.Core.Bool.{Bool, true, false}
+use mathlib.Core.Path.{◌≡◌, refl, sym, ap, ap₂, ◌∙◌}
 use mathlib.Core.List.{List, [], ◌∷◌, ◌++◌}
 use Prim.Native.Nat.{ℕ, zero, suc, ◌+◌, ◌-◌, ◌≤◌, ◌<◌, min}
-use native.Mathlib.Nat.{zero-min, min-zero, suc-min-suc}
+use native.Mathlib.Nat.{zero-min, min_comm, min-le_right, min-zero, suc-min-suc}
 use native.Mathlib.Omega.{arith}
-use borrow.Author.Tests.{eqb-true, eqb-false}
-use lib.Dec.{eqb}
-use lib.ListN.{length, take, get_or, set, length-append, length-take, get_or-append, get_or-eq_default}
-use lib.Seq.{get_or-append-add, get_or-take, get_or-set_same, get_or-set_other, length-take-le, ext_get_or}
+use lib.ListN.{length, take, drop, replicate, length-append, length-replicate, length-take}
+use lib.Seq.{length-take-le, length-sets, sets, sets-eq, take-append-add}
+use Rattle.lent.specs.Writing.{Wrote}
+use Rattle.lent.proofs.Chains.{sets-sets}
 use Rattle.listing.specs.declared.progress.Progress.{Progress}
 use Rattle.listing.specs.Scanning.{sized_to, progress_of, begun_in}
-
--- ---- a byte of what is kept with more behind it
-
-pub byte_kept : (h b : List ℕ) (n i : ℕ) → i < n → n ≤ length h → get_or h i 0 ≡ get_or (take n h ++ b) i 0
-byte_kept h b n i l m = sym (get_or-append (take n h) b 0 i (simp (length-take-le n h m) (omega arith)) ∙ get_or-take n h i 0 l)
-
-pub byte_new : (h b : List ℕ) (n i : ℕ) → n ≤ i → n ≤ length h → i - n < length b → get_or b (i - n) 0 ≡ get_or (take n h ++ b) i 0
-byte_new h b n i l m k =
-    let e : length (take n h) + (i - n) ≡ i = omega (arith, length-take-le n h m) in
-    sym (ap (λ (j : ℕ). get_or (take n h ++ b) j 0) (sym e) ∙ get_or-append-add (take n h) b (i - n) 0)
-
-pub byte_none : (h b : List ℕ) (n i : ℕ) → n ≤ i → n ≤ length h → length b ≤ i - n → 0 ≡ get_or (take n h ++ b) i 0
-byte_none h b n i l m k =
-    let e : length (take n h) + length b ≤ i = omega (arith, length-take-le n h m) in
-    sym (get_or-eq_default (take n h ++ b) 0 (simp length-append (omega arith)))
 
 -- ---- taking and padding
 
@@ -40,20 +24,6 @@ unfolding sized_to
 length_padded zero l = refl
 length_padded (suc k) [] = ap suc (length_padded k [])
 length_padded (suc k) (x ∷ l) = ap suc (length_padded k l)
-
-get_or_padded : (k : ℕ) (l : List ℕ) (i : ℕ) → i < k → get_or (sized_to k l) i 0 ≡ get_or l i 0
-unfolding sized_to
-get_or_padded zero l i h = elim h [ ]
-get_or_padded (suc k) [] zero h = refl
-get_or_padded (suc k) [] (suc i) h = get_or_padded k [] i (omega arith)
-get_or_padded (suc k) (x ∷ l) zero h = refl
-get_or_padded (suc k) (x ∷ l) (suc i) h = get_or_padded k l i (omega arith)
-
-padded_take : (k : ℕ) (l : List ℕ) → sized_to k (take k l) ≡ sized_to k l
-unfolding sized_to
-padded_take zero l = refl
-padded_take (suc k) [] = refl
-padded_take (suc k) (x ∷ l) = ap (λ (r : List ℕ). x ∷ r) (padded_take k l)
 
 take_padded : (k : ℕ) (l : List ℕ) → length l ≤ k → take (length l) (sized_to k l) ≡ l
 unfolding sized_to
@@ -70,22 +40,6 @@ begun_back n l h = take_padded 64 l h
 pub begun_short : (p : Progress) → length p.begun ≡ 64 → length (begun_in p) ≤ 64
 begun_short p h = omega (arith, length-take p.length p.begun)
 
--- ---- the loop that keeps a line
-
-pub fill_next : (kept l : List ℕ) (i v : ℕ) → i < length kept → ((k : ℕ) → k < i → get_or kept k 0 ≡ get_or l k 0) → v ≡ get_or l i 0 → (k : ℕ) → k < i + 1 → get_or (set kept i v) k 0 ≡ get_or l k 0
-fill_next kept l i v h f e k m = at_or_before (eqb k i) refl
-  where
-    at_or_before : (t : Bool) → eqb k i ≡ t → get_or (set kept i v) k 0 ≡ get_or l k 0
-    at_or_before true b = rw (eqb-true k i b) (get_or-set_same kept i v 0 h ∙ e)
-    at_or_before false b = get_or-set_other kept i k v 0 (eqb-false k i b) ∙ f k (omega (arith, eqb-false k i b))
-
-filled_up : (kept l : List ℕ) → length kept ≡ 64 → ((k : ℕ) → k < 64 → get_or kept k 0 ≡ get_or l k 0) → kept ≡ sized_to 64 (take 64 l)
-filled_up kept l h f = ext_get_or 0 kept (sized_to 64 l) (h ∙ sym (length_padded 64 l)) (λ i m. f i (omega arith) ∙ sym (get_or_padded 64 l i (omega arith))) ∙ sym (padded_take 64 l)
-
-pub kept_all : (n length' : ℕ) (kept l : List ℕ) → length kept ≡ 64 → ((k : ℕ) → k < 64 → get_or kept k 0 ≡ get_or l k 0) → length' ≡ length (take 64 l) → ◌≡◌ {A = Progress} (record { lines = n; length = length'; begun = kept }) (progress_of n (take 64 l))
-unfolding progress_of
-kept_all n length' kept l h f e = λ i. record { lines = n; length = e i; begun = filled_up kept l h f i }
-
 -- ---- lengths
 
 pub take_least : (n m : ℕ) (l : List ℕ) → length l ≡ m → take (min n m) l ≡ take n l
@@ -94,3 +48,40 @@ take_least (suc n) zero [] e = simp min-zero
 take_least (suc n) (suc m) (x ∷ l) e = simp suc-min-suc (ap (λ (r : List ℕ). x ∷ r) (take_least n m l (omega arith)))
 take_least (suc n) zero (x ∷ l) e = absurd (omega arith)
 take_least (suc n) (suc m) [] e = absurd (omega arith)
+
+-- ---- a line that is kept
+
+-- zeros behind a text that fits
+zeros_behind : (k : ℕ) (l : List ℕ) → length l ≤ k → l ++ drop (length l) (replicate k 0) ≡ sized_to k l
+unfolding sized_to
+zeros_behind zero [] h = refl
+zeros_behind zero (x ∷ l) h = absurd (omega arith)
+zeros_behind (suc k) [] h = ap (λ (r : List ℕ). 0 ∷ r) (zeros_behind k [] (omega arith))
+zeros_behind (suc k) (x ∷ l) h = ap (λ (r : List ℕ). x ∷ r) (zeros_behind k l (omega arith))
+
+put_padded : (k : ℕ) (l : List ℕ) → length l ≤ k → sets (replicate k 0) 0 l ≡ sized_to k l
+put_padded k l h =
+    let none : 0 + length l ≡ length l = omega arith in
+    sets-eq l (replicate k 0) 0 (omega (arith, length-replicate {A = ℕ} k 0)) ∙ ap (λ (j : ℕ). l ++ drop j (replicate k 0)) none ∙ zeros_behind k l h
+
+-- the line that was begun, and as much of what goes on with it as has room
+pub kept_all : (p : Progress) (b first second : List ℕ) (m n next : ℕ) → length p.begun ≡ 64 → m ≡ min p.length 64 → n ≡ min (length b) (64 - m)
+    → first ≡ sets (replicate 64 0) 0 (take m p.begun) → Wrote first second m next (take n b)
+    → ◌≡◌ {A = Progress} (record { lines = p.lines; length = next; begun = second }) (progress_of p.lines (take 64 (begun_in p ++ b)))
+unfolding progress_of
+kept_all p b first second m n next long em en ef w =
+    let begun : List ℕ = take m p.begun in
+    let same : begun ≡ begun_in p = ap (λ (k : ℕ). take k p.begun) em ∙ take_least p.length 64 p.begun long in
+    let fits : m ≤ length p.begun = omega (arith, min-le_right p.length 64) in
+    let size : length begun ≡ m = length-take-le m p.begun fits in
+    let room : length begun + (64 - m) ≡ 64 = omega (arith, min-le_right p.length 64) in
+    let more : take (64 - m) b ≡ take n b = sym (take_least (64 - m) (length b) b refl) ∙ ap (λ (k : ℕ). take k b) (min_comm (64 - m) (length b) ∙ sym en) in
+    let all : take 64 (begun_in p ++ b) ≡ begun ++ take n b =
+    ap₂ (λ (k : ℕ) (l : List ℕ). take k (l ++ b)) (sym room) (sym same) ∙ take-append-add begun b (64 - m) ∙ ap (λ (l : List ℕ). begun ++ l) more in
+    let short : length (begun ++ take n b) ≤ 64 = omega (arith, ap length (sym all), length-take 64 (begun_in p ++ b)) in
+    let width : length first ≡ 64 = ap length ef ∙ length-sets (replicate 64 0) 0 begun ∙ length-replicate {A = ℕ} 64 0 in
+    let end : m ≡ 0 + length begun = omega arith in
+    let kept : second ≡ sized_to 64 (take 64 (begun_in p ++ b)) =
+    w.bytes ∙ ap₂ (λ (f : List ℕ) (k : ℕ). sets f k (take n b)) ef end ∙ sets-sets begun (take n b) (replicate 64 0) 0 ∙ put_padded 64 (begun ++ take n b) short ∙ ap (sized_to 64) (sym all) in
+    let next_is : next ≡ length (take 64 (begun_in p ++ b)) = omega (arith, w.place, width, ap length all, length-append begun (take n b)) in
+    λ i. record { lines = p.lines; length = next_is i; begun = kept i }

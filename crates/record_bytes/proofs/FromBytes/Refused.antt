@@ -1,14 +1,13 @@
 -- Bytes that are not those of the body that they give are refused, in their turn.
+use Rattle.std.specs.Prelude.{Err}
 use mathlib.Core.Path.{◌≡◌, refl, ap, ◌∙◌}
 use mathlib.Core.Bool.{Bool, true, false, ◌&&◌, ◌||◌, not}
 use lib.Dec.{eqb}
 use Prim.Native.Nat.{ℕ, zero, suc, ◌+◌, ◌*◌}
 use mathlib.Core.List.{List, [], ◌∷◌, ◌++◌}
 use lib.ListN.{length, get_or, drop}
-use Rattle.rows.specs.declared.refusal.Verdict.TheVariants.{Refused}
 use Rattle.rows.specs.declared.refusal.Refusal.TheVariants.{Unused}
 use Rattle.slots.specs.declared.slot.Slot.{Slot}
-use Rattle.rows.specs.Runs.Questions.{◌then◌, unless}
 use Rattle.rows.specs.Runs.Verdict.{allowed, empty}
 use Rattle.rows.specs.Values.{each, has_spare, part_widths}
 use Rattle.report.specs.Runs.Writing.{known, tidy, write_answer}
@@ -56,6 +55,6 @@ untidy l b e =
     ap (λ (x : List Slot). tidy_slots (part_widths k) k.count x && blank) last
     ∙ ap (λ (x : Bool). x && blank) (last_asked (part_widths k) k.count ss misplaced (not-true _ (listed refuses_misplaced all_refuse b)))
 
-pub stray_refused : (l : List ℕ) → stray (body_in_bytes l) l ≡ true → allowed preambles (get_or l 1 0) ≡ true → known (body_in_bytes l) ≡ true → write_answer (unpacked l) 32 ≡ Refused Unused
-unfolding write_answer unpacked_as unless ◌then◌
+pub stray_refused : (l : List ℕ) → stray (body_in_bytes l) l ≡ true → allowed preambles (get_or l 1 0) ≡ true → known (body_in_bytes l) ≡ true → write_answer (unpacked l) 32 ≡ Err Unused
+unfolding write_answer unpacked_as
 stray_refused l e p d = simp (p, d, untidy l (body_in_bytes l) e)

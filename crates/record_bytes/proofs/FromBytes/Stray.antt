@@ -3,95 +3,68 @@
 use mathlib.Core.Path.{◌≡◌, refl, sym, ap, ◌∙◌}
 use mathlib.Core.Bool.{Bool, true, false, cond}
 use mathlib.Core.List.{List, [], ◌∷◌, ◌++◌, append_assoc}
-use Prim.Native.Nat.{ℕ, zero, suc, ◌+◌, ◌-◌, ◌*◌, ◌%◌, ◌^◌, ◌≤◌, ◌<◌}
+use Prim.Native.Nat.{ℕ, zero, suc, ◌+◌, ◌-◌, ◌*◌, ◌%◌, ◌^◌, ◌≤◌}
 use native.Mathlib.Nat.{zero-div}
 use native.Mathlib.Omega.{arith}
 use lib.Dec.{eqb}
-use lib.ListN.{length, get_or, take, drop, replicate, length-append, length-drop, length-map, length-replicate, get_or-replicate, replicate-append-replicate, get_or-append}
-use lib.Seq.{drop_at, drop-drop, ext_get_or, get_or-append-add, get_or-drop, get_or-take, length-slice, length-take-le, slice, take-add, take_all}
-use mathlib.Core.Logic.{⊎_elim}
-use Rattle.bits.specs.Frame.{Bytes, number}
-use Rattle.bits.proofs.Bytes.{number_inj, zero_bytes}
+use lib.Pointwise.{pointwise}
+use borrow.Author.Tests.{eq-eqb}
+use lib.ListN.{length, get_or, take, drop, replicate, length-append, length-drop, length-map, length-replicate, replicate-append-replicate}
+use lib.Seq.{drop_at, drop-drop, length-take-le, slice, take-add, take_all}
+use Rattle.bits.specs.Frame.{Bytes}
 use Rattle.lent.specs.Numbers.{wide}
 use Rattle.rows.specs.Layout.{Layout, Row}
-use Rattle.rows.specs.Values.{Sides, each, widths}
+use Rattle.rows.specs.Values.{Sides, each, same_bytes, widths}
+use Rattle.rows.proofs.Rules.Tests.{equal_bytes}
+use Rattle.std.proofs.lemmas.List.{drop-replicate, take-replicate}
 use Rattle.rows.specs.declared.fields.Spares.{Spares}
 use Rattle.rows.specs.declared.fields.Fields.{Fields}
 use Rattle.rows.specs.Runs.Fields.{bytes_for, fields_in}
-use Rattle.rows.proofs.Rules.Tests.{below?}
 use Rattle.report.specs.declared.body.Body.{Body}
 use Rattle.report.specs.Categories.{body_from, layout, sides_of}
 use Rattle.report.proofs.Categories.{made_alike, values_again}
 use Rattle.record_bytes.specs.Packed.{body_bytes, cells, zero_filled}
-use Rattle.record_bytes.specs.Unpacked.{body_in_bytes, cells_at, number_at, sides_in_bytes, size, spares_in_bytes}
-use Rattle.record_bytes.proofs.Cells.{bytes-taken, cells_again, length-cells-at, size_padded}
+use Rattle.record_bytes.specs.Unpacked.{body_in_bytes, cells_at, sides_in_bytes, size, spares_in_bytes}
+use Rattle.record_bytes.proofs.Cells.{cells_again, length-cells-at, size_padded}
 use Rattle.record_bytes.proofs.FromBytes.Places.{first-bytes}
 use Rattle.record_bytes.proofs.FromBytes.Read.{fields_fit_lem}
 
--- ---- bytes 9 to 40, where the fields end at a place
+fields_at : (l : List ℕ) (n : ℕ) → 9 ≤ length l → take n (drop 9 l) ≡ slice 9 (9 + n) l
+fields_at l n h = sym (ap (drop 9) (take-add 9 n l) ∙ drop_at (take 9 l) (take n (drop 9 l)) 9 (length-take-le 9 l h))
 
-module _ (l : List ℕ) (end : ℕ) (long : length l ≡ 251) (from : 9 ≤ end) (to : end ≤ 41) where
-  length_fields : length (slice 9 end l) ≡ end - 9
-  length_fields = length-slice 9 end l (omega arith)
+-- ---- what stands behind the fields
 
-  length_own : length (zero_filled 32 (slice 9 end l)) ≡ 32
-  length_own =
-      length-append (slice 9 end l) (replicate (32 - length (slice 9 end l)) 0)
-      ∙ ap (λ (n : ℕ). length (slice 9 end l) + n) (length-replicate (32 - length (slice 9 end l)) 0)
-      ∙ omega (arith, length_fields)
+-- what is the same in front is not asked for
+same_behind : (a p q : List ℕ) → pointwise eqb p q ≡ same_bytes (a ++ p) (a ++ q)
+unfolding same_bytes
+same_behind [] p q = equal_bytes p q
+same_behind (x ∷ a) p q = same_behind a p q ∙ sym (rw (eq-eqb x x refl))
 
-  own_field : (j : ℕ) → 9 + j < end → get_or (zero_filled 32 (slice 9 end l)) j 0 ≡ get_or l (9 + j) 0
-  own_field j h =
-      get_or-append (slice 9 end l) _ 0 j (omega (arith, length_fields)) ∙ get_or-drop 9 (take end l) j 0 ∙ get_or-take end l (9 + j) 0 h
+-- bytes 9 to 40 are those of fields of n bytes, where the m bytes behind them are zeros
+behind_fields : (l : List ℕ) (n m : ℕ) → length l ≡ 251 → n + m ≡ 32
+    → pointwise eqb (take m (drop (9 + n) l)) (replicate m 0) ≡ same_bytes (take 32 (drop 9 l)) (zero_filled 32 (slice 9 (9 + n) l))
+behind_fields l n m long all =
+    let own : List ℕ = take n (drop 9 l) in
+    let own_long : length own ≡ n = length-take-le n (drop 9 l) (rw (length-drop 9 l) (omega arith)) in
+    let whole : own ++ take m (drop (9 + n) l) ≡ take 32 (drop 9 l) =
+    ap (λ (t : List ℕ). own ++ take m t) (sym (drop-drop n 9 l)) ∙ sym (take-add n m (drop 9 l)) ∙ ap (λ (k : ℕ). take k (drop 9 l)) all
+    in
+    let left : m ≡ 32 - length own = omega arith in
+    same_behind own (take m (drop (9 + n) l)) (replicate m 0)
+    ∙ (λ i. same_bytes (whole i) (own ++ replicate (left i) 0))
+    ∙ ap (λ (t : List ℕ). same_bytes (take 32 (drop 9 l)) (zero_filled 32 t)) (fields_at l n (omega arith))
 
-  own_zero : (j : ℕ) → j < 32 → end ≤ 9 + j → get_or (zero_filled 32 (slice 9 end l)) j 0 ≡ 0
-  own_zero j h g =
-      let behind : j ≡ length (slice 9 end l) + (9 + j - end) = omega (arith, length_fields) in
-      ap (λ (k : ℕ). get_or (zero_filled 32 (slice 9 end l)) k 0) behind
-      ∙ get_or-append-add (slice 9 end l) _ (9 + j - end) 0
-      ∙ get_or-replicate (32 - length (slice 9 end l)) (9 + j - end) 0 0 (omega (arith, length_fields))
+zeros_left : (k n m : ℕ) → n + m ≡ k → ◌≡◌ {A = List ℕ} (take (k - n) (drop n (replicate k 0))) (replicate m 0)
+zeros_left k n m e =
+    let left : k - n ≡ m = omega arith in
+    rw (drop-replicate {X = ℕ} n k 0, left) (take-replicate m m 0 (omega arith))
 
-  byte_here : (j : ℕ) → j < 32 → get_or (take 32 (drop 9 l)) j 0 ≡ get_or l (9 + j) 0
-  byte_here j h = get_or-take 32 (drop 9 l) j 0 h ∙ get_or-drop 9 l j 0
-
-  pub none_stray : ((j : ℕ) → j < 41 → end ≤ j → get_or l j 0 ≡ 0) → take 32 (drop 9 l) ≡ zero_filled 32 (slice 9 end l)
-  none_stray zeros =
-      let n : length (take 32 (drop 9 l)) ≡ 32 = length-take-le 32 (drop 9 l) (rw (length-drop 9 l) (omega (arith, long))) in
-      ext_get_or 0 _ (zero_filled 32 (slice 9 end l)) (n ∙ sym length_own) (λ j h. same j (omega (arith, n)))
-    where
-      same : (j : ℕ) → j < 32 → get_or (take 32 (drop 9 l)) j 0 ≡ get_or (zero_filled 32 (slice 9 end l)) j 0
-      same j h = byte_here j h ∙ ⊎_elim (λ k. sym (own_field j k)) (λ k. zeros (9 + j) (omega arith) k ∙ sym (own_zero j h k)) (below? (9 + j) end)
-
-  pub one_stray : (j : ℕ) → end ≤ j → j < 41 → (get_or l j 0 ≡ 0 → ⊥) → take 32 (drop 9 l) ≡ zero_filled 32 (slice 9 end l) → ⊥
-  one_stray j g h other same =
-      let at : j ≡ 9 + (j - 9) = omega arith in
-      other (ap (λ (k : ℕ). get_or l k 0) at ∙ sym (byte_here (j - 9) (omega arith)) ∙ ap (λ (s : List ℕ). get_or s (j - 9) 0) same ∙ own_zero (j - 9) (omega arith) (omega arith))
-
-  -- eight bytes at once
-  pub eight_stray : (at : ℕ) → end ≤ at → at + 8 ≤ 41 → (number_at l at 8 ≡ 0 → ⊥) → take 32 (drop 9 l) ≡ zero_filled 32 (slice 9 end l) → ⊥
-  eight_stray at g h other same = other (ap number eight)
-    where
-      zero_at : (j : ℕ) → end ≤ j → j < 41 → get_or l j 0 ≡ 0
-      zero_at j a b =
-          let here : j ≡ 9 + (j - 9) = omega arith in
-          ap (λ (k : ℕ). get_or l k 0) here ∙ sym (byte_here (j - 9) (omega arith)) ∙ ap (λ (s : List ℕ). get_or s (j - 9) 0) same ∙ own_zero (j - 9) (omega arith) (omega arith)
-
-      eight : take 8 (drop at l) ≡ replicate 8 0
-      eight =
-          let n : length (take 8 (drop at l)) ≡ 8 = length-take-le 8 (drop at l) (rw (length-drop at l) (omega (arith, long))) in
-          ext_get_or 0 _ (replicate 8 0) n (λ j k. get_or-take 8 (drop at l) j 0 (omega (arith, n)) ∙ get_or-drop at l j 0 ∙ zero_at (at + j) (omega arith) (omega (arith, n)) ∙ sym (get_or-replicate 8 j 0 0 (omega (arith, n))))
-
-pub eight_zeros : (l : List ℕ) (at : ℕ) → Bytes l → at + 8 ≤ length l → number_at l at 8 ≡ 0 → (j : ℕ) → at ≤ j → j < at + 8 → get_or l j 0 ≡ 0
-eight_zeros l at b h e j g k =
-    let n : length (take 8 (drop at l)) ≡ 8 = length-take-le 8 (drop at l) (rw (length-drop at l) (omega arith)) in
-    let own : Bytes (take 8 (drop at l)) = bytes-taken 8 (drop at l) (λ i. rw (get_or-drop at l i 0) (b (at + i))) in
-    let eight : take 8 (drop at l) ≡ replicate 8 0 = number_inj _ (replicate 8 0) n own (zero_bytes 8) e in
-    let here : j ≡ at + (j - at) = omega arith in
-    ap (λ (i : ℕ). get_or l i 0) here
-    ∙ sym (get_or-drop at l (j - at) 0)
-    ∙ sym (get_or-take 8 (drop at l) (j - at) 0 (omega arith))
-    ∙ ap (λ (s : List ℕ). get_or s (j - at) 0) eight
-    ∙ get_or-replicate 8 (j - at) 0 0 (omega arith)
+pub zeros_behind : (l : List ℕ) (end : ℕ) → length l ≡ 251 → 9 ≤ end → end ≤ 41
+    → pointwise eqb (take (41 - end) (drop end l)) (take (32 - (end - 9)) (drop (end - 9) (replicate 32 0))) ≡ same_bytes (take 32 (drop 9 l)) (zero_filled 32 (slice 9 end l))
+zeros_behind l end long from to =
+    let place : 9 + (end - 9) ≡ end = omega arith in
+    let zeros = zeros_left 32 (end - 9) (41 - end) (omega arith) in
+    ap (pointwise eqb (take (41 - end) (drop end l))) zeros ∙ (rw place at (behind_fields l (end - 9) (41 - end) long (omega arith)))
 
 -- ---- the bytes of the body that was read
 
@@ -119,9 +92,6 @@ filled_zero t m h =
   where
     left : (a n m : ℕ) {z : ℕ} → a ≡ n + z → z ≡ m → n + m ≤ 32 → m + (32 - a) ≡ 32 - n
     left a n m e f h = omega arith
-
-fields_at : (l : List ℕ) (n : ℕ) → 9 ≤ length l → take n (drop 9 l) ≡ slice 9 (9 + n) l
-fields_at l n h = sym (ap (drop 9) (take-add 9 n l) ∙ drop_at (take 9 l) (take n (drop 9 l)) 9 (length-take-le 9 l h))
 
 module _ (l : List ℕ) (bytes : Bytes l) (long : length l ≡ 251) where
   rows_again : (rs : List Row) (k : ℕ) → k + size (widths rs) ≤ 251 → cells (widths rs) (each (length rs) (λ i. get_or (cells_at l k (widths rs)) i 0)) ≡ take (size (widths rs)) (drop k l)

@@ -1,7 +1,8 @@
 -- Values put as eight bytes each, one behind the other, into zeros.
 use mathlib.Core.Path.{◌≡◌, refl, sym, ap, ◌∙◌}
 use Prim.Native.Nat.{ℕ, zero, suc, ◌+◌, ◌-◌, ◌*◌, ◌%◌, ◌^◌, ◌≤◌, ◌<◌}
-use native.Mathlib.Nat.{mod-mod, mul-add, mul-mod_left}
+use Rattle.std.specs.Int.{to_be_bytes, w64}
+use native.Mathlib.Nat.{div-one, mod-mod, mul-add, mul-mod_left}
 use native.Mathlib.Numerals.{add-one}
 use native.Mathlib.Omega.{arith}
 use mathlib.Core.List.{List, [], ◌∷◌, ◌++◌}
@@ -17,6 +18,10 @@ use Rattle.rows.specs.Runs.Fields.{bytes_for}
 use Rattle.record_bytes.specs.Packed.{cells}
 use Rattle.record_bytes.specs.Unpacked.{size}
 use Rattle.record_bytes.proofs.Cells.{cells_end, cells_suc, length-cells, number-wide, size_split, wide-bytes}
+
+-- nothing is behind the last byte
+pub eight_bytes : (v : ℕ) → to_be_bytes w64 v ≡ wide 8 v
+eight_bytes v = rw (div-one v)
 
 -- ---- a value moved up has zeros behind its bytes
 

@@ -1,11 +1,12 @@
 -- The parts of a packed record, one behind the other.
 use mathlib.Core.Path.{◌≡◌, refl, sym, ap, ◌∙◌}
-use Prim.Native.Nat.{ℕ, zero, suc, ◌+◌, ◌-◌, ◌≤◌}
+use Prim.Native.Nat.{ℕ, suc, ◌+◌, ◌-◌, ◌≤◌}
 use native.Mathlib.Omega.{arith}
 use mathlib.Core.List.{List, [], ◌∷◌, ◌++◌}
 use lib.ListN.{length, get_or, set, take, drop, length-append, length-map, length-replicate, replicate}
 use lib.Seq.{length-sets, sets, sets-eq, take-set-lt}
 use borrow.Author.Tests.{eq-eqb, ne_eqb}
+use Rattle.std.proofs.lemmas.List.{drop-replicate}
 use Rattle.rows.specs.declared.fields.Fields.{Fields}
 use Rattle.rows.specs.declared.fields.Spares.{Spares}
 use Rattle.rows.specs.Values.{widths}
@@ -45,15 +46,10 @@ length_body b z =
     whole_of n h = omega arith
 
 -- what is put into 32 zeros
-zeros_dropped : (n k : ℕ) → ◌≡◌ {A = List ℕ} (drop k (replicate n 0)) (replicate (n - k) 0)
-zeros_dropped n zero = let same : n ≡ n - 0 = omega arith in ap (λ (m : ℕ). replicate m 0) same
-zeros_dropped zero (suc k) = let same : 0 ≡ 0 - suc k = omega arith in ap (λ (m : ℕ). replicate m 0) same
-zeros_dropped (suc n) (suc k) = let same : n - k ≡ suc n - suc k = omega arith in zeros_dropped n k ∙ ap (λ (m : ℕ). replicate m 0) same
-
 put_into_zeros : (t : List ℕ) → length t ≤ 32 → sets (replicate 32 0) 0 t ≡ zero_filled 32 t
 put_into_zeros t h =
     let at : 0 + length t ≡ length t = omega arith in
-    sets-eq t (replicate 32 0) 0 (omega (arith, h)) ∙ ap (λ (n : ℕ). t ++ drop n (replicate 32 0)) at ∙ ap (λ (z : List ℕ). t ++ z) (zeros_dropped 32 (length t))
+    sets-eq t (replicate 32 0) 0 (omega (arith, h)) ∙ ap (λ (n : ℕ). t ++ drop n (replicate 32 0)) at ∙ ap (λ (z : List ℕ). t ++ z) (drop-replicate (length t) 32 0)
 
 take-sets : (t l : List ℕ) (i n : ℕ) → i + length t ≤ n → take n (sets l i t) ≡ sets (take n l) i t
 take-sets [] l i n h = refl

@@ -1,26 +1,28 @@
 -- The values of the record of a frame are the values of the frame.
+use Rattle.parity.specs.Parity.{parity_right}
+use Rattle.category.specs.Text.{text_of}
+use Rattle.std.specs.Prelude.{Ok}
 use mathlib.Core.Path.{◌≡◌, ap, refl, sym, ◌∙◌}
 use mathlib.Core.Bool.{Bool, ◌&&◌, false, true}
 use mathlib.Core.Logic.{◌⊎◌, inl, inr}
-use Rattle.rows.specs.declared.refusal.Refusal.TheVariants.{Category, Range}
+use Rattle.rows.specs.declared.refusal.Refusal.TheVariants.{Category, Range, Message, Padding, Parity, Preamble, Version}
 use Rattle.rows.specs.Runs.Questions.{◌then◌, unless}
 use Prim.Native.Nat.{ℕ, zero, suc, zero-le, ◌+◌, ◌<◌}
 use native.Mathlib.Omega.{arith}
-use lib.Dec.{leb}
+use lib.Dec.{leb, eqb}
 use mathlib.Core.List.{List, [], map}
 use borrow.Author.Tests.{eqb-true, le-leb}
 use Rattle.bits.specs.Frame.{Bytes, field_of}
 use Rattle.bits.proofs.Frames.{field_lt}
-use Rattle.rows.specs.declared.refusal.Verdict.TheVariants.{Fine}
 use Rattle.rows.specs.Layout.{Layout, Row, bytes, common, ending}
 use Rattle.rows.specs.Values.{Values, cut, values_of, last_values, Sides, common_of, head_values, sides_at}
 use Rattle.rows.specs.Runs.Verdict.{allowed, body_verdict, verdict, walk}
-use Rattle.report.specs.Records.{body_of, text_of, record_as, record_of, values}
-use Rattle.report.specs.Runs.Reading.{outer_of, content_answer, content_as, inner_of, rules_find}
+use Rattle.report.specs.Records.{body_of, record_as, record_of, values}
+use Rattle.report.specs.Runs.Reading.{found_as, outer_of, content_answer, inner_of, rules_find}
 use Rattle.rows.specs.Kept.{In}
 use Rattle.rows.proofs.Rules.Spans.{allowed_in}
 use Rattle.rows.proofs.Rules.Outcomes.{both_and, fine_both, fine_then, then_fine, unless_fine, unless_true}
-use Rattle.report.specs.Categories.{categories, layout}
+use Rattle.report.specs.Categories.{categories, layout, preambles}
 use lib.ListN.{length, length-map, take}
 use Rattle.slots.proofs.Tables.{slots_agree}
 use Rattle.report.proofs.Tables.{last_walk, suited_slots}
@@ -35,11 +37,11 @@ pub record Outer (s : List ℕ) : Type 0 where
   pub version : field_of s 214 6 ≡ 1
   pub category : In categories (field_of s 17 4)
 
-outer : (s : List ℕ) → outer_of s ≡ Fine → In categories (field_of s 17 4) → Outer s
+outer : (s : List ℕ) → outer_of s ≡ Ok tt → In categories (field_of s 17 4) → Outer s
 unfolding outer_of
 outer s e c =
-    let m = fine_both _ _ (fine_both _ _ (fine_both _ _ (fine_both _ _ e).1).1).1 in
-    record { message = eqb-true _ 43 (unless_fine _ _ m.0); version = eqb-true _ 1 (unless_fine _ _ m.1); category = c }
+    let m = fine_both _ _ (fine_both (unless (parity_right s) Parity) _ (fine_both (unless (allowed preambles (field_of s 0 8)) Preamble) _ (fine_both (unless (eqb (field_of s 250 6) 0) Padding) _ e).1).1).1 in
+    record { message = eqb-true _ 43 (unless_fine _ Message m.0); version = eqb-true _ 1 (unless_fine _ Version m.1); category = c }
 
 -- ---- part by part
 
@@ -73,7 +75,7 @@ agree s o =
 six_bits : (x : ℕ) → x < 64 → leb 0 x && leb x 63 ≡ true
 six_bits x h = both_and _ _ (le-leb 0 x zero-le) (le-leb x 63 (omega arith))
 
-ending-passes : (s : List ℕ) → field_of s 214 6 ≡ 1 → walk [] ending (map (cut s) ending) ≡ Fine
+ending-passes : (s : List ℕ) → field_of s 214 6 ≡ 1 → walk [] ending (map (cut s) ending) ≡ Ok tt
 ending-passes s e =
     let x = field_of s 220 6 in
     ap (walk [] ending) (sym (last_agrees s e)) ∙ last_walk x ∙ unless_true _ (Range 220 x) (six_bits x (field_lt s 220 6))
@@ -83,12 +85,12 @@ cut-bytes s zero a i = omega arith
 cut-bytes s (suc n) a zero = field_lt s a 8
 cut-bytes s (suc n) a (suc i) = cut-bytes s n (a + 8) i
 
-text-cut-passes : (s : List ℕ) (rs : List Row) → (rs ≡ []) ⊎ (rs ≡ nankai.text) → walk [] rs (map (cut s) rs) ≡ Fine
+text-cut-passes : (s : List ℕ) (rs : List Row) → (rs ≡ []) ⊎ (rs ≡ nankai.text) → walk [] rs (map (cut s) rs) ≡ Ok tt
 unfolding walk
 text-cut-passes s rs (inl e) = ap (λ (qs : List Row). walk [] qs (map (cut s) qs)) e
 text-cut-passes s rs (inr e) = ap (λ (qs : List Row). walk [] qs (map (cut s) qs)) e ∙ any-text-passes (map (cut s) nankai.text) (cut-bytes s 18 57)
 
-bare : (s : List ℕ) (l : Layout) → walk [] l.text (map (cut s) l.text) ≡ Fine → walk [] ending (map (cut s) ending) ≡ Fine
+bare : (s : List ℕ) (l : Layout) → walk [] l.text (map (cut s) l.text) ≡ Ok tt → walk [] ending (map (cut s) ending) ≡ Ok tt
     → verdict l (values_of s l) ≡ body_verdict l (map (cut s) (common l)) (sides_at s l) (values_of s l).slots
 unfolding verdict values_of body_verdict
 bare s l t e = simp (t, e, fine_then, then_fine)
@@ -103,8 +105,7 @@ rules_agree s o =
     (sym (bare s l (text-cut-passes s l.text (text_apart (body_of s))) (ending-passes s o.version)))
 
 -- what is found where a frame's fields are taken out of it is what reading answers: 7 first, then its rules
-pub content_agrees : (s : List ℕ) → outer_of s ≡ Fine → (content_as s (body_of s)).found ≡ content_answer s
-unfolding unless ◌then◌
+pub content_agrees : (s : List ℕ) → outer_of s ≡ Ok tt → found_as s (body_of s) ≡ content_answer s
 content_agrees s o =
     ap (λ (known : Bool). unless known Category then rules_find s (body_of s)) (known_code (sides_at s) (field_of s 17 4))
     ∙ by (allowed categories (field_of s 17 4)) refl

@@ -1,4 +1,5 @@
 -- What reading a frame answers, and what the frame is.
+use Rattle.std.specs.Prelude.{Ok, Err}
 use mathlib.Core.Path.{◌≡◌, refl, ◌∙◌}
 use Prim.Native.Nat.{ℕ, ◌≤◌}
 use native.Mathlib.Omega.{arith}
@@ -8,7 +9,6 @@ use lib.Dec.{eqb}
 use borrow.Author.Tests.{eqb-true, eq-eqb}
 use Rattle.bits.specs.Frame.{field_of}
 use Rattle.parity.specs.Parity.{parity_of, parity_right}
-use Rattle.rows.specs.declared.refusal.Verdict.TheVariants.{Fine, Refused}
 use Rattle.rows.specs.declared.refusal.Refusal.{Refusal}
 use Rattle.rows.specs.declared.refusal.Refusal.TheVariants.{Length, Padding, Preamble, Parity, Message, Version, Category, Range, Gap}
 use Rattle.rows.specs.Layout.{Layout}
@@ -62,10 +62,10 @@ answered s = simp then_assoc
 pub met : (s : List ℕ) → Conforms s → Met (read_questions s)
 met s c = (c.long, (c.padding, (c.preamble, (c.parity, (c.message, (c.version, (c.category, tt)))))))
 
-pub conforming_fine : (s : List ℕ) → Conforms s → read_answer s ≡ Fine
+pub conforming_fine : (s : List ℕ) → Conforms s → read_answer s ≡ Ok tt
 conforming_fine s c = (answered s).met (met s c) ∙ (inner s).passes c.rows
 
-pub fine_conforming : (s : List ℕ) → read_answer s ≡ Fine → Conforms s
+pub fine_conforming : (s : List ℕ) → read_answer s ≡ Ok tt → Conforms s
 fine_conforming s e =
     let a = (answered s).fine e in
     let m = a.0 in
@@ -83,24 +83,24 @@ fine_conforming s e =
 -- ---- reasons
 
 module _ (s : List ℕ) where
-  pub reason : (x : Refusal) → read_answer s ≡ Refused x → WhyNotRead s x
+  pub reason : (x : Refusal) → read_answer s ≡ Err x → WhyNotRead s x
   reason = for_a_reason (read_answer s) (read_questions s) (layout_of s) (frame_values s) (answered s) (inner s)
 
   pub faulty : (y : Refusal) → Met (read_questions s) → Fault (layout_of s) (frame_values s) y
-      → (x : Refusal) × (read_answer s ≡ Refused x) × Lowest (layout_of s) (frame_values s) x
+      → (x : Refusal) × (read_answer s ≡ Err x) × Lowest (layout_of s) (frame_values s) x
   faulty = faulty_refused (read_answer s) (read_questions s) (layout_of s) (frame_values s) (answered s) (inner s)
 
-  pub faultless : Met (read_questions s) → ((x : Refusal) → Fault (layout_of s) (frame_values s) x → ⊥) → read_answer s ≡ Fine
+  pub faultless : Met (read_questions s) → ((x : Refusal) → Fault (layout_of s) (frame_values s) x → ⊥) → read_answer s ≡ Ok tt
   faultless = faultless_fine (read_answer s) (read_questions s) (layout_of s) (frame_values s) (answered s) (inner s)
 
 -- an 8 comes from the values
-refused_by_values : (s : List ℕ) (p v : ℕ) → read_answer s ≡ Refused (Range p v) → inner_of s ≡ Refused (Range p v)
-refused_by_values s p v e = past 8 (read_questions s) (Range p v) (inner_of s ≡ Refused (Range p v)) refl (omega arith) ((answered s).refused (Range p v) _ e (λ i. i))
+refused_by_values : (s : List ℕ) (p v : ℕ) → read_answer s ≡ Err (Range p v) → inner_of s ≡ Err (Range p v)
+refused_by_values s p v e = past 8 (read_questions s) (Range p v) (inner_of s ≡ Err (Range p v)) refl (omega arith) ((answered s).refused (Range p v) _ e (λ i. i))
 
-pub fault_of_8 : (s : List ℕ) (p v : ℕ) → read_answer s ≡ Refused (Range p v) → Fault (layout_of s) (frame_values s) (Range p v)
+pub fault_of_8 : (s : List ℕ) (p v : ℕ) → read_answer s ≡ Err (Range p v) → Fault (layout_of s) (frame_values s) (Range p v)
 fault_of_8 s p v e = (inner s).found (Range p v) (refused_by_values s p v e)
 
-pub no_gap : (s : List ℕ) (p v : ℕ) → read_answer s ≡ Refused (Range p v) → Fault (layout_of s) (frame_values s) (Gap p) → ⊥
+pub no_gap : (s : List ℕ) (p v : ℕ) → read_answer s ≡ Err (Range p v) → Fault (layout_of s) (frame_values s) (Gap p) → ⊥
 no_gap s p v e f = late ((inner s).earliest (Range p v) (Gap p) (refused_by_values s p v e) f)
   where
     late : turn (Range p v) ≤ turn (Gap p) → ⊥

@@ -1,74 +1,73 @@
 -- The three ways out of reading and of looking, and what each of them says.
+use Rattle.std.specs.Prelude.{Result, Ok, Err}
 use mathlib.Core.Path.{◌≡◌, refl, sym, ap, ◌∙◌}
 use Prim.Native.Nat.{ℕ}
 use mathlib.Core.List.{List}
 use lib.ListN.{length}
-use borrow.Author.Tests.{eq-eqb, ne_eqb}
+use borrow.Author.Tests.{eqb-true}
+use lib.Dec.{eqb}
+use Rattle.rows.proofs.Rules.Outcomes.{fine_both, made_outcome, unless_fine}
+use Rattle.report.proofs.Reading.Agree.{content_agrees}
 use Rattle.bits.specs.Frame.{frame_in}
 use Rattle.bits.proofs.Inside.{frame_lent}
-use Rattle.rows.specs.declared.refusal.Verdict.{Verdict}
-use Rattle.rows.specs.declared.refusal.Verdict.TheVariants.{Fine, Refused}
 use Rattle.rows.specs.declared.refusal.Refusal.{Refusal}
 use Rattle.rows.specs.declared.refusal.Refusal.TheVariants.{Length}
 use Rattle.report.specs.declared.record.Record.{Record}
-use Rattle.report.specs.declared.read.Reading.{Reading}
-use Rattle.rows.specs.Refusals.{answers}
+use Rattle.rows.specs.Refusals.{outcome, Verdict}
 use Rattle.rows.specs.Runs.Questions.{◌then◌, unless}
-use Rattle.report.specs.Records.{record_of, zeros}
-use Rattle.report.specs.Meaning.{used_of}
+use Rattle.report.specs.Records.{body_of, record_as, record_of, zeros}
+use Rattle.report.specs.declared.body.Content.{Content}
 use Rattle.report.specs.declared.look.Looked.{Looked}
+use Rattle.report.specs.Meaning.{used_of}
 use Rattle.rows.specs.Runs.Verdict.{empty}
 use Rattle.slots.specs.Slots.{used_among}
-use Rattle.report.specs.Runs.Reading.{outer_of, content_answer, not_seen, read_answer, reading, read_of, read_says, seen, unread}
+use Rattle.report.specs.Runs.Reading.{outer_of, content_answer, content_as, found_as, look_at, look_told, not_seen, read_answer, read_of, reading, seen, unread}
 
-pub not_a_frame : (s : List ℕ) → (length s ≡ 32 → ⊥) → unread (Refused Length) ≡ read_of s
-unfolding unless ◌then◌
-not_a_frame s n = ap (λ (v : Verdict). reading v (record_of s)) (sym refused)
-  where
-    refused : read_answer s ≡ Refused Length
-    refused = simp (ne_eqb (length s) 32 n)
+-- a lent slice of 32 bytes is the frame that it holds
+pub frame_known : (s : List ℕ) → unless (eqb (length s) 32) Length ≡ Ok tt → frame_in s ≡ s
+frame_known s e = frame_lent s (eqb-true (length s) 32 (unless_fine _ Length e))
 
--- what is read of a frame, by the answer to 2 to 6
-asked : (s : List ℕ) (v : Verdict) → length s ≡ 32 → v ≡ outer_of (frame_in s) → read_answer s ≡ v then content_answer s
-unfolding unless ◌then◌
-asked s v l e = simp (eq-eqb (length s) 32 l, e, frame_lent s l)
+-- so is one that is read
+pub read_frame : (s : List ℕ) → read_answer s ≡ Ok tt → frame_in s ≡ s
+read_frame s e = frame_known s (fine_both (unless (eqb (length s) 32) Length) _ e).0
 
-pub refused_early : (s : List ℕ) (v : Verdict) (x : Refusal) → length s ≡ 32 → v ≡ outer_of (frame_in s) → v ≡ Refused x → unread v ≡ read_of s
-unfolding ◌then◌
-refused_early s v x l q e = ap unread e ∙ sym (ap (λ (w : Verdict). reading w (record_of s)) (asked s v l q ∙ ap (λ (w : Verdict). w then content_answer s) e))
+-- what is read of a frame behind 1
+pub answered_frame : (s : List ℕ) → unless (eqb (length s) 32) Length ≡ Ok tt → read_answer s ≡ outer_of s then content_answer s
+answered_frame s e = ap (λ (v : Verdict). v then outer_of s then content_answer s) e
 
-pub read_on : (s : List ℕ) (v : Verdict) → length s ≡ 32 → v ≡ outer_of (frame_in s) → v ≡ Fine
-    → reading (content_answer (frame_in s)) (record_of (frame_in s)) ≡ read_of s
-unfolding ◌then◌
-read_on s v l q e =
-    ap (λ (g : List ℕ). reading (content_answer g) (record_of g)) (frame_lent s l)
-    ∙ sym (ap (λ (w : Verdict). reading w (record_of s)) (asked s v l q ∙ ap (λ (w : Verdict). w then content_answer s) e))
+-- where 1 to 6 are passed, what the category's rules find is the answer
+pub answered_inside : (s : List ℕ) → unless (eqb (length s) 32) Length ≡ Ok tt → outer_of s ≡ Ok tt → read_answer s ≡ found_as s (body_of s)
+answered_inside s e o = answered_frame s e ∙ ap (λ (v : Verdict). v then content_answer s) o ∙ sym (content_agrees s o)
 
--- ---- behind 2 to 6
+-- ---- what is handed back
 
-pub refused_inside : (v w : Verdict) (x : Refusal) (r : Record) → v ≡ w → v ≡ Refused x → unread v ≡ reading w r
-refused_inside v w x r q e = ap unread e ∙ ap (λ (u : Verdict). reading u r) (sym e ∙ q)
+-- the record, by what was found
+pub read_told : (v : Verdict) (r : Record) → outcome (reading v r).answer (reading v r).«record» ≡ outcome v r
+read_told (Ok tt) r = refl
+read_told (Err x) r = refl
 
-pub read_inside : (v w : Verdict) (r : Record) → v ≡ w → v ≡ Fine → reading Fine r ≡ reading w r
-read_inside v w r q e = ap (λ (u : Verdict). reading u r) (sym e ∙ q)
+abbrev look_of : Content → Result Looked Refusal
+look_of x = Ok (look_at x.body x.slots)
+
+-- what is seen, by what was found
+pub look_seen : (v : Verdict) (r : Record) → look_told (seen (reading v r)) ≡ outcome v (look_at r.body r.slots)
+unfolding used_among used_of
+look_seen (Ok tt) r = refl
+look_seen (Err x) r = refl
+
+-- what a look hands back of what stands in a frame
+pub look_made : (s : List ℕ) (x : Content) → outcome (read_answer s) (content_as s (body_of s)) ≡ Ok x → look_told (seen (read_of s)) ≡ Ok (look_at x.body x.slots)
+unfolding record_as
+look_made s x e =
+    let made = made_outcome (read_answer s) (content_as s (body_of s)) x e in
+    look_seen (read_answer s) (record_of s) ∙ ap (λ (v : Verdict). outcome v (look_at (body_of s) (content_as s (body_of s)).slots)) made.0 ∙ ap (λ (c : Content). look_of c) (sym made.1)
 
 -- nothing is seen of a frame that is refused
 pub nothing_seen : (v : Verdict) → not_seen v ≡ seen (unread v)
 unfolding used_of used_among empty zeros
 nothing_seen v = refl
 
--- ---- what it says
-
 -- the answer that is handed out is the one that was found, with either record
 pub answer_found : (v : Verdict) (r : Record) → (reading v r).answer ≡ v
-answer_found Fine r = refl
-answer_found (Refused x) r = refl
-
-read_says_lem : (s : List ℕ) → answers (read_of s).answer ≡ read_says s
-read_says_lem s = ap answers (answer_found (read_answer s) (record_of s))
-
-pub read_said : (s : List ℕ) (out : Reading) → out ≡ read_of s → (out ≡ read_of s) × (answers out.answer ≡ read_says s)
-read_said s out e = (e, ap (λ (o : Reading). answers o.answer) e ∙ read_says_lem s)
-
-pub look_said : (s : List ℕ) (out : Looked) → out ≡ seen (read_of s) → (out ≡ seen (read_of s)) × (answers out.answer ≡ read_says s)
-look_said s out e = (e, ap (λ (o : Looked). answers o.answer) e ∙ read_says_lem s)
+answer_found (Ok tt) r = refl
+answer_found (Err x) r = refl

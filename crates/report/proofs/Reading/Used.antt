@@ -1,4 +1,5 @@
 -- What the number of used slots says: of any record, and of a frame that is read.
+use Rattle.std.specs.Prelude.{Some}
 use Rattle.report.specs.declared.body.Body.{Body}
 use mathlib.Core.Bool.{Bool, ◌||◌, false, true}
 use Rattle.report.specs.Conforms.{Conforms}
@@ -21,7 +22,6 @@ use Rattle.rows.proofs.Rules.Spans.{one_span}
 use lib.ListN.{get_or, length, length-map}
 use Rattle.ash_fall.specs.AshFall.{ash_fall}
 use Rattle.ash_fall.specs.Meaning.{prefecture_of}
-use Rattle.ash_fall.specs.declared.meaning.Prefecture.TheVariants.{Number}
 use Rattle.ash_fall.proofs.Claims.{a_prefecture_is_1_to_47, each_place_has_a_prefecture}
 use Rattle.intensity.specs.Intensity.{intensity}
 use Rattle.tsunami.specs.Tsunami.{tsunami}
@@ -102,12 +102,12 @@ unfolding body_from
 used_prefecture s c e i u = one_span 1 47 _ (used_slot_of s c intensity (table_by_code s 3 e) i u).1.0
 
 abbrev pub InPrefecture : ℕ → Type 0
-InPrefecture place = (p : ℕ) × ((prefecture_of place ≡ Number p) × ((1 ≤ p) × (p ≤ 47)))
+InPrefecture place = (p : ℕ) × ((prefecture_of place ≡ Some p) × ((1 ≤ p) × (p ≤ 47)))
 
 lies : (place : ℕ) → In (110000 to 4799999 ∷ []) place → InPrefecture place
 lies place h =
     let inside = one_span 110000 4799999 place h in
-    let named : prefecture_of place ≡ Number (place / 100000) = each_place_has_a_prefecture place (omega arith) inside.1 in
+    let named : prefecture_of place ≡ Some (place / 100000) = each_place_has_a_prefecture place (omega arith) inside.1 in
     (place / 100000, (named, (a_prefecture_is_1_to_47 place (place / 100000) named).1))
 
 pub used_place : (s : List ℕ) → Conforms s → field_of s 17 4 ≡ 9 → (i : ℕ) → i < used_of (record_of s) → InPrefecture (get_or (record_of s).slots i no_slot).place

@@ -1,14 +1,13 @@
 -- Frames and records are one to one.
+use Rattle.std.specs.Prelude.{Ok}
 use mathlib.Core.Path.{◌≡◌, sym, ap, ◌∙◌}
 use Prim.Native.Nat.{ℕ}
 use mathlib.Core.List.{List}
 use Rattle.bits.specs.Frame.{Bytes, bytes_of}
 use Rattle.bits.proofs.Frames.{bytes_of_frame}
-use Rattle.rows.specs.declared.refusal.Verdict.TheVariants.{Fine}
 use Rattle.report.specs.declared.record.Record.{Record}
-use Rattle.report.specs.declared.read.Reading.{Reading}
 use Rattle.report.specs.Records.{body_of, record_of}
-use Rattle.report.specs.Runs.Reading.{read_of}
+use Rattle.report.specs.Runs.Reading.{read_of, Reading}
 use Rattle.report.specs.Conforms.{Conforms}
 use Rattle.report.specs.Runs.Writing.{frame, Valid}
 use Rattle.report.proofs.RoundTrips.ReadThenWritten.{reads, record_read, frame_valid, frame_again}
@@ -16,9 +15,9 @@ use Rattle.report.proofs.RoundTrips.WrittenThenRead.{returns}
 use Rattle.report.proofs.Shaped.{Shaped, frame-shaped}
 
 -- a frame that is read is the frame that its record writes
-pub frame_of_record : (s : List ℕ) (r : Record) → Bytes s → read_of s ≡ record { answer = Fine; «record» = r } → s ≡ bytes_of (frame r)
+pub frame_of_record : (s : List ℕ) (r : Record) → Bytes s → read_of s ≡ record { answer = Ok tt; «record» = r } → s ≡ bytes_of (frame r)
 frame_of_record s r b e =
-    let a : (read_of s).answer ≡ Fine = ap (λ (x : Reading). x.answer) e in
+    let a : (read_of s).answer ≡ (Ok tt) = ap (λ (x : Reading). x.answer) e in
     let q : record_of s ≡ r = sym (record_read s a) ∙ ap (λ (x : Reading). x.«record») e in
     sym (frame_again s b (reads s a)) ∙ ap (λ (r : Record). bytes_of (frame r)) q
 

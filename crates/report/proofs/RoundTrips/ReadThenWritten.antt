@@ -1,4 +1,6 @@
 -- What is read and then written is the frame.
+use Rattle.std.specs.Prelude.{Ok, Err}
+use Rattle.rows.specs.Refusals.{Verdict}
 use mathlib.Core.Bool.{true}
 use mathlib.Core.Path.{◌≡◌, refl, sym, ap, ◌∙◌, subst}
 use Prim.Native.Nat.{ℕ, ◌+◌, ◌*◌, ◌/◌, ◌%◌, ◌^◌, ◌<◌}
@@ -13,8 +15,6 @@ use Rattle.bits.proofs.Bytes.{bytes_of_number}
 use Rattle.bits.proofs.Frames.{number_256}
 use Rattle.parity.specs.Parity.{parity_of_front}
 use Rattle.parity.proofs.Front.{parity_of_front_lem}
-use Rattle.rows.specs.declared.refusal.Verdict.{Verdict}
-use Rattle.rows.specs.declared.refusal.Verdict.TheVariants.{Fine, Refused}
 use Rattle.report.specs.declared.record.Record.{Record}
 use Rattle.report.specs.Records.{body_of, record_as, record_of, values}
 use Rattle.rows.specs.Values.{flat}
@@ -85,27 +85,27 @@ frame_again s b c =
 
 -- ---- in the words of reading and writing
 
-answer_of : (v : Verdict) (r : Record) → (reading v r).answer ≡ Fine → v ≡ Fine
-answer_of Fine r e = refl
-answer_of (Refused x) r e = e
+answer_of : (v : Verdict) (r : Record) → (reading v r).answer ≡ Ok tt → v ≡ Ok tt
+answer_of (Ok tt) r e = refl
+answer_of (Err x) r e = e
 
 -- a reading that is not refused
-pub reads : (s : List ℕ) → (read_of s).answer ≡ Fine → Conforms s
+pub reads : (s : List ℕ) → (read_of s).answer ≡ Ok tt → Conforms s
 reads s e = fine_conforming s (answer_of (read_answer s) (record_of s) e)
 
-pub record_read : (s : List ℕ) → (read_of s).answer ≡ Fine → (read_of s).«record» ≡ record_of s
+pub record_read : (s : List ℕ) → (read_of s).answer ≡ Ok tt → (read_of s).«record» ≡ record_of s
 record_read s e = ap (λ (v : Verdict). (reading v (record_of s)).«record») (answer_of (read_answer s) (record_of s) e)
 
 -- what a valid record writes
-pub valid_answer : (r : Record) (buffer : List ℕ) → Valid r → length buffer ≡ 32 → write_answer r (length buffer) ≡ Fine
+pub valid_answer : (r : Record) (buffer : List ℕ) → Valid r → length buffer ≡ 32 → write_answer r (length buffer) ≡ Ok tt
 valid_answer r buffer v l = ap (write_answer r) l ∙ v
 
 pub valid_written : (r : Record) (buffer : List ℕ) → Valid r → length buffer ≡ 32 → write_of r buffer ≡ bytes_of (frame r)
 valid_written r buffer v l = ap (λ (x : Verdict). written x r buffer) (valid_answer r buffer v l)
 
 -- the record that was read is written without refusal, and gives the frame
-pub written_again : (s buffer : List ℕ) → Bytes s → (read_of s).answer ≡ Fine → length buffer ≡ 32
-    → (write_answer (read_of s).«record» (length buffer) ≡ Fine) × (write_of (read_of s).«record» buffer ≡ s)
+pub written_again : (s buffer : List ℕ) → Bytes s → (read_of s).answer ≡ Ok tt → length buffer ≡ 32
+    → (write_answer (read_of s).«record» (length buffer) ≡ Ok tt) × (write_of (read_of s).«record» buffer ≡ s)
 written_again s buffer b e l =
     let c = reads s e in
     let r = record_read s e in (

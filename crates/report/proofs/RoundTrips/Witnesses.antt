@@ -1,4 +1,5 @@
 -- Each category has a valid record, whose frame conforms and is read as that record.
+use Rattle.std.specs.Prelude.{Ok}
 use mathlib.Core.Path.{◌≡◌, ◌∙◌, ap, refl, sym}
 use Prim.Native.Nat.{ℕ}
 use mathlib.Core.List.{List, [], ◌∷◌, map}
@@ -7,8 +8,6 @@ use lib.Dec.{eqb}
 use lib.ListN.{length, replicate}
 use borrow.Author.Tests.{eqb-true}
 use Rattle.bits.specs.Frame.{bytes_of}
-use Rattle.rows.specs.declared.refusal.Verdict.TheVariants.{Fine}
-use Rattle.rows.specs.Runs.Questions.{◌then◌, unless}
 use Rattle.rows.specs.Runs.Verdict.{allowed, empty, judge, later, slots_verdict, verdict, walk}
 use Rattle.rows.proofs.Rules.Outcomes.{and_both}
 use Rattle.slots.specs.Slots.{tidy_slots, vacant}
@@ -28,7 +27,7 @@ pub record WrittenAndRead (r : Record) : Type 0 where
   pub valid : Valid r
   pub written : (buffer : List ℕ) → length buffer ≡ 32 → write_of r buffer ≡ bytes_of (frame r)
   pub conforms : Conforms (bytes_of (frame r))
-  pub read : read_of (bytes_of (frame r)) ≡ record { answer = Fine; «record» = r }
+  pub read : read_of (bytes_of (frame r)) ≡ record { answer = Ok tt; «record» = r }
 
 abbrev shaped : Record → Bool
 shaped r = eqb (length r.slots) 16 && eqb (length r.text) 18
@@ -50,20 +49,20 @@ written_and_read r s v =
       read = ap read_of (sym (valid_written r buffer v refl)) ∙ read_again r buffer s v refl;
     }
 
-each : (rs : List Record) → all_shaped rs ≡ true → map (λ r. write_answer r 32) rs ≡ map (λ r. Fine) rs → Each WrittenAndRead rs
+each : (rs : List Record) → all_shaped rs ≡ true → map (λ r. write_answer r 32) rs ≡ map (λ r. (Ok tt)) rs → Each WrittenAndRead rs
 each [] s e = tt
 each (r ∷ rs) s e =
     let both = and_both (shaped r) (all_shaped rs) s in
     (written_and_read r (is_shaped r both.0) (head e), each rs both.1 (tail e))
   where
-    head : write_answer r 32 ∷ map (λ r. write_answer r 32) rs ≡ Fine ∷ map (λ r. Fine) rs → write_answer r 32 ≡ Fine
+    head : write_answer r 32 ∷ map (λ r. write_answer r 32) rs ≡ (Ok tt) ∷ map (λ r. (Ok tt)) rs → write_answer r 32 ≡ Ok tt
     head e = cc
 
-    tail : write_answer r 32 ∷ map (λ r. write_answer r 32) rs ≡ Fine ∷ map (λ r. Fine) rs → map (λ r. write_answer r 32) rs ≡ map (λ r. Fine) rs
+    tail : write_answer r 32 ∷ map (λ r. write_answer r 32) rs ≡ (Ok tt) ∷ map (λ r. (Ok tt)) rs → map (λ r. write_answer r 32) rs ≡ map (λ r. (Ok tt)) rs
     tail e = cc
 
-all_valid : map (λ r. write_answer r 32) samples ≡ map (λ r. Fine) samples
-unfolding write_answer ◌then◌ unless allowed judge walk empty later slots_verdict verdict values tidy_slots vacant
+all_valid : map (λ r. write_answer r 32) samples ≡ map (λ r. (Ok tt)) samples
+unfolding write_answer allowed judge walk empty later slots_verdict verdict values tidy_slots vacant
 all_valid = refl
 
 pub samples_written_and_read : Each WrittenAndRead samples
@@ -74,8 +73,8 @@ samples_written_and_read = each samples refl all_valid
 abbrev pub full : Record → Record
 full r = sparing r (all_ones (layout r.body))
 
-all-full_valid : map (λ r. write_answer r 32) (map full samples) ≡ map (λ r. Fine) (map full samples)
-unfolding write_answer ◌then◌ unless allowed judge walk empty later slots_verdict verdict values tidy_slots vacant
+all-full_valid : map (λ r. write_answer r 32) (map full samples) ≡ map (λ r. (Ok tt)) (map full samples)
+unfolding write_answer allowed judge walk empty later slots_verdict verdict values tidy_slots vacant
 all-full_valid = refl
 
 pub full_written_and_read : Each WrittenAndRead (map full samples)

@@ -1,4 +1,5 @@
 -- What is written and then read is the record.
+use Rattle.std.specs.Prelude.{Ok}
 use mathlib.Core.Path.{◌≡◌, refl, sym, ap, ap₂, ◌∙◌, subst}
 use Prim.Native.Nat.{ℕ, ◌+◌, ◌*◌, ◌/◌, ◌%◌, ◌^◌, ◌<◌}
 use native.Mathlib.Nat.{mod-eq_of_lt}
@@ -11,7 +12,6 @@ use Rattle.bits.proofs.Layouts.{encode_lt, decode-encode}
 use Rattle.bits.proofs.Bytes.{number_bytes_of}
 use Rattle.parity.specs.Parity.{parity_of, parity_of_front}
 use Rattle.parity.proofs.Front.{parity_of_front_lem}
-use Rattle.rows.specs.declared.refusal.Verdict.TheVariants.{Fine}
 use Rattle.report.specs.declared.record.Record.{Record}
 use Rattle.rows.specs.Layout.{all_rows}
 use Rattle.rows.specs.Values.{Values, cut, values_of, part_widths, sides_at, spares_from}
@@ -165,7 +165,7 @@ returns r h v =
       again = ap (record_as s) f.body ∙ f.whole;
     }
 
-pub read_again : (r : Record) (buffer : List ℕ) → Shaped r → Valid r → length buffer ≡ 32 → read_of (write_of r buffer) ≡ record { answer = Fine; «record» = r }
+pub read_again : (r : Record) (buffer : List ℕ) → Shaped r → Valid r → length buffer ≡ 32 → read_of (write_of r buffer) ≡ record { answer = Ok tt; «record» = r }
 read_again r buffer h v l =
     let s = bytes_of (frame r) in
     let q = returns r h v in

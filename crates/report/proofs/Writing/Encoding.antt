@@ -1,4 +1,7 @@
 -- The pieces that are pushed, one behind the other, are the front of the frame; with the parity behind them they are the frame.
+use Rattle.rows.specs.declared.refusal.Refusal.TheVariants.{Category, Length, Preamble, Unused}
+use Rattle.rows.specs.Runs.Verdict.{allowed, verdict}
+use Rattle.rows.specs.Runs.Questions.{unless, ◌then◌}
 use Rattle.report.specs.declared.body.Body.{Body}
 use mathlib.Core.Bool.{Bool, ◌||◌, cond, false, true}
 use Rattle.bits.proofs.Pushing.{Held, held_all, held_none, held_whole, pushed_append, until_padded}
@@ -24,7 +27,7 @@ use Rattle.bits.specs.Layout.{encode, Fit, total}
 use lib.Dec.{eqb, lit<, lit≤, ltb}
 use borrow.Author.Tests.{eqb-true, ltb-true}
 use Rattle.report.proofs.Tables.{pieces_fit_lem, pieces_fit, suited_slots}
-use Rattle.report.specs.Categories.{layout, sides_of}
+use Rattle.report.specs.Categories.{layout, sides_of, preambles}
 use lib.ListN.{length, length-map, replicate, take}
 use Rattle.report.proofs.Categories.{listed, sides_filled, text_apart}
 use native.Mathlib.Nat.{mod-eq_of_lt, add-zero}
@@ -102,12 +105,12 @@ many rs vs e = length-map rs (λ r. r.width) ∙ sym e
 -- it has a category
 valid_known : (r : Record) → Valid r → known r.body ≡ true
 unfolding write_answer
-valid_known r v = unless_fine _ _ (fine_both _ _ (fine_both _ _ (fine_both _ _ v).1).1).0
+valid_known r v = unless_fine _ Category (fine_both _ (◌then◌ (unless (tidy r) Unused) (verdict (layout r.body) (values r))) (fine_both (unless (allowed preambles r.preamble) Preamble) _ (fine_both (unless (eqb 32 32) Length) _ v).1).1).0
 
 -- nothing stands where the category has nothing
 valid_tidy : (r : Record) → Valid r → tidy r ≡ true
 unfolding write_answer
-valid_tidy r v = unless_fine _ _ (fine_both _ _ (fine_both _ _ (fine_both _ _ (fine_both _ _ v).1).1).1).0
+valid_tidy r v = unless_fine _ Unused (fine_both _ (verdict (layout r.body) (values r)) (fine_both (unless (known r.body) Category) _ (fine_both (unless (allowed preambles r.preamble) Preamble) _ (fine_both (unless (eqb 32 32) Length) _ v).1).1).1).0
 
 -- its values fit, piece by piece up to the slots
 record Fits (r : Record) : Type 0 where

@@ -1,4 +1,5 @@
 -- Number 11: what the test finds, and what must be zero.
+use Rattle.category.specs.Text.{text_of}
 use Rattle.report.specs.declared.body.Body.{Body}
 use Rattle.rows.specs.Layout.{Layout, Row}
 use mathlib.Core.List.{List, [], ◌∷◌, map}
@@ -16,7 +17,7 @@ use Rattle.rows.proofs.Rules.JudgedSlots.{empty_is, is_empty}
 use Rattle.slots.proofs.Tidy.{first-tidy, others-tidy, slots_tidy}
 use Rattle.slots.proofs.Tables.{frame_slots_tidy}
 use Rattle.report.specs.Categories.{layout}
-use Rattle.report.specs.Records.{record_as, text_of}
+use Rattle.report.specs.Records.{record_as}
 use Prim.Native.Nat.{suc, zero, ℕ, ◌-◌}
 use Rattle.report.proofs.Tables.{suited_slots}
 use Rattle.report.specs.Runs.Writing.{tidy, tidy_by}

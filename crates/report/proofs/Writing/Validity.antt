@@ -1,12 +1,12 @@
 -- What writing a record answers, and what the record is.
+use Rattle.std.specs.Prelude.{Ok, Err}
+use Rattle.rows.specs.Refusals.{Verdict}
 use mathlib.Core.Path.{◌≡◌, refl, sym, ap, ◌∙◌}
 use mathlib.Core.Bool.{true, Bool, ◌&&◌}
 use Prim.Native.Nat.{ℕ, ◌<◌}
 use lib.ListN.{length}
 use lib.Dec.{eqb, ltb}
 use borrow.Author.Tests.{eqb-true, eq-eqb, lt-ltb, ltb-true}
-use Rattle.rows.specs.declared.refusal.Verdict.{Verdict}
-use Rattle.rows.specs.declared.refusal.Verdict.TheVariants.{Fine, Refused}
 use Rattle.rows.specs.declared.refusal.Refusal.{Refusal}
 use Rattle.rows.specs.declared.refusal.Refusal.TheVariants.{Length, Preamble, Category, Unused}
 use Rattle.report.specs.declared.record.Record.{Record}
@@ -102,15 +102,15 @@ keeps_valid r s k = (answered r 32).met (met r k) ∙ (judged_record r s.slots).
 -- ---- reasons
 
 module _ (r : Record) (size : ℕ) (s : Shaped r) where
-  pub reason : (x : Refusal) → write_answer r size ≡ Refused x → WhyNotWritten r size x
+  pub reason : (x : Refusal) → write_answer r size ≡ Err x → WhyNotWritten r size x
   reason = for_a_reason (write_answer r size) (write_questions r size) (record_layout r) (record_values r) (answered r size) (judged_record r s.slots)
 
   pub faulty : (y : Refusal) → Met (write_questions r size) → Fault (record_layout r) (record_values r) y
-      → (x : Refusal) × (write_answer r size ≡ Refused x) × Lowest (record_layout r) (record_values r) x
+      → (x : Refusal) × (write_answer r size ≡ Err x) × Lowest (record_layout r) (record_values r) x
   faulty = faulty_refused (write_answer r size) (write_questions r size) (record_layout r) (record_values r) (answered r size) (judged_record r s.slots)
 
-  pub faultless : Met (write_questions r size) → ((x : Refusal) → Fault (record_layout r) (record_values r) x → ⊥) → write_answer r size ≡ Fine
+  pub faultless : Met (write_questions r size) → ((x : Refusal) → Fault (record_layout r) (record_values r) x → ⊥) → write_answer r size ≡ Ok tt
   faultless = faultless_fine (write_answer r size) (write_questions r size) (record_layout r) (record_values r) (answered r size) (judged_record r s.slots)
 
-  pub fault_free : write_answer r size ≡ Fine → Met (write_questions r size) × ((x : Refusal) → Fault (record_layout r) (record_values r) x → ⊥)
+  pub fault_free : write_answer r size ≡ Ok tt → Met (write_questions r size) × ((x : Refusal) → Fault (record_layout r) (record_values r) x → ⊥)
   fault_free = fine_faultless (write_answer r size) (write_questions r size) (record_layout r) (record_values r) (answered r size) (judged_record r s.slots)

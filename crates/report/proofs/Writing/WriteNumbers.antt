@@ -1,22 +1,22 @@
 -- The numbers that writing answers.
+use lib.Dec.{eqb}
+use Rattle.std.specs.Prelude.{Ok, Err}
 use mathlib.Core.Path.{refl}
 use mathlib.Core.Bool.{Bool, true, false, not, cond}
 use mathlib.Core.Logic.{inl, inr}
 use Prim.Native.Nat.{ℕ, ◌+◌}
 use mathlib.Core.List.{List, [], ◌∷◌}
 use types.Run.{OneOf}
-use Rattle.rows.specs.declared.refusal.Verdict.{Verdict}
-use Rattle.rows.specs.declared.refusal.Verdict.TheVariants.{Fine, Refused}
 use Rattle.rows.specs.declared.refusal.Refusal.{Refusal}
 use Rattle.rows.specs.declared.refusal.Refusal.TheVariants.{Length, Preamble, Category, Range, Gap, Unused}
 use Rattle.report.specs.declared.record.Record.{Record}
-use Rattle.rows.specs.Refusals.{says, answers}
+use Rattle.rows.specs.Refusals.{says, answers, Verdict}
 use Rattle.rows.specs.Runs.Questions.{◌then◌, unless}
 use Rattle.rows.specs.Layout.{Slots, Rule, Row, common, ending, slot_rows}
-use Rattle.rows.specs.Runs.Verdict.{judge, walk, empty, later, slots_verdict, verdict}
+use Rattle.rows.specs.Runs.Verdict.{judge, walk, empty, later, slots_verdict, verdict, allowed}
 use Rattle.report.specs.Records.{values}
-use Rattle.report.specs.Runs.Writing.{write_answer}
-use Rattle.report.specs.Categories.{layout}
+use Rattle.report.specs.Runs.Writing.{write_answer, known, tidy}
+use Rattle.report.specs.Categories.{layout, preambles}
 
 abbrev pub write_numbers : List ℕ
 write_numbers = 0 ∷ 1 ∷ 3 ∷ 7 ∷ 8 ∷ 10 ∷ 11 ∷ []
@@ -27,12 +27,10 @@ Numbered v = OneOf write_numbers (answers v).number
 -- ---- the ways of answering
 
 then_numbered : (a b : Verdict) → Numbered a → Numbered b → Numbered (a then b)
-unfolding ◌then◌
-then_numbered Fine b h k = k
-then_numbered (Refused r) b h k = h
+then_numbered (Ok tt) b h k = k
+then_numbered (Err r) b h k = h
 
 unless-numbered : (b : Bool) (r : Refusal) → OneOf write_numbers (says r).number → Numbered (unless b r)
-unfolding unless
 unless-numbered true r h = inl refl
 unless-numbered false r h = h
 
@@ -83,7 +81,7 @@ inner_numbered r =
 pub write_numbered : (r : Record) (size : ℕ) → OneOf write_numbers (answers (write_answer r size)).number
 unfolding write_answer
 write_numbered r size =
-    then_numbered _ _ (unless-numbered _ Length (inr (inl refl)))
-    (then_numbered _ _ (unless-numbered _ Preamble (inr (inr (inl refl))))
-    (then_numbered _ _ (unless-numbered _ Category (inr (inr (inr (inl refl)))))
-    (then_numbered _ _ (unless-numbered _ Unused (inr (inr (inr (inr (inr (inr refl))))))) (inner_numbered r))))
+    then_numbered (unless (eqb size 32) Length) (unless (allowed preambles r.preamble) Preamble then unless (known r.body) Category then unless (tidy r) Unused then verdict (layout r.body) (values r)) (unless-numbered (eqb size 32) Length (inr (inl refl)))
+    (then_numbered (unless (allowed preambles r.preamble) Preamble) (unless (known r.body) Category then unless (tidy r) Unused then verdict (layout r.body) (values r)) (unless-numbered (allowed preambles r.preamble) Preamble (inr (inr (inl refl))))
+    (then_numbered (unless (known r.body) Category) (unless (tidy r) Unused then verdict (layout r.body) (values r)) (unless-numbered (known r.body) Category (inr (inr (inr (inl refl)))))
+    (then_numbered (unless (tidy r) Unused) _ (unless-numbered (tidy r) Unused (inr (inr (inr (inr (inr (inr refl))))))) (inner_numbered r))))

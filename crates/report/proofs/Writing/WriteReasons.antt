@@ -1,4 +1,5 @@
 -- More of why writing refuses: the gap before a slot's fields, and Reserved.
+use Rattle.std.specs.Prelude.{Ok, Err}
 use mathlib.Core.Path.{◌≡◌, refl, sym, ap, ◌∙◌}
 use mathlib.Core.Bool.{Bool, true, not, ◌&&◌}
 use mathlib.Core.Logic.{⊎_elim}
@@ -7,13 +8,11 @@ use native.Mathlib.Omega.{arith}
 use mathlib.Core.List.{List, [], ◌∷◌}
 use lib.Dec.{eqb}
 use borrow.Author.Tests.{le-leb, lt-leb, eqb-false, not-true}
-use Rattle.rows.specs.declared.refusal.Verdict.{Verdict}
-use Rattle.rows.specs.declared.refusal.Verdict.TheVariants.{Fine, Refused}
 use Rattle.rows.specs.declared.refusal.Refusal.{Refusal}
 use Rattle.rows.specs.declared.refusal.Refusal.TheVariants.{Range, Gap}
 use Rattle.report.specs.declared.record.Record.{Record}
-use Rattle.rows.specs.Refusals.{says}
-use Rattle.rows.specs.Runs.Questions.{◌then◌, unless}
+use Rattle.rows.specs.Refusals.{says, Verdict}
+use Rattle.rows.specs.Runs.Questions.{◌then◌}
 use Rattle.rows.specs.Layout.{common, ending}
 use Rattle.rows.specs.Runs.Verdict.{allowed, judge, walk, slots_verdict, verdict}
 use Rattle.rows.specs.Values.{last_values}
@@ -45,13 +44,13 @@ from_rest ((q or r) ∷ qs) x rest b f =
     f
 
 -- an 8 comes from the values
-refused_by_values : (r : Record) (size p v : ℕ) → write_answer r size ≡ Refused (Range p v) → inner_write r ≡ Refused (Range p v)
-refused_by_values r size p v e = from_rest (write_questions r size) (Range p v) (inner_write r ≡ Refused (Range p v)) refl ((answered r size).refused (Range p v) _ e (λ i. i))
+refused_by_values : (r : Record) (size p v : ℕ) → write_answer r size ≡ Err (Range p v) → inner_write r ≡ Err (Range p v)
+refused_by_values r size p v e = from_rest (write_questions r size) (Range p v) (inner_write r ≡ Err (Range p v)) refl ((answered r size).refused (Range p v) _ e (λ i. i))
 
-pub fault_of_8 : (r : Record) (size p v : ℕ) → Shaped r → write_answer r size ≡ Refused (Range p v) → Fault (record_layout r) (record_values r) (Range p v)
+pub fault_of_8 : (r : Record) (size p v : ℕ) → Shaped r → write_answer r size ≡ Err (Range p v) → Fault (record_layout r) (record_values r) (Range p v)
 fault_of_8 r size p v s e = (judged_record r s.slots).found (Range p v) (refused_by_values r size p v e)
 
-pub no_gap : (r : Record) (size p v : ℕ) → Shaped r → write_answer r size ≡ Refused (Range p v) → Fault (record_layout r) (record_values r) (Gap p) → ⊥
+pub no_gap : (r : Record) (size p v : ℕ) → Shaped r → write_answer r size ≡ Err (Range p v) → Fault (record_layout r) (record_values r) (Gap p) → ⊥
 no_gap r size p v s e f = late ((judged_record r s.slots).earliest (Range p v) (Gap p) (refused_by_values r size p v e) f)
   where
     late : turn (Range p v) ≤ turn (Gap p) → ⊥
@@ -63,12 +62,11 @@ no_gap r size p v s e f = late ((judged_record r s.slots).earliest (Range p v) (
 abbrev pub reserving : Record → ℕ → Record
 reserving r n = record { preamble = r.preamble; reserved = n; common = r.common; body = r.body; slots = r.slots; text = r.text; spares = r.spares }
 
-above : (n : ℕ) → 63 < n → walk [] ending (last_values n) ≡ Refused (Range 220 n)
-unfolding walk judge allowed unless ◌then◌
+above : (n : ℕ) → 63 < n → walk [] ending (last_values n) ≡ Err (Range 220 n)
+unfolding walk judge allowed
 above n h = simp (le-leb 0 n (omega arith), lt-leb n 63 h)
 
-behind_fine : (a b c d k z : Verdict) (x : Refusal) → a then b then c then d then k then z ≡ Fine → (e : Verdict) → e ≡ Refused x → a then b then c then d then k then e ≡ Refused x
-unfolding ◌then◌
+behind_fine : (a b c d k z : Verdict) (x : Refusal) → a then b then c then d then k then z ≡ Ok tt → (e : Verdict) → e ≡ Err x → a then b then c then d then k then e ≡ Err x
 behind_fine a b c d k z x f e g =
     let p = fine_both a (b then c then d then k then z) f in
     let q = fine_both b (c then d then k then z) p.1 in
@@ -77,7 +75,7 @@ behind_fine a b c d k z x f e g =
     let v = fine_both k z u.1 in
     simp (p.0, q.0, t.0, u.0, v.0, g)
 
-above_inner : (r : Record) (n : ℕ) → 63 < n → inner_write r ≡ Fine → inner_write (reserving r n) ≡ Refused (Range 220 n)
+above_inner : (r : Record) (n : ℕ) → 63 < n → inner_write r ≡ Ok tt → inner_write (reserving r n) ≡ Err (Range 220 n)
 unfolding verdict values
 above_inner r n h e =
     let l = layout r.body in
@@ -85,7 +83,7 @@ above_inner r n h e =
     behind_fine (walk [] (common l) v.head) (walk [] l.front v.front) (slots_verdict l.slots v.slots) (walk [] l.text v.text) (walk [] l.behind v.behind) (walk [] ending v.last) (Range 220 n) e
     (walk [] ending (last_values n)) (above n h)
 
-pub above_63 : (r : Record) (n : ℕ) → Valid r → 63 < n → write_answer (reserving r n) 32 ≡ Refused (Range 220 n)
+pub above_63 : (r : Record) (n : ℕ) → Valid r → 63 < n → write_answer (reserving r n) 32 ≡ Err (Range 220 n)
 above_63 r n v h =
     let a = (answered r 32).fine v in
     let m = a.0 in

@@ -1,24 +1,24 @@
 -- What reading a lent frame answers (document 01): "1 to 7 in that order", then 8 and 10 by lowest bit.
-use Rattle.std.specs.Prelude.{ℕ, List, length, eqb, not}
+use Rattle.category.specs.Text.{text_of}
+use Rattle.std.specs.Prelude.{ℕ, List, length, map, eqb, not, Result, Ok, Err}
 use Rattle.bits.specs.Frame.{field_of}
 use Rattle.parity.specs.Parity.{parity_right}
-use Rattle.rows.specs.declared.refusal.Verdict.{Verdict}
-use Rattle.rows.specs.declared.refusal.Verdict.TheVariants.{Fine, Refused}
 use Rattle.rows.specs.declared.refusal.Refusal.TheVariants.{Length, Padding, Preamble, Parity, Message, Version, Category}
 use Rattle.rows.specs.declared.refusal.Said.{Said}
-use Rattle.rows.specs.Refusals.{answers}
+use Rattle.rows.specs.Refusals.{answers, outcome, Verdict}
+use Rattle.rows.specs.declared.refusal.Refusal.{Refusal}
+use Rattle.slots.specs.declared.slot.Slot.{Slot}
 use Rattle.report.specs.declared.record.Record.{Record}
-use Rattle.report.specs.declared.read.Reading.{Reading}
 use Rattle.rows.specs.Runs.Questions.{◌then◌, unless}
 use Rattle.rows.specs.Runs.Verdict.{allowed, body_verdict, verdict}
-use Rattle.report.specs.Records.{body_of, record_of, zeros, text_of}
+use Rattle.report.specs.Records.{body_of, record_of, zeros}
 use Rattle.rows.specs.Values.{common_of, head_values, spares_at, values_of}
 use Rattle.report.specs.declared.body.Body.{Body}
 use Rattle.report.specs.declared.body.Content.{Content}
 use Rattle.report.specs.Categories.{categories, layout, preambles, sides_of}
 use Rattle.report.specs.Meaning.{used_of}
 use Rattle.report.specs.declared.look.Looked.{Looked}
-use Rattle.slots.specs.Slots.{slots_of, slots_values}
+use Rattle.slots.specs.Slots.{slot_parts, slots_of, slots_values, used_among}
 
 -- 2 to 6
 unfoldable pub outer_of : List ℕ → Verdict
@@ -48,15 +48,25 @@ read_says s = answers (read_answer s)
 abbrev pub rules_find : List ℕ → Body → Verdict
 rules_find s b = body_verdict (layout b) (head_values (common_of s) (layout b).code) (sides_of b (spares_at s (layout b))) (slots_values (layout b).slots (slots_of s (layout b).slots))
 
--- what stands from bit 43 up to bit 213, and what is found: 7 where there is no category
+-- 7 where there is no category, and what the rules find
+abbrev pub found_as : List ℕ → Body → Verdict
+found_as s b = unless (not (eqb (layout b).code 0)) Category then rules_find s b
+
+-- what stands from bit 43 up to bit 213
 abbrev pub content_as : List ℕ → Body → Content
 content_as s b = record {
-  found = unless (not (eqb (layout b).code 0)) Category then rules_find s b;
   body = b;
   slots = slots_of s (layout b).slots;
   text = text_of s (layout b);
   spares = spares_at s (layout b);
 }
+
+-- ---- the record
+
+-- what reading comes to: what is found, and the record
+pub record Reading : Type 0 where
+  pub answer : Verdict
+  pub «record» : Record
 
 -- an answer without a record
 abbrev pub unread : Verdict → Reading
@@ -64,18 +74,32 @@ unread v = record { answer = v; «record» = zeros }
 
 -- the answer, with the record where nothing is refused
 abbrev pub reading : Verdict → Record → Reading
-reading Fine r = record { answer = Fine; «record» = r }
-reading (Refused x) r = unread (Refused x)
+reading (Ok tt) r = record { answer = Ok tt; «record» = r }
+reading (Err x) r = unread (Err x)
 
 abbrev pub read_of : List ℕ → Reading
 read_of s = reading (read_answer s) (record_of s)
 
 -- ---- a look
 
--- what is seen of a reading
-abbrev pub seen : Reading → Looked
+-- what is seen of a reading: what is found, the category's code, how many slots it has, and how many of them are used
+pub record Seen : Type 0 where
+  pub answer : Verdict
+  pub category : ℕ
+  pub count : ℕ
+  pub used : ℕ
+
+abbrev pub seen : Reading → Seen
 seen r = record { answer = r.answer; category = (layout r.«record».body).code; count = (layout r.«record».body).slots.count; used = used_of r.«record» }
 
 -- the answer alone
-abbrev pub not_seen : Verdict → Looked
+abbrev pub not_seen : Verdict → Seen
 not_seen v = record { answer = v; category = 0; count = 0; used = 0 }
+
+-- what is seen of a body and slots
+abbrev pub look_at : Body → List Slot → Looked
+look_at b ss = record { category = (layout b).code; count = (layout b).slots.count; used = used_among (map slot_parts ss) }
+
+-- what a look hands back
+abbrev pub look_told : Seen → Result Looked Refusal
+look_told s = outcome s.answer (record { category = s.category; count = s.count; used = s.used })

@@ -1,16 +1,14 @@
 -- What writing a record answers, and the frame that it writes (document 01): "Writing: 1, 3, 7, 11, then 8 and 10 by lowest
 -- bit".
-use Rattle.std.specs.Prelude.{ℕ, ◌+◌, ◌*◌, ◌^◌, ◌≡◌, Bool, ◌&&◌, ◌||◌, cond, List, ◌∷◌, length, drop, take, eqb, ltb}
+use Rattle.std.specs.Prelude.{ℕ, ◌+◌, ◌*◌, ◌^◌, ◌≡◌, Bool, ◌&&◌, ◌||◌, cond, List, ◌∷◌, length, drop, take, eqb, ltb, Ok, Err}
 use Rattle.bits.specs.Layout.{encode}
 use Rattle.bits.specs.Frame.{bytes_of}
 use Rattle.bits.specs.declared.words.Words.{Words}
 use Rattle.bits.specs.Words.{pushed_all, pushed_until}
 use Rattle.parity.specs.Parity.{parity_of_front}
-use Rattle.rows.specs.declared.refusal.Verdict.{Verdict}
-use Rattle.rows.specs.declared.refusal.Verdict.TheVariants.{Fine, Refused}
 use Rattle.rows.specs.declared.refusal.Refusal.TheVariants.{Length, Preamble, Category, Unused}
 use Rattle.rows.specs.declared.refusal.Said.{Said}
-use Rattle.rows.specs.Refusals.{answers}
+use Rattle.rows.specs.Refusals.{answers, Verdict}
 use Rattle.report.specs.declared.record.Record.{Record}
 use Rattle.rows.specs.Runs.Questions.{◌then◌, unless}
 use Rattle.rows.specs.Layout.{Layout, all_rows}
@@ -70,8 +68,8 @@ frame r = (front r * 2 ^ 24 + parity_of_front (front r)) * 2 ^ 6
 
 -- a refused writing leaves the buffer as it was
 abbrev pub written : Verdict → Record → List ℕ → List ℕ
-written Fine r buffer = bytes_of (frame r)
-written (Refused x) r buffer = buffer
+written (Ok tt) r buffer = bytes_of (frame r)
+written (Err x) r buffer = buffer
 
 abbrev pub write_of : Record → List ℕ → List ℕ
 write_of r buffer = written (write_answer r (length buffer)) r buffer
@@ -79,7 +77,7 @@ write_of r buffer = written (write_answer r (length buffer)) r buffer
 -- ---- "A record is valid when writing it to 32 bytes is not refused"
 
 abbrev pub Valid : Record → Type 0
-Valid r = write_answer r 32 ≡ Fine
+Valid r = write_answer r 32 ≡ Ok tt
 
 -- ---- how it is asked and written, which contracts of private functions need
 

@@ -1,5 +1,6 @@
 -- Groups, wherever they stand in a table: behind the values `past`, before the rows rs with the values ws. All fields have their
 -- codes, or each is asked for its normal range alone.
+use Rattle.rows.specs.Refusals.{Verdict}
 use mathlib.Core.Path.{◌≡◌, refl, sym, ap, ap₂, ◌∙◌}
 use mathlib.Core.Bool.{Bool, true, false, ◌&&◌, ◌||◌}
 use mathlib.Core.Logic.{◌⊎◌, inl, inr, ⊎_elim, ◌↔◌}
@@ -9,7 +10,6 @@ use mathlib.Core.List.{List, [], ◌∷◌, ◌++◌}
 use lib.Dec.{eqb}
 use lib.ListN.{length}
 use borrow.Author.Tests.{eqb-true, eq-eqb, eqb-false}
-use Rattle.rows.specs.declared.refusal.Verdict.{Verdict}
 use Rattle.rows.specs.declared.refusal.Refusal.TheVariants.{Range}
 use Rattle.rows.specs.Runs.Questions.{◌then◌}
 use Rattle.rows.specs.Layout.{Member, Row, codes_of, group, grouped, ungrouped}

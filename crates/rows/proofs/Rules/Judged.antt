@@ -1,14 +1,13 @@
 -- A stretch of a frame: its verdict, what must hold there, and the faults that may stand there.
+use Rattle.std.specs.Prelude.{Ok, Err}
 use mathlib.Core.Path.{◌≡◌, refl}
 use mathlib.Core.Bool.{Bool, true, false, cond}
 use mathlib.Core.Logic.{◌⊎◌, inl, inr, ⊎_elim}
 use Prim.Native.Nat.{ℕ, ◌+◌, ◌≤◌}
 use native.Mathlib.Omega.{arith}
 use lib.Dec.{eqb}
-use Rattle.rows.specs.declared.refusal.Verdict.{Verdict}
-use Rattle.rows.specs.declared.refusal.Verdict.TheVariants.{Fine, Refused}
 use Rattle.rows.specs.declared.refusal.Refusal.{Refusal}
-use Rattle.rows.specs.Refusals.{says}
+use Rattle.rows.specs.Refusals.{says, Verdict}
 use Rattle.rows.specs.Runs.Questions.{◌then◌, unless}
 use Rattle.rows.specs.Faults.{place}
 use Rattle.rows.proofs.Rules.Outcomes.{not_both, unless_true, unless_fine, unless_refused, both_fine, fine_both, refused_one, false_not_true}
@@ -20,21 +19,21 @@ turn x = place x + place x + cond (eqb (says x).number 10) 0 1
 -- from bit a up to bit e, of which e is not part
 pub record Judges (a e : ℕ) (v : Verdict) (Good : Type 0) (Bad : Refusal → Type 0) : Type 0 where
   pub ordered : a ≤ e
-  pub passes : Good → v ≡ Fine
-  pub passed : v ≡ Fine → Good
-  pub found : (x : Refusal) → v ≡ Refused x → Bad x
-  pub earliest : (x y : Refusal) → v ≡ Refused x → Bad y → turn x ≤ turn y
+  pub passes : Good → v ≡ Ok tt
+  pub passed : v ≡ Ok tt → Good
+  pub found : (x : Refusal) → v ≡ Err x → Bad x
+  pub earliest : (x y : Refusal) → v ≡ Err x → Bad y → turn x ≤ turn y
   pub lower : (y : Refusal) → Bad y → a + a ≤ turn y
   pub upper : (y : Refusal) → Bad y → turn y ≤ e + e
   pub clean : (y : Refusal) → Good → Bad y → ⊥
 
 -- nothing is asked
-pub unasked : (a e : ℕ) → a ≤ e → Judges a e Fine Unit (λ y. ⊥)
+pub unasked : (a e : ℕ) → a ≤ e → Judges a e (Ok tt) Unit (λ y. ⊥)
 unasked a e h = record {
   ordered = h;
   passes = λ g. refl;
   passed = λ f. tt;
-  found = λ x f. not_both Fine x refl f;
+  found = λ x f. not_both (Ok tt) x refl f;
   earliest = λ x y f b. absurd b;
   lower = λ y b. absurd b;
   upper = λ y b. absurd b;
@@ -87,11 +86,11 @@ join {a} {m} {e} {v} {w} {G} {H} {B} {C} j k = record {
     across : (x y : Refusal) → turn x ≤ m + m → m + m ≤ turn y → turn x ≤ turn y
     across x y p q = omega arith
 
-    first : (x y : Refusal) → (v ≡ Refused x) ⊎ ((v ≡ Fine) × (w ≡ Refused x)) → B y → turn x ≤ turn y
+    first : (x y : Refusal) → (v ≡ Err x) ⊎ ((v ≡ Ok tt) × (w ≡ Err x)) → B y → turn x ≤ turn y
     first x y (inl p) b = j.earliest x y p b
     first x y (inr p) b = absurd (j.clean y (j.passed p.0) b)
 
-    second : (x y : Refusal) → (v ≡ Refused x) ⊎ ((v ≡ Fine) × (w ≡ Refused x)) → C y → turn x ≤ turn y
+    second : (x y : Refusal) → (v ≡ Err x) ⊎ ((v ≡ Ok tt) × (w ≡ Err x)) → C y → turn x ≤ turn y
     second x y (inl p) c = across x y (j.upper x (j.found x p)) (k.lower y c)
     second x y (inr p) c = k.earliest x y p.1 c
 

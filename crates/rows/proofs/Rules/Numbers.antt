@@ -1,4 +1,5 @@
 -- The numbers of refusals, and those that a walk over rows answers.
+use Rattle.std.specs.Prelude.{Ok, Err}
 use mathlib.Core.Path.{◌≡◌, refl, sym, ap, ◌∙◌}
 use mathlib.Core.Bool.{Bool, true, false, not, cond}
 use Prim.Native.Nat.{ℕ, ◌+◌, ◌-◌, ◌≤◌}
@@ -6,12 +7,10 @@ use mathlib.Core.List.{List, [], ◌∷◌}
 use lib.ListN.{get_or}
 use lib.Dec.{lit≤}
 use native.Mathlib.Omega.{arith}
-use Rattle.rows.specs.declared.refusal.Verdict.{Verdict}
-use Rattle.rows.specs.declared.refusal.Verdict.TheVariants.{Fine, Refused}
 use Rattle.rows.specs.declared.refusal.Refusal.{Refusal}
 use Rattle.rows.specs.declared.refusal.Refusal.TheVariants.{Length, Padding, Preamble, Parity, Message, Version, Category, Range, Gap, Unused, NoPage, OtherBulletin, Unsound, NotHeld, Short, Line, Sentence, Checksum, Satellite}
 use Rattle.rows.specs.declared.refusal.Said.{Said}
-use Rattle.rows.specs.Refusals.{says, answers}
+use Rattle.rows.specs.Refusals.{says, answers, Verdict}
 use Rattle.rows.specs.Runs.Questions.{◌then◌, unless}
 use Rattle.rows.specs.Layout.{Rule, Row, Layout, common, ending, slot_rows, Slots}
 use Rattle.rows.specs.Values.{Values}
@@ -120,13 +119,13 @@ pub not_nine : (x : Refusal) → (says x).number ≡ 9 → ⊥
 not_nine x e = let line = sym (unsaid_says x) ∙ unsaid_nine (says x) e in omega (arith, e, ap (λ (y : Refusal). (says y).number) line)
 
 pub answers_not_nine : (v : Verdict) → (answers v).number ≡ 9 → ⊥
-answers_not_nine Fine e = omega arith
-answers_not_nine (Refused x) e = not_nine x e
+answers_not_nine (Ok tt) e = omega arith
+answers_not_nine (Err x) e = not_nine x e
 
 -- no refusal answers 0
-pub zero_fine : (v : Verdict) → (answers v).number ≡ 0 → v ≡ Fine
-zero_fine Fine e = refl
-zero_fine (Refused x) e = absurd (omega (arith, (says-numbered x).0, e))
+pub zero_fine : (v : Verdict) → (answers v).number ≡ 0 → v ≡ Ok tt
+zero_fine (Ok tt) e = refl
+zero_fine (Err x) e = absurd (omega (arith, (says-numbered x).0, e))
 
 -- ---- the value: no number but 8 has one
 
@@ -152,8 +151,8 @@ value_with_8 Checksum h = refl
 value_with_8 Satellite h = refl
 
 pub answered_value : (v : Verdict) → ((answers v).number ≡ 8 → ⊥) → (answers v).value ≡ 0
-answered_value Fine h = refl
-answered_value (Refused x) h = value_with_8 x h
+answered_value (Ok tt) h = refl
+answered_value (Err x) h = value_with_8 x h
 
 -- ---- a promise of an answer, and of what it says: alone, and beside what is promised of a buffer
 
@@ -169,12 +168,10 @@ abbrev pub UpToTen : Verdict → Type 0
 UpToTen v = (answers v).number ≤ 10
 
 pub then_ten : (a b : Verdict) → UpToTen a → UpToTen b → UpToTen (a then b)
-unfolding ◌then◌
-then_ten Fine b h k = k
-then_ten (Refused r) b h k = h
+then_ten (Ok tt) b h k = k
+then_ten (Err r) b h k = h
 
 pub unless_ten : (b : Bool) (r : Refusal) → (says r).number ≤ 10 → UpToTen (unless b r)
-unfolding unless
 unless_ten true r h = lit≤ tt
 unless_ten false r h = h
 

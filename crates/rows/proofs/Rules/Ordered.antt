@@ -1,4 +1,5 @@
 -- Questions that are asked in an order (1 to 7), before the rest.
+use Rattle.std.specs.Prelude.{Ok, Err}
 use mathlib.Core.Path.{◌≡◌, refl, sym, ap, ◌∙◌, subst}
 use mathlib.Core.Bool.{Bool, true, ◌&&◌}
 use mathlib.Core.Logic.{inl, inr, ⊎_elim, ◌↔◌}
@@ -7,10 +8,8 @@ use native.Mathlib.Omega.{arith}
 use mathlib.Core.List.{List, [], ◌∷◌}
 use lib.Dec.{ltb}
 use borrow.Author.Tests.{ltb-true}
-use Rattle.rows.specs.declared.refusal.Verdict.{Verdict}
-use Rattle.rows.specs.declared.refusal.Verdict.TheVariants.{Fine, Refused}
 use Rattle.rows.specs.declared.refusal.Refusal.{Refusal}
-use Rattle.rows.specs.Refusals.{says}
+use Rattle.rows.specs.Refusals.{says, Verdict}
 use Rattle.rows.specs.Runs.Questions.{◌then◌, unless}
 use Rattle.rows.specs.Faults.{Question, ◌or◌, First, Met}
 use Rattle.rows.proofs.Rules.Outcomes.{unless_fine, unless_refused, fine_both, refused_one, met_then, then_fine, not_both, false_not_true, and_both}
@@ -18,8 +17,8 @@ use Rattle.rows.proofs.Rules.Outcomes.{unless_fine, unless_refused, fine_both, r
 -- v is what these questions answer, and w where all are met
 pub record Answers (v : Verdict) (qs : List Question) (w : Verdict) : Type 1 where
   pub met : Met qs → v ≡ w
-  pub fine : v ≡ Fine → Met qs × (w ≡ Fine)
-  pub refused : (x : Refusal) (rest : Type 0) → v ≡ Refused x → (w ≡ Refused x → rest) → First qs x rest
+  pub fine : v ≡ Ok tt → Met qs × (w ≡ Ok tt)
+  pub refused : (x : Refusal) (rest : Type 0) → v ≡ Err x → (w ≡ Err x → rest) → First qs x rest
 
 pub unquestioned : (w : Verdict) → Answers w [] w
 unquestioned w = record { met = λ m. refl; fine = λ e. (tt, e); refused = λ x rest e f. f e }
@@ -40,16 +39,16 @@ question {v} {w} {qs} b q r f g a = record {
 }
 
 -- one question with nothing behind it
-pub last_question : (b : Bool) (q : Type 0) (r : Refusal) → (b ≡ true → q) → (q → b ≡ true) → Answers (unless b r) (q or r ∷ []) Fine
-last_question b q r f g = subst (λ (v : Verdict). Answers v (q or r ∷ []) Fine) (then_fine (unless b r)) (question b q r f g (unquestioned Fine))
+pub last_question : (b : Bool) (q : Type 0) (r : Refusal) → (b ≡ true → q) → (q → b ≡ true) → Answers (unless b r) (q or r ∷ []) (Ok tt)
+last_question b q r f g = subst (λ (v : Verdict). Answers v (q or r ∷ []) (Ok tt)) (then_fine (unless b r)) (question b q r f g (unquestioned (Ok tt)))
 
 -- ---- where nothing comes behind the questions
 
-pub met_exactly : {v : Verdict} {qs : List Question} → Answers v qs Fine → v ≡ Fine ↔ Met qs
+pub met_exactly : {v : Verdict} {qs : List Question} → Answers v qs (Ok tt) → v ≡ (Ok tt) ↔ Met qs
 met_exactly a = (λ e. (a.fine e).0, λ m. a.met m)
 
-pub first_not_met : {v : Verdict} {qs : List Question} → Answers v qs Fine → (x : Refusal) → v ≡ Refused x → First qs x ⊥
-first_not_met a x e = a.refused x ⊥ e (not_both Fine x refl)
+pub first_not_met : {v : Verdict} {qs : List Question} → Answers v qs (Ok tt) → (x : Refusal) → v ≡ Err x → First qs x ⊥
+first_not_met a x e = a.refused x ⊥ e (not_both (Ok tt) x refl)
 
 -- ---- by number
 

@@ -1,12 +1,13 @@
 -- What is tested is so or is not: numbers compared, and lists byte by byte.
-use mathlib.Core.Path.{◌≡◌, refl, sym, ◌∙◌}
-use mathlib.Core.Bool.{Bool, true, false}
+use mathlib.Core.Path.{◌≡◌, refl, sym, ap, ◌∙◌}
+use mathlib.Core.Bool.{Bool, true, false, ◌&&◌}
 use mathlib.Core.List.{List, [], ◌∷◌}
 use mathlib.Core.Logic.{◌⊎◌, inl, inr, ⊎_elim}
 use Prim.Native.Nat.{ℕ, ◌/◌, ◌^◌, ◌<◌, ◌≤◌}
 use native.Mathlib.Nat.{div-eq_of_lt, div-lt_iff_lt-mul, lt_of_lt_of_le, one-mul, pow-le-pow_right}
 use native.Mathlib.Omega.{arith}
 use lib.Dec.{eqb, ltb}
+use lib.Pointwise.{pointwise}
 use lib.Pow.{pow_pos}
 use borrow.Author.Tests.{eqb-true, eq-eqb, le-ltb, lt-ltb, ltb-true, ltb-false, ne_eqb}
 use Rattle.rows.proofs.Rules.Outcomes.{and_both, false_not_true}
@@ -34,6 +35,14 @@ pub wide_enough : (v w : ℕ) → v < 2 ^ 64 → 63 < w → ltb v (2 ^ w) ≡ tr
 wide_enough v w h k = lt-ltb v (2 ^ w) (lt_of_lt_of_le h (pow-le-pow_right (omega arith) k))
 
 -- ---- bytes
+
+-- what `==` says of two slices
+pub equal_bytes : (l m : List ℕ) → pointwise eqb l m ≡ same_bytes l m
+unfolding same_bytes
+equal_bytes [] [] = refl
+equal_bytes [] (b ∷ m) = refl
+equal_bytes (a ∷ l) [] = refl
+equal_bytes (a ∷ l) (b ∷ m) = ap (λ (r : Bool). eqb a b && r) (equal_bytes l m)
 
 pub same_refl : (l : List ℕ) → same_bytes l l ≡ true
 unfolding same_bytes

@@ -1,8 +1,7 @@
 -- What is found in a frame's or a record's values: 8 and 10 by lowest bit. The rows of a table rise, so the first thing
 -- found on the way is the one with the lowest bit.
-use Rattle.std.specs.Prelude.{ℕ, ◌+◌, ◌^◌, Bool, true, false, ◌&&◌, ◌||◌, not, cond, List, ◌∷◌, [], leb, eqb, ltb}
-use Rattle.rows.specs.declared.refusal.Verdict.{Verdict}
-use Rattle.rows.specs.declared.refusal.Verdict.TheVariants.{Fine}
+use Rattle.rows.specs.Refusals.{Verdict}
+use Rattle.std.specs.Prelude.{ℕ, ◌+◌, ◌^◌, Bool, true, false, ◌&&◌, ◌||◌, not, cond, List, ◌∷◌, [], leb, eqb, ltb, Ok}
 use Rattle.rows.specs.declared.refusal.Refusal.TheVariants.{Range, Gap}
 use Rattle.rows.specs.Runs.Questions.{◌then◌, unless}
 use Rattle.rows.specs.Layout.{Span, ◌to◌, Codes, Rule, among, rising, in_group, spare, Row, Slots, Layout, common, ending, slot_rows}
@@ -44,8 +43,8 @@ judge r at past v next = ranged (meets r past v next) at v
 -- fields one behind the other; each row has its value (`values_never_run_short`)
 unfoldable pub walk : List ℕ → List Row → List ℕ → Verdict
 walk past (r ∷ rs) (v ∷ vs) = judge r.rule r.first past v vs then walk (v ∷ past) rs vs
-walk past [] vs = Fine
-walk past (r ∷ rs) [] = Fine
+walk past [] vs = Ok tt
+walk past (r ∷ rs) [] = Ok tt
 
 -- ---- slots (document 01, "Silence in a slot")
 
@@ -56,14 +55,14 @@ empty (v ∷ vs) = eqb v 0 && empty vs
 
 -- the slots behind the first one, from the bit `at` on; `gap`: an empty one has been seen
 unfoldable pub later : Slots → Bool → ℕ → List (List ℕ) → Verdict
-later k gap at [] = Fine
+later k gap at [] = Ok tt
 later k gap at (v ∷ vs) =
     cond (empty v) (later k true (at + k.bits) vs)
     (unless (not gap) (Gap at) then walk [] (slot_rows k at) v then later k gap (at + k.bits) vs)
 
 -- the first slot is used
 unfoldable pub slots_verdict : Slots → List (List ℕ) → Verdict
-slots_verdict k [] = Fine
+slots_verdict k [] = Ok tt
 slots_verdict k (v ∷ vs) = walk [] (slot_rows k k.first) v then later k false (k.first + k.bits) vs
 
 -- ---- what every category has

@@ -1,17 +1,12 @@
--- `lent::number::digits` meets its contract: those counted and those of the rest are one more than all.
+-- `lent::number::digits` meets its contract.
+use mathlib.Core.Path.{sym}
 use native.Mathlib.Omega.{arith}
-use Rattle.lent.proofs.Decimals.{smaller, length-decimal_one, length-decimal_more, twenty_digits}
 use borrow.Author.Rules.{rules}
+use Rattle.lent.proofs.Decimals.{digits_by_power, length-decimal_one}
 use Rattle.lent.proofs.number.digits.Goals as goal
 
-pub overflow_add-count : goal.overflow_add-count
-overflow_add-count c = omega (arith, twenty_digits c.args.number (search rules))
+pub returns-in-Some : goal.returns-in-Some
+returns-in-Some c = digits_by_power c.in-Some.tens c.args.number (search rules) (search rules)
 
-pub loop-rest-smaller : goal.loop-rest-smaller
-loop-rest-smaller c = smaller c.loop-rest.rest (omega arith)
-
-pub loop-rest-preserved : goal.loop-rest-preserved
-loop-rest-preserved c = omega (arith, length-decimal_more c.loop-rest.rest (omega arith))
-
-pub returns : goal.returns
-returns c = omega (arith, length-decimal_one c.loop-rest.rest (omega arith))
+pub returns-in-None : goal.returns-in-None
+returns-in-None c = sym (length-decimal_one c.args.number (omega (arith, c.in-None.ensures.none)))

@@ -1,19 +1,21 @@
--- `lent::put::put_bytes` meets its contract: the bytes passed are put.
-use mathlib.Core.Path.{refl, ◌∙◌}
+-- `lent::put::put_bytes` meets its contract: the bytes passed are put, or as many as find a place.
+use Prim.Native.Nat.{◌+◌, ◌-◌}
 use native.Mathlib.Omega.{arith}
-use Rattle.lent.proofs.Chains.{nothing, one_more, all_put, placed}
+use lib.ListN.{length}
+use Rattle.lent.proofs.Chains.{none_put, put_whole, put_cut}
 use Rattle.lent.proofs.put.put_bytes.Goals as goal
 
-pub returns-then-bytes-out : goal.returns-then-bytes-out
-returns-then-bytes-out c = placed (omega arith) c.copy.ensures refl
+pub returns-then-out-at : goal.returns-then-out-at
+returns-then-out-at c =
+    let a = c.args in
+    none_put a.bytes.now a.out.now a.at (omega arith)
 
-pub loop-k-init : goal.loop-k-init
-loop-k-init c = (omega arith, refl, nothing _ _)
-
-pub loop-k-preserved : goal.loop-k-preserved
-loop-k-preserved c =
-    let t = c.args.bytes.now in
-    (omega arith, c.put_byte-behind.auto.out ∙ c.loop-k.invariant.1, one_more t c.loop-k.k (omega arith) refl c.loop-k.invariant.2 c.put_byte-behind.ensures)
+pub returns-then-bytes-room : goal.returns-then-bytes-room
+returns-then-bytes-room c =
+    let a = c.args in
+    put_cut a.bytes.now a.out.now c.copy_from_slice.new.self a.at (length a.out.now - a.at) c.copy_from_slice.ensures.after (omega arith) (omega arith)
 
 pub returns : goal.returns
-returns c = all_put _ c.loop-k.k (omega arith) c.loop-k.invariant.2
+returns c =
+    let a = c.args in
+    put_whole a.bytes.now a.out.now c.copy_from_slice-2.new.self a.at (a.at + length a.bytes.now - a.at) c.copy_from_slice-2.ensures.after (omega arith) (omega arith)

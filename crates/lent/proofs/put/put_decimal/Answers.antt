@@ -1,13 +1,14 @@
 -- `lent::put::put_decimal` meets its contract: the digits from k on are put, and those in front of them are the rest's.
-use mathlib.Core.Path.{◌≡◌, refl, sym, ap, ◌∙◌}
+use mathlib.Core.Path.{◌≡◌, refl, sym, ◌∙◌}
 use Prim.Native.Nat.{suc, ◌+◌, ◌-◌, ◌%◌, ◌≤◌}
 use native.Mathlib.Omega.{arith}
 use lib.ListN.{length, drop}
-use lib.Seq.{sets, length-sets, take-length, drop-length}
+use lib.Seq.{sets, take-length, drop-length}
+use Rattle.std.proofs.lemmas.List.{set_past}
 use Rattle.lent.specs.Numbers.{decimal}
 use Rattle.lent.proofs.Decimals.{decimal_one}
 use Rattle.lent.proofs.Backwards.{digit_put, digits-left, all_digits}
-use Rattle.lent.proofs.Chains.{set_past, sets-past}
+use Rattle.lent.proofs.Chains.{none_put}
 use Rattle.lent.proofs.put.put_decimal.Goals as goal
 use Rattle.lent.proofs.put.put_decimal.Goals.{then-k-room, else-k-room}
 
@@ -19,13 +20,13 @@ returns-then-number-lt10 c =
 pub returns-then-out-at : goal.returns-then-out-at
 returns-then-out-at c =
     let a = c.args in
-    record { bytes = sym (sets-past (decimal a.number) a.out.now a.at (omega arith)); place = omega arith }
+    none_put (decimal a.number) a.out.now a.at (omega arith)
 
 pub loop-k-init : goal.loop-k-init
 loop-k-init c =
     let a = c.args in
     let all : c.digits-count.result ≡ length (decimal a.number) = c.digits-count.ensures in
-    (omega arith, refl, rw (all, drop-length (decimal a.number)) refl, λ h. rw (all, take-length (decimal a.number)) refl)
+    (rw (all, drop-length (decimal a.number)) refl, λ h. rw (all, take-length (decimal a.number)) refl)
 
 pub loop-k-preserved : goal.loop-k-preserved
 loop-k-preserved c =
@@ -34,18 +35,18 @@ loop-k-preserved c =
     let v = c.loop-k.invariant in
     let within : k ≤ length (decimal a.number) = omega (arith, c.digits-count.ensures) in
     let next : k ≡ suc (k - 1) = omega arith in
-    let front = v.3 (omega arith) in
-    let put = digit_put c.loop-k.rest (decimal a.number) k (k - 1) next within front a.out.now c.loop-k.out a.at v.2 in
+    let front = v.1 (omega arith) in
+    let put = digit_put c.loop-k.rest (decimal a.number) k (k - 1) next within front a.out.now c.loop-k.out a.at v.0 in
     let out : c.if-k-room.out ≡ sets a.out.now (a.at + (k - 1)) (drop (k - 1) (decimal a.number)) = elim c.if-k-room.branch [ then-k-room w ↦ w.out-is ∙ put | else-k-room w ↦ w.out-is ∙ sym (set_past c.loop-k.out (a.at + (k - 1)) (48 + c.loop-k.rest % 10) (omega (arith, w.if-k-room.false))) ∙ put ] in
-    (omega arith, ap length out ∙ simp length-sets, out, digits-left c.loop-k.rest (decimal a.number) k (k - 1) next within front)
+    (out, digits-left c.loop-k.rest (decimal a.number) k (k - 1) next within front)
 
 -- every digit is put, and the answer tells whether each found its place
 pub returns-then-count-room : goal.returns-then-count-room
 returns-then-count-room c =
     let a = c.args in
-    record { bytes = all_digits (decimal a.number) a.out.now c.loop-k.out a.at c.loop-k.k (omega arith) c.loop-k.invariant.2; place = omega (arith, c.digits-count.ensures) }
+    record { bytes = all_digits (decimal a.number) a.out.now c.loop-k.out a.at c.loop-k.k (omega arith) c.loop-k.invariant.0; place = omega (arith, c.digits-count.ensures) }
 
 pub returns : goal.returns
 returns c =
     let a = c.args in
-    record { bytes = all_digits (decimal a.number) a.out.now c.loop-k.out a.at c.loop-k.k (omega arith) c.loop-k.invariant.2; place = omega (arith, c.digits-count.ensures) }
+    record { bytes = all_digits (decimal a.number) a.out.now c.loop-k.out a.at c.loop-k.k (omega arith) c.loop-k.invariant.0; place = omega (arith, c.digits-count.ensures) }

@@ -6,12 +6,8 @@ use Rattle.lent.proofs.Chains.{◌then◌}
 use borrow.Author.Rules.{rules}
 use Rattle.listing.proofs.row.put_entry.Goals as goal
 
-pub returns-in-Dash : goal.returns-in-Dash
-returns-in-Dash c =
-    (rw c.in-Dash.is (c.put_byte-next.ensures then c.put_byte.ensures), omega (arith, c.put_byte.ensures.place, c.put_byte-next.ensures.place))
-
-pub returns-in-Number : goal.returns-in-Number
-returns-in-Number c =
-    let n : ℕ = c.in-Number.n in
+pub returns-in-Some : goal.returns-in-Some
+returns-in-Some c =
+    let n : ℕ = c.in-Some.n in
     let h : n < 18446744073709551616 = search rules in
-    (rw c.in-Number.is (c.put_byte-next.ensures then c.put_decimal.ensures), omega (arith, c.put_decimal.ensures.place, c.put_byte-next.ensures.place, twenty_digits n h))
+    (rw c.in-Some.is (c.put_byte-next.ensures then c.put_decimal.ensures), omega (arith, c.put_decimal.ensures.place, c.put_byte-next.ensures.place, twenty_digits n h))

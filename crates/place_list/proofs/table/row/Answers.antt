@@ -1,4 +1,5 @@
 -- `place_list::table::row` meets its contract: each arm has the codes of its row.
+use borrow.Author.Rules.{rules}
 use Rattle.settled.proofs.Arms.{arm, last_arm}
 use Rattle.place_list.specs.Codes.{codes}
 use Rattle.place_list.specs.Search.{row_of}
@@ -226,4 +227,4 @@ returns-in-54 c = arm row_of 54 c.in-54.is
 
 pub returns-in_default : goal.returns-in_default
 unfolding codes row_of
-returns-in_default c = last_arm row_of 55 c.requires c.in_default.in_default-own.rest
+returns-in_default c = last_arm row_of 55 c.requires (search rules)

@@ -1,59 +1,36 @@
--- `record_bytes::from_bytes::slots_of` meets its contract.
+-- `record_bytes::from_bytes::slots_of` meets its contract: the slots passed are read.
+use mathlib.Core.Path.{◌≡◌, ap, refl, ◌∙◌}
 use mathlib.Core.Bool.{Bool, true, false, cond}
-use mathlib.Core.List.{List, [], ◌∷◌, ◌++◌}
-use mathlib.Core.Path.{◌≡◌, ap}
-use Prim.Native.Nat.{ℕ, ◌+◌, ◌*◌}
+use mathlib.Core.List.{List, ◌++◌}
+use Prim.Native.Nat.{ℕ, ◌+◌, ◌-◌, ◌*◌}
 use native.Mathlib.Omega.{arith}
-use lib.ListN.{length}
+use lib.ListN.{replicate, set}
 use Rattle.rows.specs.Values.{each}
+use Rattle.rows.proofs.Layouts.Filling.{fill, filled}
 use Rattle.slots.specs.declared.slot.Slot.{Slot}
+use Rattle.slots.specs.Slots.{no_slot}
 use Rattle.record_bytes.specs.Unpacked.{misplaced, slot_at, slots_from, slots_or_misplaced}
 use Rattle.record_bytes.proofs.from_bytes.slots_of.Goals as goal
 
 -- the last slot tells of what is stray
-last-marked : (stray : Bool) (l : List ℕ) (x : Slot) → x ≡ cond stray misplaced (slot_at l 221) → each 15 (λ i. slot_at l (41 + 12 * i)) ++ (x ∷ []) ≡ slots_or_misplaced stray (slots_from l)
-last-marked true l x e = ap (λ (y : Slot). each 15 (λ i. slot_at l (41 + 12 * i)) ++ (y ∷ [])) e
-last-marked false l x e = ap (λ (y : Slot). each 15 (λ i. slot_at l (41 + 12 * i)) ++ (y ∷ [])) e
+last_marked : (stray : Bool) (l : List ℕ) → set (slots_from l) 15 (cond stray misplaced (slot_at l 221)) ≡ slots_or_misplaced stray (slots_from l)
+last_marked true l = refl
+last_marked false l = refl
+
+pub loop-k-init : goal.loop-k-init
+loop-k-init c = rw c.none-slots.ensures refl
+
+pub loop-k-preserved : goal.loop-k-preserved
+loop-k-preserved c =
+    let l = c.loop-k in
+    fill 16 l.k (λ i. slot_at c.args.bytes.now (41 + 12 * i)) no_slot _ l.slots (omega arith) l.invariant c.slot_at.ensures
 
 pub returns : goal.returns
 returns c =
-    let a = c.args in
-    simp (
-      c.slot_at-15.ensures,
-      c.slot_at-14.ensures,
-      c.slot_at-13.ensures,
-      c.slot_at-12.ensures,
-      c.slot_at-11.ensures,
-      c.slot_at-10.ensures,
-      c.slot_at-9.ensures,
-      c.slot_at-8.ensures,
-      c.slot_at-7.ensures,
-      c.slot_at-6.ensures,
-      c.slot_at-5.ensures,
-      c.slot_at-4.ensures,
-      c.slot_at-3.ensures,
-      c.slot_at-2.ensures,
-      c.slot_at.ensures,
-    )
-    (last-marked a.stray a.bytes.now _ c.last_slot-last.ensures)
-
-pub slot_at-requires-9 : goal.slot_at-requires-9
-slot_at-requires-9 c = ((let size : length c.args.bytes.now ≡ 251 = c.requires in size), omega arith)
-
-pub slot_at-requires-10 : goal.slot_at-requires-10
-slot_at-requires-10 c = ((let size : length c.args.bytes.now ≡ 251 = c.requires in size), omega arith)
-
-pub slot_at-requires-11 : goal.slot_at-requires-11
-slot_at-requires-11 c = ((let size : length c.args.bytes.now ≡ 251 = c.requires in size), omega arith)
-
-pub slot_at-requires-12 : goal.slot_at-requires-12
-slot_at-requires-12 c = ((let size : length c.args.bytes.now ≡ 251 = c.requires in size), omega arith)
-
-pub slot_at-requires-13 : goal.slot_at-requires-13
-slot_at-requires-13 c = ((let size : length c.args.bytes.now ≡ 251 = c.requires in size), omega arith)
-
-pub slot_at-requires-14 : goal.slot_at-requires-14
-slot_at-requires-14 c = ((let size : length c.args.bytes.now ≡ 251 = c.requires in size), omega arith)
-
-pub slot_at-requires-15 : goal.slot_at-requires-15
-slot_at-requires-15 c = ((let size : length c.args.bytes.now ≡ 251 = c.requires in size), omega arith)
+    let l = c.args.bytes.now in
+    let slot : ℕ → Slot = λ i. slot_at l (41 + 12 * i) in
+    let last : c.loop-k.k ≡ 16 = omega arith in
+    let all : c.loop-k.slots ≡ slots_from l =
+    filled 16 slot no_slot c.loop-k.slots (c.loop-k.invariant ∙ ap (λ (k : ℕ). each k slot ++ replicate (16 - k) no_slot) last)
+    in
+    (λ i. set (all i) 15 (c.last_slot.ensures i)) ∙ last_marked c.args.stray l

@@ -1,12 +1,11 @@
 -- `record_bytes::to_bytes::own_bytes` meets its contract.
-use mathlib.Core.Path.{◌≡◌, ◌∙◌, ap, sym}
+use mathlib.Core.Path.{◌≡◌, ◌∙◌, sym}
 use native.Mathlib.Omega.{arith}
-use lib.ListN.{length, take}
-use Rattle.lent.proofs.Chains.{whole, wrote_as}
-use Rattle.record_bytes.specs.Packed.{body_bytes}
+use lib.ListN.{length}
+use lib.Seq.{length-take-le}
 use Rattle.record_bytes.proofs.FromBytes.Read.{fields_end, room}
 use Rattle.record_bytes.proofs.ToBytes.EightBytes.{all-zeros}
-use Rattle.record_bytes.proofs.ToBytes.Whole.{length_body, own_put, room_behind}
+use Rattle.record_bytes.proofs.ToBytes.Whole.{own_put, room_behind}
 use borrow.Author.Rules.{rules}
 use Rattle.record_bytes.proofs.to_bytes.own_bytes.Goals as goal
 
@@ -33,23 +32,17 @@ put_cells-requires c =
       by_index = (left.1, (fields_end c.args.body c.args.spares v c.fields-fields.ensures).1);
     }
 
--- the first 32 bytes are the body's
-pub slice_bounds-put_bytes-end-2 : goal.slice_bounds-put_bytes-end-2
-slice_bounds-put_bytes-end-2 c =
-    let v = c.fields-fields.result in
-    let ahead : length v.ahead ≡ 18 = search rules in
-    let front : length v.front ≡ 18 = search rules in
-    let first_bytes : take 32 c.put_cells.new.out ≡ body_bytes c.args.body c.args.spares =
-    own_put c.args.body c.args.spares v c.fields-fields.ensures _ _ (omega arith) c.put_cells-middle.ensures.1 c.put_cells-middle.ensures.0 _ c.put_cells.ensures.1
-    in
-    sym (ap length first_bytes ∙ length_body c.args.body c.args.spares)
+pub slice_bounds-copy_from_slice-end-2 : goal.slice_bounds-copy_from_slice-end-2
+slice_bounds-copy_from_slice-end-2 c = sym (length-take-le 32 c.put_cells.new.out (omega (arith, c.put_cells.auto.out, c.put_cells-middle.auto.out)))
 
+pub copy_from_slice-requires : goal.copy_from_slice-requires
+copy_from_slice-requires c = sym (length-take-le 32 c.put_cells.new.out (omega (arith, c.put_cells.auto.out, c.put_cells-middle.auto.out)))
+
+-- the first 32 bytes are the body's
 pub returns : goal.returns
 returns c =
     let v = c.fields-fields.result in
     let ahead : length v.ahead ≡ 18 = search rules in
     let front : length v.front ≡ 18 = search rules in
-    let first_bytes : take 32 c.put_cells.new.out ≡ body_bytes c.args.body c.args.spares =
-    own_put c.args.body c.args.spares v c.fields-fields.ensures _ _ (omega arith) c.put_cells-middle.ensures.1 c.put_cells-middle.ensures.0 _ c.put_cells.ensures.1
-    in
-    whole (length_body c.args.body c.args.spares) (wrote_as first_bytes c.put_bytes.ensures)
+    c.copy_from_slice.ensures.after
+    ∙ own_put c.args.body c.args.spares v c.fields-fields.ensures _ _ (omega arith) c.put_cells-middle.ensures.1 c.put_cells-middle.ensures.0 _ c.put_cells.ensures.1

@@ -10,7 +10,7 @@ use Rattle.record_bytes.proofs.to_bytes.put_slot.Goals as goal
 pub returns : goal.returns
 returns c =
     let a = c.args in
-    let four : List ℕ = a.s.day ∷ a.s.hour ∷ a.s.minute ∷ a.s.strength ∷ [] in
+    let four : List ℕ = a.s.now.day ∷ a.s.now.hour ∷ a.s.now.minute ∷ a.s.now.strength ∷ [] in
     c.put_bytes.ensures.bytes
     ∙ ap (λ (l : List ℕ). sets l a.at four) c.put_number.ensures
-    ∙ sets_before four (wide 8 a.s.place) a.out.now a.at
+    ∙ sets_before four (wide 8 a.s.now.place) a.out.now a.at

@@ -1,5 +1,5 @@
 -- `record_bytes::to_bytes::put_slots` meets its contract: the slots passed are in their places.
-use mathlib.Core.Path.{◌≡◌, refl, ◌∙◌}
+use mathlib.Core.Path.{◌≡◌, refl}
 use native.Mathlib.Omega.{arith}
 use lib.ListN.{length}
 use lib.Seq.{take_all}
@@ -10,17 +10,14 @@ use Rattle.record_bytes.proofs.to_bytes.put_slots.Goals as goal
 
 pub loop-k-init : goal.loop-k-init
 unfolding slots_bytes
-loop-k-init c = (omega arith, refl, refl)
-
-pub put_slot-requires : goal.put_slot-requires
-put_slot-requires c =
-    omega (arith, c.loop-k.invariant.1, c.requires)
+loop-k-init c = refl
 
 pub loop-k-preserved : goal.loop-k-preserved
 loop-k-preserved c =
-    let l = c.loop-k in
-    (omega arith, c.put_slot.auto.out ∙ l.invariant.1, slot_more _ _ _ _ l.k c.args.slots (omega (arith, (let size : length c.args.slots ≡ 16 = c.well_formed.1.1.0.1.0.1 in size))) l.invariant.2 c.put_slot.ensures)
+    slot_more _ _ _ _ c.loop-k.k c.args.slots.now (omega arith) c.loop-k.invariant c.put_slot.ensures
 
 pub returns : goal.returns
 returns c =
-    placed (omega (arith, c.requires)) (rw (take_all c.loop-k.k c.args.slots (omega (arith, (let size : length c.args.slots ≡ 16 = c.well_formed.1.1.0.1.0.1 in size)))) at c.loop-k.invariant.2) (omega (arith, length_slots c.args.slots, (let size : length c.args.slots ≡ 16 = c.well_formed.1.1.0.1.0.1 in size)))
+    let slots = c.args.slots.now in
+    let sixteen : length slots ≡ 16 = omega arith in
+    record { put = placed (omega (arith, c.requires)) (rw (take_all c.loop-k.k slots (omega arith)) at c.loop-k.invariant) (omega (arith, length_slots slots)); sixteen = sixteen }

@@ -1,25 +1,34 @@
 -- `sentence::from_sentence::hear_line` meets its contract.
-use mathlib.Core.Path.{◌≡◌, refl}
-use native.Mathlib.Omega.{arith}
-use Rattle.rows.specs.declared.refusal.Verdict.TheVariants.{Fine}
-use Rattle.sentence.specs.Sentences.{around_answer, fed}
-use Rattle.sentence.proofs.Hearing.{found, found_satellite, heard_said, line_found, hear_on, hear_not}
+use Rattle.std.proofs.Common.{◌∙◌, sym, arith}
+use Rattle.std.proofs.lemmas.Grind.{common_steps}
+use Rattle.report.specs.Runs.Reading.{seen}
+use Rattle.rows.proofs.Rules.Outcomes.{refused_outcome}
+use Rattle.line.specs.Lines.{line_reading}
+use Rattle.sentence.specs.Sentences.{digits_in, looked}
+use Rattle.sentence.proofs.Hearing.{line_found, hears_on, heard_not, heard_with, sentence_found}
 use Rattle.sentence.proofs.from_sentence.hear_line.Goals as goal
 
 pub slice_bounds-look_line-end : goal.slice_bounds-look_line-end
 slice_bounds-look_line-end c =
-    let fine : around_answer (fed (c.args.line.now)) ≡ Fine =
-    found (fed (c.args.line.now)) c.around_in-found.result Fine c.around_in-found.ensures c.in-Fine.is
-    in
-    omega (arith, line_found (c.args.line.now) fine)
+    omega (arith, line_found c.args.line.now c.in_ok-satellite.satellite (sym c.around_in.ensures ∙ c.in_ok-satellite.was))
 
-pub returns-in-Fine : goal.returns-in-Fine
-returns-in-Fine c =
-    let fine : around_answer (fed (c.args.line.now)) ≡ Fine =
-    found (fed (c.args.line.now)) c.around_in-found.result Fine c.around_in-found.ensures c.in-Fine.is
-    in
-    let both = heard_said (fed (c.args.line.now)) _ (hear_on (c.args.line.now) fine c.satellite_of.result c.around_in-found.result.satellite c.look_line-look.result (found_satellite (fed (c.args.line.now)) c.around_in-found.result c.around_in-found.ensures fine) c.look_line-look.ensures.value c.satellite_of.ensures) in record { value = both.0; answer_value = both.1 }
+pub returns-in_err-look-clause-value : goal.returns-in_err-look-clause-value
+returns-in_err-look-clause-value c =
+    let l = c.args.line.now in
+    let hears = hears_on l c.in_ok-satellite.satellite (sym c.around_in.ensures ∙ c.in_ok-satellite.was) in
+    let told = heard_not c.in_ok-satellite.satellite (line_reading (digits_in l)) _ (sym c.look_line.ensures.value ∙ c.in_err-look.was) in
+    grind (arith, common_steps, hears, told)
 
-pub returns-in-Refused : goal.returns-in-Refused
-returns-in-Refused c =
-    let both = heard_said (fed (c.args.line.now)) _ (hear_not (fed (c.args.line.now)) c.around_in-found.result.answer _ c.refused.result c.in-Refused.is (found (fed (c.args.line.now)) c.around_in-found.result c.around_in-found.result.answer c.around_in-found.ensures refl) c.refused.ensures) in record { value = both.0; answer_value = both.1 }
+pub returns-in_err-look-clause-answer_value : goal.returns-in_err-look-clause-answer_value
+returns-in_err-look-clause-answer_value c =
+    let l = c.args.line.now in
+    let hears = hears_on l c.in_ok-satellite.satellite (sym c.around_in.ensures ∙ c.in_ok-satellite.was) in
+    let v = refused_outcome (line_reading (digits_in l)).answer (looked (seen (line_reading (digits_in l)))) _ (sym c.look_line.ensures.value ∙ c.in_err-look.was) in
+    grind (arith, common_steps, sentence_found, hears, v)
+
+pub returns-clause-value : goal.returns-clause-value
+returns-clause-value c =
+    let l = c.args.line.now in
+    let hears = hears_on l c.in_ok-satellite.satellite (sym c.around_in.ensures ∙ c.in_ok-satellite.was) in
+    let told = heard_with c.in_ok-satellite.satellite (line_reading (digits_in l)) _ (sym c.look_line.ensures.value ∙ c.in_ok-look.was) in
+    grind (arith, common_steps, hears, told)

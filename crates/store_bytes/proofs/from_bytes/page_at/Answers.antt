@@ -6,4 +6,4 @@ use Rattle.store_bytes.proofs.from_bytes.page_at.Goals as goal
 
 pub returns : goal.returns
 returns c =
-    simp (c.text_at-text.ensures, text-found c.args.bytes.now (c.args.at + 1) (omega arith))
+    simp (c.text_at.ensures, text-found c.args.bytes.now (c.args.at + 1) (omega arith))

@@ -1,6 +1,6 @@
 use mathlib.Core.Path.{◌≡◌}
 use mathlib.Core.List.{List, ◌++◌}
-use Prim.Native.Nat.{ℕ, ◌+◌, ◌-◌, ◌*◌, ◌≤◌}
+use Prim.Native.Nat.{ℕ, ◌+◌, ◌-◌, ◌*◌}
 use lib.ListN.{length, replicate}
 use Rattle.rows.specs.Values.{each}
 use Rattle.pages.specs.declared.page.Page.{Page}
@@ -13,7 +13,4 @@ abbrev pub nth : List ℕ → ℕ → Page
 nth l i = page_at l (8 + 19 * i)
 
 abbrev pub invariant-loop-k : goal.invariant-loop-k
-invariant-loop-k l = (l.k ≤ 63) × (l.store.name ≡ name_from l.bytes) × (length l.store.pages ≡ 63) × (l.store.pages ≡ each l.k (nth l.bytes) ++ replicate (63 - l.k) absent_page)
-
-abbrev pub decreases-loop-k : goal.decreases-loop-k
-decreases-loop-k l = 63 - l.k
+invariant-loop-k l = (l.store.name ≡ name_from l.bytes) × (length l.store.pages ≡ 63) × (l.store.pages ≡ each l.k (nth l.bytes) ++ replicate (63 - l.k) absent_page)

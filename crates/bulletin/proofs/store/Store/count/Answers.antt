@@ -1,20 +1,12 @@
 -- `bulletin::store::Store::count` meets its contract.
-use mathlib.Core.Path.{◌≡◌, sym, ◌∙◌}
-use Rattle.rows.specs.declared.refusal.Verdict.TheVariants.{Fine, Refused}
-use Rattle.rows.specs.declared.refusal.Refusal.TheVariants.{Unsound}
-use Rattle.bulletin.specs.Counts.{count_of}
-use Rattle.bulletin.proofs.Stores.Counted.{count_said}
+use borrow.Author.Rules.{rules}
+use mathlib.Core.Path.{◌≡◌, ap, sym, ◌∙◌}
+use Rattle.rows.proofs.Rules.Outcomes.{unless_fine}
+use Rattle.bulletin.proofs.Stores.Counted.{number_of, found, counts}
 use Rattle.bulletin.proofs.store.Store.count.Goals as goal
 
-pub returns-then-is_sound : goal.returns-then-is_sound
-unfolding count_of
-returns-then-is_sound c =
-    let e : record { answer = Fine; held = c.marked.result; disputed = c.marked-then-is_sound.result; lowest = c.lowest.result } ≡ count_of c.args.self =
-    simp (sym c.is_sound.ensures ∙ c.if-is_sound.true, c.marked.ensures, c.marked-then-is_sound.ensures, c.lowest.ensures) in
-    let both = count_said c.args.self _ e in record { value = both.0; answer_value = both.1 }
-
-pub returns : goal.returns
-unfolding count_of
-returns c =
-    let e : record { answer = Refused Unsound; held = 0; disputed = 0; lowest = 0 } ≡ count_of c.args.self = simp (sym c.is_sound.ensures ∙ c.if-is_sound.false) in
-    let both = count_said c.args.self _ e in record { value = both.0; answer_value = both.1 }
+pub returns-clause-value : goal.returns-clause-value
+returns-clause-value c =
+    let sound = sym c.is_sound.ensures ∙ unless_fine _ _ (sym c.in_ok-unless.ensures) in
+    let lowest : c.map_or.result ≡ number_of c.lowest.result = search rules in
+    counts c.args.self.now sound c.marked.ensures c.marked-2.ensures (lowest ∙ ap number_of c.lowest.ensures ∙ found _ _)

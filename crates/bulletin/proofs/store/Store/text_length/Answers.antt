@@ -1,35 +1,33 @@
--- `bulletin::store::Store::text_length` meets its contract: the pages in front decide.
-use borrow.Author.Rules.{rules}
-use mathlib.Core.Path.{◌≡◌, sym, ap, ◌∙◌}
-use Prim.Native.Nat.{ℕ, ◌-◌, ◌*◌}
-use native.Mathlib.Omega.{arith}
-use lib.ListN.{length, get_or}
-use Rattle.pages.specs.Pages.{no_page}
+-- `bulletin::store::Store::text_length` meets its contract: the bytes of the pages behind are zeros.
+use mathlib.Core.Path.{◌≡◌, ◌∙◌, sym}
+use lib.ListN.{length}
+use Rattle.bulletin.specs.Text.{bytes_in_order}
 use Rattle.pages.proofs.Shapes.{shapes}
-use Rattle.bulletin.specs.Text.{bytes_in_order, text_length}
-use Rattle.bulletin.proofs.Telling.PageBytes.{Eighteen, last_page, page_of_zeros, text_length-most}
+use borrow.Author.Rules.{rules}
+use Prim.Native.Nat.{◌<◌, ◌-◌, ◌+◌, ◌*◌}
+use native.Mathlib.Omega.{arith}
+use Rattle.bulletin.proofs.Telling.PageBytes.{Eighteen, ends_at, all_zeros, byte_of_page, zeros_from}
 use Rattle.bulletin.proofs.store.Store.text_length.Goals as goal
 
-pub overflow_add-result : goal.overflow_add-result
-overflow_add-result c =
-    omega (arith, c.page_length-n.ensures, text_length-most 18 (get_or c.args.self.pages (c.loop-i.i - 1) no_page).text)
-
-pub returns-then-n-gt0 : goal.returns-then-n-gt0
-returns-then-n-gt0 c =
-    let long : length c.args.self.pages ≡ 63 = search rules in
-    let eighteen : Eighteen c.args.self.pages = λ i h. search (rules, shapes) in
-    let i = c.loop-i.i in
-    sym (last_page c.args.self.pages (i - 1) i c.page_length-n.result eighteen (omega arith) (omega arith) c.page_length-n.ensures c.if-n-gt0.true) ∙ c.loop-i.invariant.1
+pub returns-in-Some : goal.returns-in-Some
+returns-in-Some c =
+    let p = c.args.self.now.pages in
+    let long : length p ≡ 63 = search rules in
+    let eighteen : Eighteen p = λ i h. search (rules, shapes) in
+    let i = c.loop-i.i - 1 in
+    let last = c.in-Some.last in
+    let short : last < 18 = c.in-Some.ensures.0 in
+    sym (ends_at (18 * c.args.self.now.name.total) (18 * i + last) (bytes_in_order p) (omega arith)
+    (λ e. c.in-Some.ensures.1 (sym (byte_of_page p i eighteen (omega arith) last short) ∙ e))
+    (λ k h. zeros_from p i eighteen (omega arith) (last + 1) _ (λ j l. c.in-Some.ensures.2 j (omega arith)) (λ j l. c.loop-i.invariant j (omega arith)) k (omega arith)))
 
 pub loop-i-preserved : goal.loop-i-preserved
 loop-i-preserved c =
-    let long : length c.args.self.pages ≡ 63 = search rules in
-    let eighteen : Eighteen c.args.self.pages = λ i h. search (rules, shapes) in
-    let i = c.loop-i.i in
-    (omega arith, sym (page_of_zeros c.args.self.pages (i - 1) i c.page_length-n.result eighteen (omega arith) (omega arith) c.page_length-n.ensures (omega arith)) ∙ c.loop-i.invariant.1)
+    let p = c.args.self.now.pages in
+    let long : length p ≡ 63 = search rules in
+    let eighteen : Eighteen p = λ i h. search (rules, shapes) in
+    let i = c.loop-i.i - 1 in
+    λ k h. zeros_from p i eighteen (omega arith) 0 _ (λ j l h. c.in_default.ensures j (omega (arith, eighteen i (omega arith)))) (λ j l. c.loop-i.invariant j (omega arith)) k (omega arith)
 
 pub returns : goal.returns
-unfolding text_length
-returns c =
-    let e : 0 ≡ 18 * c.loop-i.i = omega arith in
-    ap (λ (n : ℕ). text_length n (bytes_in_order c.args.self.pages)) e ∙ c.loop-i.invariant.1
+returns c = sym (all_zeros _ _ (λ k h. c.loop-i.invariant k (omega arith) h))

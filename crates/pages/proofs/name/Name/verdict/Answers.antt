@@ -1,7 +1,10 @@
 -- `pages::name::Name::verdict` meets its contract.
-use Rattle.rows.proofs.Rules.Numbers.{also_said}
+use mathlib.Core.Path.{ap}
+use Rattle.rows.specs.Refusals.{answers}
 use Rattle.pages.proofs.Ranges.{name_found}
 use Rattle.pages.proofs.name.Name.verdict.Goals as goal
 
 pub returns : goal.returns
-returns c = let both = also_said (name_found c.args.self _ c.check.result c.none.ensures c.check.ensures) in record { value = both.0; result_value = both.1 }
+returns c =
+    let found = name_found c.args.self _ c.check.result c.none-2.ensures c.check.ensures in
+    record { value = found; result_value = ap answers found }

@@ -1,5 +1,0 @@
--- `ash_fall::spares` meets its contract.
-use Rattle.ash_fall.proofs.spares.Goals as goal
-
-pub returns : goal.returns
-returns c = simp (c.field64-2.ensures.0, c.field64.ensures.0)

@@ -1,7 +1,0 @@
--- `flood::areas::areas_of` meets its contract.
-use Rattle.slots.specs.Slots.{slots_of}
-use Rattle.flood.proofs.areas.areas_of.Goals as goal
-
-pub returns : goal.returns
-unfolding slots_of
-returns c = simp (c.area_at-3.ensures, c.area_at-2.ensures, c.area_at.ensures, c.none-slots.ensures)

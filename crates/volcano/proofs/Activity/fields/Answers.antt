@@ -1,5 +1,0 @@
--- `volcano::Activity::fields` meets its contract.
-use Rattle.volcano.proofs.Activity.fields.Goals as goal
-
-pub returns : goal.returns
-returns c = simp c.table.ensures
