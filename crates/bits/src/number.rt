@@ -2,6 +2,8 @@
 ghost use Rattle.std.specs.Prelude.{◌≡◌, ℕ, refl, ◌%◌, ◌^◌, ◌≤◌};
 ghost use Rattle.std.proofs.Common.{rules};
 
+use lent::byte_of;
+
 pub trait Number {
     // How many bits it has, how many a field that is read as it has at most, and which number a value of it is.
     ghost size: { ℕ };
@@ -39,7 +41,7 @@ impl Number for u8 {
     ghost MOST = { 8 };
 
     fn lowest(number: u64) -> u8 {
-        (number % 0x100) as u8
+        byte_of(number, 0)
     }
 
     ghost counted = { refl };

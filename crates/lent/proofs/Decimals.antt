@@ -16,7 +16,7 @@ unfolding figures
 by_size f g n true e ih = simp e
 by_size f g n false e ih = simp (e, ih (ltb-false n 10 e))
 
-smaller : (n : ℕ) → 10 ≤ n → n / 10 < n
+pub smaller : (n : ℕ) → 10 ≤ n → n / 10 < n
 smaller n h = div-lt_self {n = n} {k = 10} (omega arith) (omega arith)
 
 -- room for more digits than there are changes nothing
@@ -40,7 +40,7 @@ decimal_more (suc n) h = simp (le-ltb (suc n) 10 h, same_figures n (suc n / 10) 
 pub length-decimal_one : (n : ℕ) → n < 10 → length (decimal n) ≡ 1
 length-decimal_one n h = ap length (decimal_one n h)
 
-length-decimal_more : (n : ℕ) → 10 ≤ n → length (decimal n) ≡ length (decimal (n / 10)) + 1
+pub length-decimal_more : (n : ℕ) → 10 ≤ n → length (decimal n) ≡ length (decimal (n / 10)) + 1
 length-decimal_more n h = simp (decimal_more n h, length-append)
 
 longer : (k n : ℕ) (t : Bool) → ltb n 10 ≡ t → (10 ≤ n → length (decimal (n / 10)) ≤ suc k) → length (decimal n) ≤ suc (suc k)
