@@ -1,13 +1,13 @@
 -- A text in bytes that reach so far, and in bytes that do not.
-use mathlib.Core.Path.{◌≡◌, ap, sym, ◌∙◌}
-use mathlib.Core.Bool.{false}
-use Prim.Native.Nat.{ℕ, ◌+◌, ◌≤◌}
+use mathlib.Core.Path.{◌≡◌, refl, ap, sym, ◌∙◌}
+use mathlib.Core.Bool.{Bool, true, false}
+use Prim.Native.Nat.{ℕ, ◌+◌, ◌-◌, ◌≤◌}
 use native.Mathlib.Omega.{arith}
 use mathlib.Core.List.{List}
 use lib.ListN.{drop, length, length-drop, replicate, take}
 use lib.Seq.{get_or-drop}
 use lib.Dec.{leb}
-use borrow.Author.Tests.{le-leb}
+use borrow.Author.Tests.{leb-true, leb-false, le-leb, lt-leb}
 use Rattle.record_bytes.specs.Text.{text_at, text_or_zeros}
 use Rattle.record_bytes.proofs.FromBytes.Places.{each_same, first-bytes}
 
@@ -26,3 +26,12 @@ text_taken l k n e h =
     ∙ sym (first-bytes 18 (drop k l) (rw (length-drop k l) (omega arith)))
     ∙ each_same 18 _ _ (λ i. get_or-drop k l i 0)
     ∙ sym (text-found l k h)
+
+-- ---- told by the size without a sum, which might not fit
+
+pub room : (size at : ℕ) → 18 ≤ size → leb at (size - 18) ≡ leb (at + 18) size
+room size at h = by_test (leb at (size - 18)) refl
+  where
+    by_test : (b : Bool) → leb at (size - 18) ≡ b → b ≡ leb (at + 18) size
+    by_test true e = sym (le-leb (at + 18) size (omega (arith, leb-true at (size - 18) e)))
+    by_test false e = sym (lt-leb (at + 18) size (omega (arith, leb-false at (size - 18) e)))

@@ -22,7 +22,15 @@ pub row_of_record : (r : Record) → row_seen (Ok tt) (seen_of (Ok (look_at r.bo
 unfolding used_of used_among
 row_of_record r = refl
 
--- of what is seen
+-- of what is seen, with the answer beside it
+seen_by_answer : (v : Verdict) (r : Record) → row_seen v (seen (record { answer = v; «record» = r })) ≡ row_for v r
+seen_by_answer (Ok tt) r = refl
+seen_by_answer (Err x) r = refl
+
+pub row_seen_lem : (r : Reading) → row_seen r.answer (seen r) ≡ row_of r
+row_seen_lem r = seen_by_answer r.answer r.«record»
+
+-- of what is seen, as a look hands it back
 by_answer : (v : Verdict) (r : Record) → row_seen (seen_of (look_told (seen (record { answer = v; «record» = r })))).answer (seen_of (look_told (seen (record { answer = v; «record» = r })))) ≡ row_for v r
 by_answer (Ok tt) r = refl
 by_answer (Err x) r = refl

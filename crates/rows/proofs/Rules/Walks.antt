@@ -44,6 +44,15 @@ pub body_parts : (l : Layout) (c : Common) (v : Sides) (ss : List (List ℕ))
 unfolding body_verdict
 body_parts l c v ss = rw (common-walk l c)
 
+-- the same of what was found part by part, behind what was found before
+pub body_found : (l : Layout) (c : Common) (v : Sides) (ss : List (List ℕ)) (found head front slots r : Verdict)
+    → head ≡ found then common_verdict c (allowed l.rcs c.rc) (allowed l.types c.it)
+    → front ≡ head then walk [] l.front v.front
+    → slots ≡ front then slots_verdict l.slots ss
+    → r ≡ slots then walk [] l.behind v.behind
+    → r ≡ found then body_verdict l (head_values c l.code) v ss
+body_found l c v ss found head front slots r e f g h = rw (h, g, f, e, body_parts l c v ss) (simp then_assoc)
+
 pub no_slots_lem : (k : Slots) → slots_verdict k [] ≡ Ok tt
 unfolding slots_verdict
 no_slots_lem k = refl
