@@ -1,5 +1,6 @@
 // Taking a record into a store.
-ghost use Rattle.std.specs.Prelude.{◌≡◌, ◌-◌, ◌≤◌};
+ghost use Rattle.std.specs.Prelude.{◌≡◌, ◌-◌, ◌≤◌, Ok, Err};
+ghost use Rattle.rows.specs.declared.refusal.Refusal.{Refusal};
 ghost use Rattle.bulletin.specs.Takings.{taking_answer, page_number_in, put_page, take_of, taken_says, take_says};
 
 use crate::store::Store;
@@ -45,6 +46,16 @@ fn admit(name: Name, came: &Record) -> Result<u8, Refusal>
     Ok(page.number)
 }
 
+// What a step refused, as the answer of a taking. Of a step that let the record through it is not asked.
+fn refused<T: Copy>(step: Result<T, Refusal>) -> Result<Took, Refusal>
+    ensures { (x : Refusal) → step ≡ Err x → result ≡ Err x }
+{
+    match step {
+        Err(refusal) => Err(refusal),
+        Ok(_) => Ok(Took::Same),
+    }
+}
+
 impl Store {
     // The page of this number is joined with one held with the text.
     #[tactic(auto, unfolding(crate::specs::Takings::put_page))]
@@ -59,15 +70,24 @@ impl Store {
         told(&before, &after)
     }
 
-    // 14, then what writing to 32 bytes refuses, then 12 and 13. A refused record leaves the store as it was.
+    // 14, then what writing to 32 bytes refuses, then 12 and 13: a refusal goes out at once, and the store stays as it was.
     #[tactic(auto, unfolding(crate::specs::Takings::taking, crate::specs::Takings::admission))]
     pub fn take(&mut self, came: &Record) -> Result<Took, Refusal>
         ensures value { (result ≡ (take_of self.old came.now).answer) × (self.new ≡ (take_of self.old came.now).store) }
         ensures answer_value { taken_says result ≡ take_says self.old came.now }
     {
-        unless(self.is_sound(), Refusal::Unsound)?;
-        write_answer(came, 32)?;
-        let number = admit(self.name, came)?;
+        let sound = unless(self.is_sound(), Refusal::Unsound);
+        let Ok(()) = sound else {
+            return refused(sound);
+        };
+        let written = write_answer(came, 32);
+        let Ok(()) = written else {
+            return refused(written);
+        };
+        let admitted = admit(self.name, came);
+        let Ok(number) = admitted else {
+            return refused(admitted);
+        };
         Ok(self.put(number, &came.text))
     }
 }
