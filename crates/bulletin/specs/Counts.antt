@@ -34,9 +34,17 @@ count_of s =
     (record { answer = Ok tt; held = count_marked 1 s.pages; disputed = count_marked 2 s.pages; lowest = lowest_not_held s.name.total 0 s.pages })
     (record { answer = Err Unsound; held = 0; disputed = 0; lowest = 0 })
 
+-- the numbers alone
+abbrev pub counts_in : Counted → Count
+counts_in c = record { held = c.held; disputed = c.disputed; lowest = c.lowest }
+
 -- what is handed back
 abbrev pub count_told : Counted → Result Count Refusal
-count_told c = outcome c.answer (record { held = c.held; disputed = c.disputed; lowest = c.lowest })
+count_told c = outcome c.answer (counts_in c)
+
+-- what stands in place of a refusal
+abbrev pub no_count : Count
+no_count = record { held = 0; disputed = 0; lowest = 0 }
 
 -- what the report says, in the paper's numbers
 abbrev pub count_says : Store → Said

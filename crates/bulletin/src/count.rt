@@ -1,7 +1,8 @@
 // What a store has: how many pages are held, how many are disputed, and the lowest that is not held.
 ghost use Rattle.std.specs.Prelude.{◌≡◌, not, eqb, take, position};
+ghost use Rattle.std.specs.Result.{result_unwrap_or};
 ghost use Rattle.rows.specs.Refusals.{answers};
-ghost use Rattle.bulletin.specs.Counts.{count_marked, count_of, count_told, count_says};
+ghost use Rattle.bulletin.specs.Counts.{count_marked, count_of, counts_in, count_told, no_count, count_says};
 
 use crate::store::Store;
 use rows::question::unless;
@@ -43,6 +44,7 @@ impl Store {
     pub fn count(&self) -> Result<Count, Refusal>
         ensures value { result ≡ count_told (count_of self.now) }
         ensures answer_value { answers result ≡ count_says self.now }
+        ensures zeros { result_unwrap_or result no_count ≡ counts_in (count_of self.now) }
     {
         unless(self.is_sound(), Refusal::Unsound)?;
         Ok(Count {

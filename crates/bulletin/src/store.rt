@@ -1,5 +1,6 @@
 // A store of pages, opened for one bulletin, without a page.
 ghost use Rattle.std.specs.Prelude.{◌≡◌};
+ghost use Rattle.std.specs.Result.{result_unwrap_or};
 ghost use Rattle.std.specs.List.{list_all, enumerate_from};
 ghost use Rattle.rows.specs.Refusals.{answers, outcome};
 ghost use Rattle.pages.specs.Names.{name_says};
@@ -41,6 +42,7 @@ impl Store {
     pub fn open(name: Name) -> Result<Store, Refusal>
         ensures value { result ≡ outcome (open_of name).answer (open_of name).store }
         ensures answer_value { answers result ≡ name_says name }
+        ensures zeros { result_unwrap_or result zero_store ≡ (open_of name).store }
     {
         name.verdict()?;
         Ok(Store::without_pages(name))

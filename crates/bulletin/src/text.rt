@@ -1,5 +1,6 @@
 // The text of a store whose pages are all held.
 ghost use Rattle.std.specs.Prelude.{◌≡◌, ◌++◌, ◌+◌, ◌<◌, ◌≤◌, ◌≢◌, ℕ, length, take, drop, slice_index, EachIndex, MatchOption};
+ghost use Rattle.std.specs.Result.{result_unwrap_or};
 ghost use Rattle.std.proofs.Math.Seq.{paste};
 ghost use Rattle.rows.specs.Refusals.{answers, outcome};
 ghost use Rattle.bulletin.specs.Text.{bytes_in_order, text_length_of, why_not_held, text_verdict, text_answer, text_buffer, text_says};
@@ -85,6 +86,7 @@ impl Store {
         ensures value { let told = text_answer self.now (length out.old) in
             (result ≡ outcome told.answer told.length) × (out.new ≡ text_buffer self.now out.old) }
         ensures answer_value { answers result ≡ text_says self.now (length out.old) }
+        ensures zeros { result_unwrap_or result 0 ≡ (text_answer self.now (length out.old)).length }
     {
         self.check_whole()?;
         let n = self.text_length();

@@ -1,7 +1,9 @@
 // From a line to a frame, and to what the frame says.
-ghost use Rattle.std.specs.Prelude.{◌≡◌, ℕ, [], ◌∷◌, ◌++◌, ◌<◌, get_or, length};
+ghost use Rattle.std.specs.Prelude.{◌≡◌, ℕ, [], ◌∷◌, ◌++◌, ◌<◌, get_or, length, replicate};
+ghost use Rattle.std.specs.Result.{result_unwrap_or};
 ghost use Rattle.line.specs.Lines.{digit_of, paired, frame_in, framing, framing_says, line_reading, line_says};
-ghost use Rattle.report.specs.Runs.Reading.{look_told, seen};
+ghost use Rattle.report.specs.Records.{zeros};
+ghost use Rattle.report.specs.Runs.Reading.{look_told, looked, nothing_looked, seen};
 ghost use Rattle.rows.specs.Refusals.{answers, outcome};
 
 use report::look::Looked;
@@ -70,37 +72,41 @@ fn frame_in(line: &[u8]) -> Option<[u8; 32]>
     Some(pairs(values))
 }
 
-// The frame of a line, whatever it holds.
-#[tactic(auto, using(crate::proofs::LineEnds::framing_told, crate::proofs::LineEnds::framing_said))]
+// The frame of a line, whatever it holds. What it takes of the stack is given back before the frame is read.
+#[inline(never)]
+#[tactic(auto, using(crate::proofs::LineEnds::framing_told, crate::proofs::LineEnds::framing_said, crate::proofs::LineEnds::frame_or_zeros))]
 pub fn frame_of_line(line: &[u8]) -> Result<[u8; 32], Refusal>
     ensures value { result ≡ outcome (framing line.now).answer (framing line.now).frame }
     ensures answer_value { answers result ≡ framing_says line.now }
+    ensures zeros { result_unwrap_or result (replicate 32 0) ≡ (framing line.now).frame }
 {
     frame_in(line).ok_or(Refusal::Line)
 }
 
-// What a line says, whatever it holds. Here and below the frame is handed on by an Option: in a Result it would share its bytes with
-// the value of a refusal, and the compiler would move them one by one.
+// What a line says, whatever it holds. Here and below no other refusal than 17 can come of the frame: said so, the compiler need not
+// move the bytes of one.
 #[tactic(auto, using(crate::proofs::LineEnds::reads_on, crate::proofs::LineEnds::reads_no_more, crate::proofs::LineEnds::line_said))]
 pub fn read_line(line: &[u8]) -> Result<Record, Refusal>
     ensures value { result ≡ outcome (line_reading line.now).answer (line_reading line.now).record }
     ensures answer_value { answers result ≡ line_says line.now }
+    ensures zeros { result_unwrap_or result zeros ≡ (line_reading line.now).record }
 {
-    match frame_in(line) {
-        Some(frame) => report::read::read(&frame),
-        None => Err(Refusal::Line),
-    }
+    let Ok(frame) = frame_of_line(line) else {
+        return Err(Refusal::Line);
+    };
+    report::read::read(&frame)
 }
 
 // What is seen of a line, whatever it holds. One function for both would take what it calls as a closure, with a clause for each
 // of the two results, and be longer than either.
-#[tactic(auto, using(crate::proofs::LineEnds::reads_on, crate::proofs::LineEnds::reads_no_more, crate::proofs::LineEnds::look_said))]
+#[tactic(auto, using(crate::proofs::LineEnds::reads_on, crate::proofs::LineEnds::reads_no_more, crate::proofs::LineEnds::looks_no_more, crate::proofs::LineEnds::look_said))]
 pub fn look_line(line: &[u8]) -> Result<Looked, Refusal>
     ensures value { result ≡ look_told (seen (line_reading line.now)) }
     ensures answer_value { answers result ≡ line_says line.now }
+    ensures zeros { result_unwrap_or result nothing_looked ≡ looked (seen (line_reading line.now)) }
 {
-    let Some(frame) = frame_in(line) else {
-        return Err(Refusal::Line);
-    };
-    report::look::look(&frame)
+    match frame_of_line(line) {
+        Ok(frame) => report::look::look(&frame),
+        Err(_) => Err(Refusal::Line),
+    }
 }

@@ -16,6 +16,9 @@ read_is_settled κs a x y = beside answer
 pub look_is_settled : Settled promised.look.look.ended report.look.look.Reads.Post
 look_is_settled κs a x y = beside answer
 
+pub Looked-of_zeros_is_settled : Settled promised.look.Looked.of_zeros.ended report.look.Looked.of_zeros.Reads.Post
+Looked-of_zeros_is_settled κs a x y = answer
+
 pub Looked-of_is_settled : Settled promised.look.Looked.of.ended report.look.Looked.of.Reads.Post
 Looked-of_is_settled κs a x y = answer
 

@@ -1,7 +1,8 @@
 // A look at a lent frame: what `read` answers, without the record.
 ghost use Rattle.std.specs.Prelude.{◌≡◌, map};
+ghost use Rattle.std.specs.Result.{result_unwrap_or};
 ghost use Rattle.slots.specs.Slots.{slot_parts, used_among};
-ghost use Rattle.report.specs.Runs.Reading.{read_of, read_says, seen, look_told, look_at};
+ghost use Rattle.report.specs.Runs.Reading.{read_of, read_says, seen, look_told, look_at, looked, nothing_looked};
 ghost use Rattle.rows.specs.Refusals.{answers};
 
 use crate::body::Body;
@@ -37,6 +38,17 @@ impl Looked {
         }
     }
 
+    // What is seen where a look is refused: whoever wants it all the same asks by `look(frame).unwrap_or(Looked::of_zeros())`.
+    pub fn of_zeros() -> Looked
+        ensures { result ≡ nothing_looked }
+    {
+        Looked {
+            category: 0,
+            count: 0,
+            used: 0,
+        }
+    }
+
     // What is seen of a record.
     pub fn of(came: &Record) -> Looked
         ensures { result ≡ look_at came.now.body came.now.slots }
@@ -50,6 +62,7 @@ impl Looked {
 pub fn look(frame: &[u8]) -> Result<Looked, Refusal>
     ensures value { result ≡ look_told (seen (read_of frame.now)) }
     ensures answer_value { answers result ≡ read_says frame.now }
+    ensures zeros { result_unwrap_or result nothing_looked ≡ looked (seen (read_of frame.now)) }
 {
     let content = content(frame)?;
     Ok(Looked::at(content.body, &content.slots))

@@ -1,7 +1,8 @@
 // Reading a lent frame: what is refused is decided before a record is made.
 ghost use Rattle.std.specs.Prelude.{◌≡◌};
+ghost use Rattle.std.specs.Result.{result_unwrap_or};
 ghost use Rattle.bits.specs.Frame.{frame_in};
-ghost use Rattle.report.specs.Records.{body_of};
+ghost use Rattle.report.specs.Records.{body_of, zeros};
 ghost use Rattle.report.specs.Runs.Reading.{outer_of, content_as, read_answer, read_of, read_says};
 ghost use Rattle.rows.specs.Refusals.{answers, outcome};
 
@@ -34,10 +35,12 @@ pub(crate) fn content(frame: &[u8]) -> Result<Content, Refusal>
     Content::of(frame)
 }
 
-// Reads a lent frame, of whatever length and content. No record leaves with a refusal.
+// Reads a lent frame, of whatever length and content. No record leaves with a refusal: whoever wants one all the same, as
+// `read(frame).unwrap_or(Record::of_zeros())`, gets zeros.
 pub fn read(frame: &[u8]) -> Result<Record, Refusal>
     ensures value { result ≡ outcome (read_of frame.now).answer (read_of frame.now).record }
     ensures answer_value { answers result ≡ read_says frame.now }
+    ensures zeros { result_unwrap_or result zeros ≡ (read_of frame.now).record }
 {
     let content = content(frame)?;
     let slots = content.slots;

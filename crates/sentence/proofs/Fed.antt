@@ -43,18 +43,21 @@ form_of_77 l n =
     simp (long, eq-eqb (length l) 77 n, begins-front head l (10 ∷ []) (omega arith), at 9 (omega arith), at 73 (omega arith), at 74 (omega arith), at 75 (omega arith), at 76 (omega arith), last_fed l 77 n, and-true, and_assoc)
 
 -- of another number
-no_form_fed : (l : List ℕ) → (length l ≡ 77 → ⊥) → has_form (fed l) ≡ marked l && two_digits l
+pub no_form_fed : (l : List ℕ) → (length l ≡ 77 → ⊥) → false ≡ has_form (fed l)
 unfolding has_form
 no_form_fed l n =
     let short : eqb (length (fed l)) 78 ≡ false = ne_eqb (length (fed l)) 78 (λ e. n (omega (arith, length-append l (10 ∷ [])))) in
-    simp (short, ne_eqb (length l) 77 n)
+    simp short
+
+form_of_other : (l : List ℕ) → (length l ≡ 77 → ⊥) → has_form (fed l) ≡ marked l && two_digits l
+form_of_other l n = sym (no_form_fed l n) ∙ simp (ne_eqb (length l) 77 n)
 
 pub form_marked : (l : List ℕ) → has_form (fed l) ≡ marked l && two_digits l
 form_marked l = by (eqb (length l) 77) refl
   where
     by : (t : Bool) → eqb (length l) 77 ≡ t → has_form (fed l) ≡ marked l && two_digits l
     by true e = form_of_77 l (eqb-true (length l) 77 e)
-    by false e = no_form_fed l (eqb-false (length l) 77 e)
+    by false e = form_of_other l (eqb-false (length l) 77 e)
 
 pub marked_long : (l : List ℕ) → marked l ≡ true → length l ≡ 77
 marked_long l e = eqb-true (length l) 77 (and_both (eqb (length l) 77) _ e).0

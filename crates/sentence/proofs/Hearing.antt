@@ -1,5 +1,6 @@
 -- What reading a sentence answers: what stands around its digits, then what they say.
 use Rattle.std.specs.Prelude.{Result, Ok, Err}
+use Rattle.std.specs.Result.{result_unwrap_or}
 use mathlib.Core.Path.{◌≡◌, refl, sym, ap, ◌∙◌}
 use mathlib.Core.Bool.{Bool, true, false}
 use mathlib.Core.List.{List, [], ◌∷◌}
@@ -16,11 +17,11 @@ use Rattle.rows.proofs.Rules.Outcomes.{fine_both, unless_fine, made_outcome, met
 use Rattle.report.specs.declared.record.Record.{Record}
 use Rattle.report.specs.declared.look.Looked.{Looked}
 use Rattle.report.specs.Records.{record_of}
-use Rattle.report.specs.Runs.Reading.{look_told, read_answer, seen, Reading}
+use Rattle.report.specs.Runs.Reading.{look_told, looked, read_answer, seen, Reading, Seen}
 use Rattle.report.proofs.Reading.ReadSteps.{answer_found}
 use Rattle.line.specs.Lines.{is_line, frame_of_line, line_reading}
 use Rattle.line.proofs.ReadLines.{line_reads, no_line_reads}
-use Rattle.sentence.specs.Sentences.{satellites, checksum, between, digits_in, satellite_in, told_in, has_form, around_refused, around_as, around_answer, around_of, satellite_of, behind, unheard, sentence_reading, sentence_answer, heard_of, heard_told, looked, received, received_told, fed, Around, Received}
+use Rattle.sentence.specs.Sentences.{satellites, checksum, between, digits_in, satellite_in, told_in, has_form, around_refused, around_as, around_answer, around_of, satellite_of, behind, unheard, sentence_reading, sentence_answer, heard_of, heard_told, received, received_told, fed, Around, Received, Heard}
 use Rattle.sentence.specs.declared.from_sentence.Reception.{Reception}
 use Rattle.sentence.specs.declared.from_sentence.Hearing.{Hearing}
 use Rattle.sentence.specs.Reasons.{Formed}
@@ -105,6 +106,16 @@ long_found s e = (formed s (around_met s e).0).long
 pub around_refused_lem : (s : List ℕ) (x : Refusal) → around_refused x ≡ around_of s → sentence_answer s ≡ Err x
 around_refused_lem s x e = sym (sentence_answer_lem s) ∙ sym (ap (λ (r : Received). r.reading.answer) (read_not s (Err x) x refl (found s (around_refused x) (Err x) e refl)))
 
+-- ---- what is handed back, with zeros in place of a refusal
+
+pub satellite_or_zero : (s : List ℕ) (t : Result ℕ Refusal) → t ≡ outcome (around_of s).answer (around_of s).satellite → result_unwrap_or t 0 ≡ (around_of s).satellite
+unfolding around_of
+satellite_or_zero s t e = by (around_answer s) (e ∙ around_outcome s)
+  where
+    by : (v : Verdict) → t ≡ outcome v (satellite_in s) → result_unwrap_or t 0 ≡ (around_as v s).satellite
+    by (Ok tt) m = ap (λ (x : Result ℕ Refusal). result_unwrap_or x 0) m
+    by (Err x) m = ap (λ (x : Result ℕ Refusal). result_unwrap_or x 0) m
+
 -- ---- what is handed back
 
 -- what has not the form of a sentence
@@ -140,6 +151,15 @@ module _ (l : List ℕ) (n : ℕ) (e : outcome (around_of (fed l)).answer (aroun
 
   pub hears_on : sentence_reading (fed l) ≡ received n (line_reading (digits_in l))
   hears_on = reads_on (fed l) n e ∙ ap (λ (d : List ℕ). received n (line_reading d)) (digits-fed l line_found)
+
+-- and what is heard of it, from what is seen of its digits
+module _ (l : List ℕ) (e : around_answer (fed l) ≡ Ok tt) where
+  pub hear_on : (n k : ℕ) (h : Seen) → k ≡ satellite_in (fed l) → h ≡ seen (line_reading (digits_in l)) → n ≡ satellite_of h.answer k → ◌≡◌ {A = Heard} (record { satellite = n; look = h }) (heard_of (sentence_reading (fed l)))
+  hear_on n k h a b c =
+      let long : length l ≡ 77 = omega (arith, long_found (fed l) e, length-append l (10 ∷ [])) in
+      let same : h ≡ seen (line_reading (digits_in (fed l))) = b ∙ sym (ap (λ (d : List ℕ). seen (line_reading d)) (digits-fed l long)) in
+      (λ i. record { satellite = (c ∙ ap (λ (x : Seen). satellite_of x.answer k) same) i; look = same i })
+      ∙ ap heard_of (read_on (fed l) e (satellite_of (line_reading (digits_in (fed l))).answer k) k (line_reading (digits_in (fed l))) a refl refl)
 
 -- what is handed back of it: a refusal alone, or the satellite with the record, and with what is seen
 module _ (n : ℕ) where

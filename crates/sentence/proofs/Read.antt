@@ -1,6 +1,14 @@
 -- What a sentence that is read tells, and what one that is refused does not.
-use Rattle.std.specs.Prelude.{Ok, Err}
-use Rattle.rows.specs.Refusals.{Verdict}
+use Rattle.std.specs.Prelude.{Result, Ok, Err}
+use Rattle.std.specs.Result.{result_unwrap_or}
+use Rattle.rows.specs.Refusals.{outcome, Verdict}
+use Rattle.rows.specs.Runs.Verdict.{empty}
+use Rattle.slots.specs.Slots.{used_among}
+use Rattle.report.specs.declared.record.Record.{Record}
+use Rattle.report.specs.Meaning.{used_of}
+use Rattle.report.specs.Runs.Reading.{looked, seen}
+use Rattle.sentence.specs.declared.from_sentence.Reception.{Reception}
+use Rattle.sentence.specs.declared.from_sentence.Hearing.{Hearing}
 use mathlib.Core.Path.{◌≡◌, refl, sym, ap, ◌∙◌}
 use mathlib.Core.Bool.{true}
 use mathlib.Core.List.{List, [], ◌∷◌, ◌++◌}
@@ -18,10 +26,10 @@ use Rattle.line.proofs.Pairs.{frame-length}
 use Rattle.line.proofs.ReadLines.{refused_zeros}
 use Rattle.line.proofs.ThereAndBack.{line_back}
 use Rattle.rows.proofs.Rules.Spans.{allowed_in}
-use Rattle.sentence.specs.Sentences.{satellites, checksum, part, between, digits_in, satellite_in, told_in, around_answer, satellite_of, behind, sentence_reading, sentence_answer, sentence_of, send_answer}
+use Rattle.sentence.specs.Sentences.{satellites, checksum, part, between, digits_in, satellite_in, told_in, around_answer, satellite_of, behind, sentence_reading, sentence_answer, sentence_of, send_answer, reception, received_told, no_reception, heard_of, hearing, heard_told, no_hearing}
 use Rattle.sentence.specs.Reasons.{Formed, Names}
 use Rattle.sentence.proofs.Asked.{read_exactly, sent_exactly}
-use Rattle.sentence.proofs.Hearing.{around_fine, around_met, sentence_answer_lem}
+use Rattle.sentence.proofs.Hearing.{around_fine, around_met, sentence_answer_lem, sentence_found}
 use Rattle.sentence.proofs.Pieces as Pieces
 use Rattle.sentence.proofs.Satellites.{listed_above, listed_below, number_named}
 use Rattle.sentence.proofs.Written.{written-digits}
@@ -38,6 +46,31 @@ nothing_behind (Err y) s x e = (refl, refl)
 pub refused_nothing : (s : List ℕ) (x : Refusal) → sentence_answer s ≡ Err x → ((sentence_reading s).satellite ≡ 0) × ((sentence_reading s).reading.«record» ≡ zeros)
 unfolding sentence_reading
 refused_nothing s x e = nothing_behind (around_answer s) s x (sentence_answer_lem s ∙ e)
+
+-- so what is handed back, with zeros in place of a refusal, is what is read
+pub reception_or_zeros : (s : List ℕ) (t : Result Reception Refusal) → t ≡ received_told (sentence_reading s) → result_unwrap_or t no_reception ≡ reception (sentence_reading s)
+reception_or_zeros s t e = by (sentence_reading s).reading.answer refl e
+  where
+    by : (v : Verdict) → (sentence_reading s).reading.answer ≡ v → t ≡ outcome v (reception (sentence_reading s)) → result_unwrap_or t no_reception ≡ reception (sentence_reading s)
+    by (Ok tt) f g = ap (λ (y : Result Reception Refusal). result_unwrap_or y no_reception) g
+    by (Err x) f g =
+        let nothing = refused_nothing s x (sentence_found s ∙ f) in
+        ap (λ (y : Result Reception Refusal). result_unwrap_or y no_reception) g ∙ (λ i. record { satellite = sym nothing.0 i; «record» = sym nothing.1 i })
+
+-- and what is heard, what is seen of it
+nothing_heard : (n : ℕ) (v : Verdict) (r : Record) → n ≡ 0 → r ≡ zeros → hearing (record { satellite = n; look = seen (record { answer = v; «record» = r }) }) ≡ no_hearing
+unfolding used_of used_among empty zeros
+nothing_heard n v r e f = λ i. record { satellite = e i; look = looked (seen (record { answer = v; «record» = f i })) }
+
+pub hearing_or_zeros : (s : List ℕ) (t : Result Hearing Refusal) → t ≡ heard_told (heard_of (sentence_reading s)) → result_unwrap_or t no_hearing ≡ hearing (heard_of (sentence_reading s))
+hearing_or_zeros s t e = by (sentence_reading s).reading.answer refl e
+  where
+    by : (v : Verdict) → (sentence_reading s).reading.answer ≡ v → t ≡ outcome v (hearing (heard_of (sentence_reading s))) → result_unwrap_or t no_hearing ≡ hearing (heard_of (sentence_reading s))
+    by (Ok tt) f g = ap (λ (y : Result Hearing Refusal). result_unwrap_or y no_hearing) g
+    by (Err x) f g =
+        let nothing = refused_nothing s x (sentence_found s ∙ f) in
+        ap (λ (y : Result Hearing Refusal). result_unwrap_or y no_hearing) g
+        ∙ sym (nothing_heard _ (sentence_reading s).reading.answer _ nothing.0 nothing.1)
 
 -- ---- read
 

@@ -5,7 +5,7 @@ use Rattle.settled.specs.Settled.{Settled}
 use Rattle.settled.proofs.Law.{answer, both, beside, third}
 
 pub around_is_settled : Settled promised.from_sentence.around.ended sentence.from_sentence.around.Reads.Post
-around_is_settled κs a x y = answer
+around_is_settled κs a x y = beside answer
 
 pub read_sentence_is_settled : Settled promised.from_sentence.read_sentence.ended sentence.from_sentence.read_sentence.Reads.Post
 read_sentence_is_settled κs a x y = beside answer

@@ -9,8 +9,8 @@ use Rattle.rows.specs.Refusals.{answers, outcome, Verdict}
 use Rattle.rows.specs.Layout.{Span, ◌to◌}
 use Rattle.rows.specs.Runs.Questions.{◌then◌, unless}
 use Rattle.rows.specs.Runs.Verdict.{allowed}
-use Rattle.report.specs.Runs.Reading.{read_answer, seen, unread, Reading, Seen}
-use Rattle.report.specs.declared.look.Looked.{Looked}
+use Rattle.report.specs.Records.{zeros}
+use Rattle.report.specs.Runs.Reading.{looked, nothing_looked, read_answer, seen, unread, Reading, Seen}
 use Rattle.sentence.specs.declared.from_sentence.Reception.{Reception}
 use Rattle.sentence.specs.declared.from_sentence.Hearing.{Hearing}
 use Rattle.line.specs.Lines.{digits, worth, capital, is_line, frame_of_line, line_reading, line_of}
@@ -144,15 +144,26 @@ sentence_says s = answers (sentence_answer s)
 abbrev pub heard_of : Received → Heard
 heard_of r = record { satellite = r.satellite; look = seen r.reading }
 
+-- the same without the answers
+abbrev pub reception : Received → Reception
+reception r = record { satellite = r.satellite; «record» = r.reading.«record» }
+
+abbrev pub hearing : Heard → Hearing
+hearing h = record { satellite = h.satellite; look = looked h.look }
+
 -- what a call hands back
 abbrev pub received_told : Received → Result Reception Refusal
-received_told r = outcome r.reading.answer (record { satellite = r.satellite; «record» = r.reading.«record» })
-
-abbrev pub looked : Seen → Looked
-looked s = record { category = s.category; count = s.count; used = s.used }
+received_told r = outcome r.reading.answer (reception r)
 
 abbrev pub heard_told : Heard → Result Hearing Refusal
-heard_told h = outcome h.look.answer (record { satellite = h.satellite; look = looked h.look })
+heard_told h = outcome h.look.answer (hearing h)
+
+-- what stands in place of a refusal
+abbrev pub no_reception : Reception
+no_reception = record { satellite = 0; «record» = zeros }
+
+abbrev pub no_hearing : Hearing
+no_hearing = record { satellite = 0; look = nothing_looked }
 
 -- a line of a receiver's output, which lacks its line feed, as a sentence
 abbrev pub fed : List ℕ → List ℕ

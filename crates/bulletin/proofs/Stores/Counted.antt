@@ -1,5 +1,9 @@
 -- How the pages of a store are counted and searched, as laws of lists, and what their report says.
-use Rattle.std.specs.Prelude.{Ok, Option, None, Some}
+use Rattle.std.specs.Prelude.{Result, Ok, Err, Option, None, Some}
+use Rattle.std.specs.Result.{result_unwrap_or}
+use Rattle.rows.specs.declared.refusal.Refusal.{Refusal}
+use Rattle.rows.specs.declared.refusal.Refusal.TheVariants.{Unsound}
+use Rattle.bulletin.specs.declared.count.Count.{Count}
 use mathlib.Core.Path.{◌≡◌, refl, ap, sym, ◌∙◌}
 use mathlib.Core.Bool.{Bool, true, false, not, cond}
 use mathlib.Core.List.{List, [], ◌∷◌}
@@ -18,7 +22,7 @@ use Rattle.bulletin.specs.declared.store.Store.{Store}
 use Rattle.bulletin.specs.Stores.{sound_store}
 use borrow.Author.Tests.{eq-eqb, ne_eqb, lt-ltb, le-ltb}
 use Rattle.pages.specs.Pages.{no_page}
-use Rattle.bulletin.specs.Counts.{count_marked, lowest_not_held, count_of, count_told}
+use Rattle.bulletin.specs.Counts.{count_marked, lowest_not_held, count_of, counts_in, count_told, no_count, Counted}
 
 -- ---- counts
 
@@ -113,3 +117,18 @@ pub counts : (s : Store) {held disputed lowest : ℕ} → sound_store s ≡ true
     → lowest ≡ lowest_not_held s.name.total 0 s.pages → Ok (record { held = held; disputed = disputed; lowest = lowest }) ≡ count_told (count_of s)
 unfolding count_of
 counts s e f g h = (λ j. Ok (record { held = f j; disputed = g j; lowest = h j })) ∙ sym (rw e)
+
+-- the numbers are what is handed back, with zeros in place of a refusal
+pub counts_or_zeros : (s : Store) (t : Result Count Refusal) → t ≡ count_told (count_of s) → result_unwrap_or t no_count ≡ counts_in (count_of s)
+unfolding count_of
+counts_or_zeros s t e = by (sound_store s) e
+  where
+    reported : Counted
+    reported = record { answer = Ok tt; held = count_marked 1 s.pages; disputed = count_marked 2 s.pages; lowest = lowest_not_held s.name.total 0 s.pages }
+
+    refused : Counted
+    refused = record { answer = Err Unsound; held = 0; disputed = 0; lowest = 0 }
+
+    by : (b : Bool) → t ≡ count_told (cond b reported refused) → result_unwrap_or t no_count ≡ counts_in (cond b reported refused)
+    by true m = ap (λ (x : Result Count Refusal). result_unwrap_or x no_count) m
+    by false m = ap (λ (x : Result Count Refusal). result_unwrap_or x no_count) m

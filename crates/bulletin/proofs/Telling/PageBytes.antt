@@ -17,7 +17,7 @@ use Rattle.bulletin.specs.Text.{bytes_in_order, text_length}
 abbrev pub Eighteen : List Page → Type 0
 Eighteen l = (i : ℕ) → i < length l → length (get_or l i no_page).text ≡ 18
 
-length-flat : (l : List Page) → Eighteen l → length (bytes_in_order l) ≡ 18 * length l
+pub length-flat : (l : List Page) → Eighteen l → length (bytes_in_order l) ≡ 18 * length l
 unfolding bytes_in_order
 length-flat [] h = refl
 length-flat (p ∷ l) h =

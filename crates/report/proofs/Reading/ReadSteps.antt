@@ -1,12 +1,13 @@
 -- The three ways out of reading and of looking, and what each of them says.
 use Rattle.std.specs.Prelude.{Result, Ok, Err}
+use Rattle.std.specs.Result.{result_unwrap_or}
 use mathlib.Core.Path.{◌≡◌, refl, sym, ap, ◌∙◌}
 use Prim.Native.Nat.{ℕ}
 use mathlib.Core.List.{List}
 use lib.ListN.{length}
 use borrow.Author.Tests.{eqb-true}
 use lib.Dec.{eqb}
-use Rattle.rows.proofs.Rules.Outcomes.{fine_both, made_outcome, unless_fine}
+use Rattle.rows.proofs.Rules.Outcomes.{fine_both, made_outcome, refused_outcome, unless_fine}
 use Rattle.report.proofs.Reading.Agree.{content_agrees}
 use Rattle.bits.specs.Frame.{frame_in}
 use Rattle.bits.proofs.Inside.{frame_lent}
@@ -21,7 +22,7 @@ use Rattle.report.specs.declared.look.Looked.{Looked}
 use Rattle.report.specs.Meaning.{used_of}
 use Rattle.rows.specs.Runs.Verdict.{empty}
 use Rattle.slots.specs.Slots.{used_among}
-use Rattle.report.specs.Runs.Reading.{outer_of, content_answer, content_as, found_as, look_at, look_told, not_seen, read_answer, read_of, reading, seen, unread}
+use Rattle.report.specs.Runs.Reading.{outer_of, content_answer, content_as, found_as, look_at, look_told, looked, not_seen, nothing_looked, read_answer, read_of, reading, seen, unread}
 
 -- a lent slice of 32 bytes is the frame that it holds
 pub frame_known : (s : List ℕ) → unless (eqb (length s) 32) Length ≡ Ok tt → frame_in s ≡ s
@@ -46,6 +47,17 @@ pub read_told : (v : Verdict) (r : Record) → outcome (reading v r).answer (rea
 read_told (Ok tt) r = refl
 read_told (Err x) r = refl
 
+-- the record is what is handed back, with zeros in place of a refusal
+pub record_or_zeros : (v : Verdict) (r : Record) (t : Result Record Refusal) → t ≡ outcome (reading v r).answer (reading v r).«record» → result_unwrap_or t zeros ≡ (reading v r).«record»
+record_or_zeros (Ok tt) r t e = ap (λ (x : Result Record Refusal). result_unwrap_or x zeros) e
+record_or_zeros (Err y) r t e = ap (λ (x : Result Record Refusal). result_unwrap_or x zeros) e
+
+-- and so is what is seen
+pub look_or_zeros : (v : Verdict) (r : Record) (t : Result Looked Refusal) → t ≡ look_told (seen (reading v r)) → result_unwrap_or t nothing_looked ≡ looked (seen (reading v r))
+unfolding used_of used_among empty zeros
+look_or_zeros (Ok tt) r t e = ap (λ (x : Result Looked Refusal). result_unwrap_or x nothing_looked) e
+look_or_zeros (Err y) r t e = ap (λ (x : Result Looked Refusal). result_unwrap_or x nothing_looked) e
+
 abbrev look_of : Content → Result Looked Refusal
 look_of x = Ok (look_at x.body x.slots)
 
@@ -61,6 +73,10 @@ unfolding record_as
 look_made s x e =
     let made = made_outcome (read_answer s) (content_as s (body_of s)) x e in
     look_seen (read_answer s) (record_of s) ∙ ap (λ (v : Verdict). outcome v (look_at (body_of s) (content_as s (body_of s)).slots)) made.0 ∙ ap (λ (c : Content). look_of c) (sym made.1)
+
+-- a refused one hands back the refusal
+pub look_refused : (s : List ℕ) (x : Refusal) → outcome (read_answer s) (content_as s (body_of s)) ≡ Err x → look_told (seen (read_of s)) ≡ Err x
+look_refused s x e = ap (λ (v : Verdict). look_told (seen (reading v (record_of s)))) (refused_outcome (read_answer s) (content_as s (body_of s)) x e)
 
 -- nothing is seen of a frame that is refused
 pub nothing_seen : (v : Verdict) → not_seen v ≡ seen (unread v)

@@ -100,6 +100,14 @@ not_seen v = record { answer = v; category = 0; count = 0; used = 0 }
 abbrev pub look_at : Body → List Slot → Looked
 look_at b ss = record { category = (layout b).code; count = (layout b).slots.count; used = used_among (map slot_parts ss) }
 
+-- the same without the answer
+abbrev pub looked : Seen → Looked
+looked s = record { category = s.category; count = s.count; used = s.used }
+
 -- what a look hands back
 abbrev pub look_told : Seen → Result Looked Refusal
-look_told s = outcome s.answer (record { category = s.category; count = s.count; used = s.used })
+look_told s = outcome s.answer (looked s)
+
+-- what is seen where a look is refused
+abbrev pub nothing_looked : Looked
+nothing_looked = record { category = 0; count = 0; used = 0 }

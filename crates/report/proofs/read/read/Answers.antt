@@ -11,7 +11,7 @@ use Rattle.rows.specs.Refusals.{Verdict, outcome}
 use Rattle.rows.proofs.Rules.Outcomes.{made_outcome}
 use Rattle.report.specs.Records.{body_of, record_of, record_as}
 use Rattle.report.specs.Runs.Reading.{content_as, read_answer}
-use Rattle.report.proofs.Reading.ReadSteps.{read_frame, read_told}
+use Rattle.report.proofs.Reading.ReadSteps.{read_frame, read_told, record_or_zeros}
 use Rattle.report.proofs.read.read.Goals as goal
 
 abbrev result_of : Record → Result Record Refusal
@@ -35,3 +35,6 @@ returns-clause-value c =
     }
     in
     ap (λ (r : Record). result_of r) same ∙ sym (read_told (read_answer s) (record_of s) ∙ ap (λ (v : Verdict). outcome v (record_of s)) made.0)
+
+pub returns-clause-zeros : goal.returns-clause-zeros
+returns-clause-zeros c = record_or_zeros (read_answer c.args.frame.now) (record_of c.args.frame.now) _ (returns-clause-value c)

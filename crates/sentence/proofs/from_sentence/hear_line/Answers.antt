@@ -1,11 +1,12 @@
 -- `sentence::from_sentence::hear_line` meets its contract.
 use Rattle.std.proofs.Common.{◌∙◌, sym, arith}
 use Rattle.std.proofs.lemmas.Grind.{common_steps}
-use Rattle.report.specs.Runs.Reading.{seen}
+use Rattle.report.specs.Runs.Reading.{looked, seen}
 use Rattle.rows.proofs.Rules.Outcomes.{refused_outcome}
 use Rattle.line.specs.Lines.{line_reading}
-use Rattle.sentence.specs.Sentences.{digits_in, looked}
+use Rattle.sentence.specs.Sentences.{digits_in, fed}
 use Rattle.sentence.proofs.Hearing.{line_found, hears_on, heard_not, heard_with, sentence_found}
+use Rattle.sentence.proofs.Read.{hearing_or_zeros}
 use Rattle.sentence.proofs.from_sentence.hear_line.Goals as goal
 
 pub slice_bounds-look_line-end : goal.slice_bounds-look_line-end
@@ -32,3 +33,9 @@ returns-clause-value c =
     let hears = hears_on l c.in_ok-satellite.satellite (sym c.around_in.ensures ∙ c.in_ok-satellite.was) in
     let told = heard_with c.in_ok-satellite.satellite (line_reading (digits_in l)) _ (sym c.look_line.ensures.value ∙ c.in_ok-look.was) in
     grind (arith, common_steps, hears, told)
+
+pub returns-in_err-look-clause-zeros : goal.returns-in_err-look-clause-zeros
+returns-in_err-look-clause-zeros c = hearing_or_zeros (fed c.args.line.now) c.from_residual-in_err-look.result (returns-in_err-look-clause-value c)
+
+pub returns-clause-zeros : goal.returns-clause-zeros
+returns-clause-zeros c = hearing_or_zeros (fed c.args.line.now) _ (returns-clause-value c)
