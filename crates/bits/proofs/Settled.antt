@@ -49,6 +49,18 @@ field16_is_settled = field_is_settled u16 laws16 in16.ghosts in16.dict (λ x y e
 pub field8_is_settled : Settled (promised.field.ended u8 in8.ghosts in8.dict) (bits.field.Reads.Post u8 laws8 in8.ghosts in8.dict)
 field8_is_settled = field_is_settled u8 laws8 in8.ghosts in8.dict (λ x y e. e)
 
+pub lowest64_is_settled : Settled (promised.number.Number.lowest.ended u64 in64.ghosts in64.dict) (bits.number.Number.lowest.Reads.Post u64 laws64 in64.ghosts in64.dict)
+lowest64_is_settled = Number-lowest_is_settled u64 laws64 in64.ghosts in64.dict (λ x y e. e)
+
+pub lowest32_is_settled : Settled (promised.number.Number.lowest.ended u32 in32.ghosts in32.dict) (bits.number.Number.lowest.Reads.Post u32 laws32 in32.ghosts in32.dict)
+lowest32_is_settled = Number-lowest_is_settled u32 laws32 in32.ghosts in32.dict (λ x y e. e)
+
+pub lowest16_is_settled : Settled (promised.number.Number.lowest.ended u16 in16.ghosts in16.dict) (bits.number.Number.lowest.Reads.Post u16 laws16 in16.ghosts in16.dict)
+lowest16_is_settled = Number-lowest_is_settled u16 laws16 in16.ghosts in16.dict (λ x y e. e)
+
+pub lowest8_is_settled : Settled (promised.number.Number.lowest.ended u8 in8.ghosts in8.dict) (bits.number.Number.lowest.Reads.Post u8 laws8 in8.ghosts in8.dict)
+lowest8_is_settled = Number-lowest_is_settled u8 laws8 in8.ghosts in8.dict (λ x y e. e)
+
 pub Words-of_is_settled : Settled promised.words.Words.of.ended bits.words.Words.of.Reads.Post
 Words-of_is_settled κs a x y = answer
 
