@@ -42,7 +42,7 @@ counts_in c = record { held = c.held; disputed = c.disputed; lowest = c.lowest }
 abbrev pub count_told : Counted → Result Count Refusal
 count_told c = outcome c.answer (counts_in c)
 
--- what stands in place of a refusal
+-- "A refused report gives zeros"
 abbrev pub no_count : Count
 no_count = record { held = 0; disputed = 0; lowest = 0 }
 

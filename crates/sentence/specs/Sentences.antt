@@ -158,7 +158,7 @@ received_told r = outcome r.reading.answer (reception r)
 abbrev pub heard_told : Heard → Result Hearing Refusal
 heard_told h = outcome h.look.answer (hearing h)
 
--- what stands in place of a refusal
+-- "A refused reading gives a record of zeros", and satellite 0
 abbrev pub no_reception : Reception
 no_reception = record { satellite = 0; «record» = zeros }
 

@@ -108,6 +108,6 @@ looked s = record { category = s.category; count = s.count; used = s.used }
 abbrev pub look_told : Seen → Result Looked Refusal
 look_told s = outcome s.answer (looked s)
 
--- what is seen where a look is refused
+-- "A refused reading gives a record of zeros": no category, and no slot
 abbrev pub nothing_looked : Looked
 nothing_looked = record { category = 0; count = 0; used = 0 }
